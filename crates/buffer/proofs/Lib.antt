@@ -1,0 +1,7 @@
+-- Laws that no one function owns, for the proofs here and for those of the crates above.
+pub mod Seq
+pub mod Overlay
+pub mod Kept
+pub mod Unread
+pub mod Ways
+pub mod Unique

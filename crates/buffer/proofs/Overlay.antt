@@ -1,0 +1,106 @@
+-- Laws of `overlay`, and of any loop that makes one by stores in order.
+--     overlay-nothing, length-overlay                   nothing laid over changes nothing; the length stays
+--     take-overlay, drop-overlay                        the list up to the end of ys, and from there on
+--     overlay-before, overlay-inside, overlay-after     each element: before ys, in ys, behind ys
+--     overlay-stored                                    a store right behind ys makes ys one longer
+--     Laid, laid-start, laid-turn, laid-end, unmoved    the invariant of such a loop
+-- Assumes nothing.
+use mathlib.Core.Path.{_≡_, refl, sym, ap, _∙_}
+use mathlib.Core.List.{List, [], _∷_, _++_, append-assoc, append-nil}
+use Prim.Native.Nat.{ℕ, suc, _+_, _≤_, _<_, zero-le}
+use native.Mathlib.Nat.{add-zero}
+use native.Mathlib.Numerals.{add-one}
+use native.Mathlib.Omega.{arith}
+use lib.ListN.{length, take, drop, getD, set, length-append, length-drop, length-set, take-append-drop, List·getD-append}
+use lib.Seq.{getD-take, getD-drop, getD-append-add, length-take-le, take-all, take-at, drop-at, take-suc, drop-cons, set-at, append-snoc}
+use Rattle.buffer.specs.Overlay.{overlay}
+
+pub overlay-nothing : (d : List ℕ) (at : ℕ) → overlay d at [] ≡ d
+unfolding overlay
+overlay-nothing d at = simp (add-zero, append-nil, take-append-drop)
+
+module _ (d : List ℕ) (at : ℕ) (ys : List ℕ) where
+  -- what stands before the rest of d, with ys
+  length-head : at ≤ length d → length (take at d ++ ys) ≡ at + length ys
+  length-head h = length-append (take at d) ys ∙ ap (λ (k : ℕ). k + length ys) (length-take-le at d h)
+
+  pub length-overlay : at + length ys ≤ length d → length (overlay d at ys) ≡ length d
+  unfolding overlay
+  length-overlay h = omega (arith, length-append (take at d ++ ys) (drop (at + length ys) d), length-head (omega arith), length-drop (at + length ys) d)
+
+  pub take-overlay : at ≤ length d → take (at + length ys) (overlay d at ys) ≡ take at d ++ ys
+  unfolding overlay
+  take-overlay h = take-at (take at d ++ ys) (drop (at + length ys) d) (at + length ys) (length-head h)
+
+  pub drop-overlay : at ≤ length d → drop (at + length ys) (overlay d at ys) ≡ drop (at + length ys) d
+  unfolding overlay
+  drop-overlay h = drop-at (take at d ++ ys) (drop (at + length ys) d) (at + length ys) (length-head h)
+
+  pub overlay-before : (k : ℕ) → at ≤ length d → k < at → getD (overlay d at ys) k 0 ≡ getD d k 0
+  unfolding overlay
+  overlay-before k h hk =
+      List·getD-append (take at d ++ ys) (drop (at + length ys) d) 0 k (omega (arith, length-head h))
+      ∙ List·getD-append (take at d) ys 0 k (omega (arith, length-take-le at d h))
+      ∙ getD-take at d k 0 hk
+
+  pub overlay-inside : (i : ℕ) → at ≤ length d → i < length ys → getD (overlay d at ys) (at + i) 0 ≡ getD ys i 0
+  unfolding overlay
+  overlay-inside i h hi =
+      List·getD-append (take at d ++ ys) (drop (at + length ys) d) 0 (at + i) (omega (arith, length-head h))
+      ∙ ap (λ (n : ℕ). getD (take at d ++ ys) (n + i) 0) (sym (length-take-le at d h))
+      ∙ getD-append-add (take at d) ys i 0
+
+  pub overlay-after : (i : ℕ) → at ≤ length d → getD (overlay d at ys) (at + length ys + i) 0 ≡ getD d (at + length ys + i) 0
+  overlay-after i h =
+      sym (getD-drop (at + length ys) (overlay d at ys) i 0)
+      ∙ ap (λ (l : List ℕ). getD l i 0) (drop-overlay h)
+      ∙ getD-drop (at + length ys) d i 0
+
+  pub overlay-stored : (v : ℕ) → at + length ys < length d → set (overlay d at ys) (at + length ys) v ≡ overlay d at (ys ++ (v ∷ []))
+  unfolding overlay
+  overlay-stored v h =
+      let k : ℕ = at + length ys in
+      let p : List ℕ = take at d ++ ys in
+      let e : at + length (ys ++ (v ∷ [])) ≡ suc k = omega (arith, length-append ys (v ∷ [])) in
+      ap (λ (r : List ℕ). set (p ++ r) k v) (drop-cons d k 0 h)
+      ∙ set-at p (getD d k 0) (drop (suc k) d) v k (length-head (omega arith))
+      ∙ sym (append-snoc p v (drop (suc k) d))
+      ∙ ap (λ (r : List ℕ). r ++ drop (suc k) d) (append-assoc (take at d) ys (v ∷ []))
+      ∙ ap (λ (m : ℕ). take at d ++ (ys ++ (v ∷ [])) ++ drop m d) (sym e)
+
+-- ---- a loop that lays ys over d: l is the slice's list at the loop's head, after i turns
+
+pub record Laid (d : List ℕ) (at : ℕ) (ys : List ℕ) (i : ℕ) (l : List ℕ) : Type 0 where
+  pub reached : i ≤ length ys
+  pub laid : l ≡ overlay d at (take i ys)
+  pub long : length l ≡ length d
+
+pub laid-start : (d : List ℕ) (at : ℕ) (ys : List ℕ) → Laid d at ys 0 d
+laid-start d at ys = record { reached = zero-le; laid = sym (overlay-nothing d at); long = refl }
+
+pub laid-turn : (d : List ℕ) (at : ℕ) (ys : List ℕ) (i : ℕ) (l : List ℕ) (v : ℕ)
+    → at + length ys ≤ length d → Laid d at ys i l → i < length ys → v ≡ getD ys i 0 → Laid d at ys (i + 1) (set l (at + i) v)
+laid-turn d at ys i l v fits h hi ev =
+    let n : length (take i ys) ≡ i = length-take-le i ys (h .reached) in
+    let one-more : take i ys ++ (v ∷ []) ≡ take (i + 1) ys = rw (ev, add-one, take-suc ys i 0 hi) in
+    record {
+      reached = omega arith;
+      laid = rw (h .laid) (rw n at (overlay-stored d at (take i ys) v (omega arith)) ∙ ap (overlay d at) one-more);
+      long = length-set l (at + i) v ∙ h .long;
+    }
+
+pub laid-end : (d : List ℕ) (at : ℕ) (ys : List ℕ) (i : ℕ) (l : List ℕ) → Laid d at ys i l → length ys ≤ i → l ≡ overlay d at ys
+laid-end d at ys i l h e = h .laid ∙ ap (overlay d at) (take-all i ys e)
+
+-- Where ys are n elements of d itself from index f on, laid over d's front, the one that is read next has not been laid over yet.
+pub unmoved : (d : List ℕ) (f n i : ℕ) (l : List ℕ)
+    → Laid d 0 (take n (drop f d)) i l → i < n → f + n ≤ length d → getD l (f + i) 0 ≡ getD (take n (drop f d)) i 0
+unmoved d f n i l h hi fits =
+    let ys : List ℕ = take i (take n (drop f d)) in
+    let behind : 0 + length ys + f ≡ f + i = omega (arith, length-take-le i (take n (drop f d)) (h .reached)) in
+    ap (λ (x : List ℕ). getD x (f + i) 0) (h .laid)
+    ∙ ap (λ (k : ℕ). getD (overlay d 0 ys) k 0) (sym behind)
+    ∙ overlay-after d 0 ys f zero-le
+    ∙ ap (λ (k : ℕ). getD d k 0) behind
+    ∙ sym (getD-drop f d i 0)
+    ∙ sym (getD-take n (drop f d) i 0 hi)

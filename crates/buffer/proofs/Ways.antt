@@ -1,0 +1,117 @@
+-- One law for each way through a function of src/: from the tests on the way and what its callees ensure, what it owes.
+-- Assumes nothing.
+use mathlib.Core.Path.{_≡_, refl, sym, ap, _∙_, subst}
+use mathlib.Core.Bool.{Bool, true, false, cond, not}
+use mathlib.Core.List.{List}
+use Prim.Native.Nat.{ℕ, _+_, _-_, _≤_, _<_, min, max}
+use native.Mathlib.Nat.{min-le-right}
+use native.Mathlib.Omega.{arith}
+use borrow.Author.Tests.{lt-ltb, le-ltb, not-true, not-false}
+use lib.Dec.{ltb}
+use lib.ListN.{length, take, drop, replicate, length-replicate}
+use lib.Seq.{length-take-le}
+use Rattle.buffer.specs.Overlay.{overlay}
+use Rattle.buffer.specs.Buffer.{Buffer, buffer, at, Sound, Leaves, isSound, unread, unreadBytes, room, moved, withRoom, appended, fitting, written, filled, lacksRoom, writtenAll, ready, given, readOff}
+use Rattle.buffer.specs.Calls.{Outcome, outcome, unlessBroken}
+use Rattle.buffer.proofs.Kept.{is-sound, sound-moved, sound-written, sound-filled, sound-writtenAll, sound-readOff, sound-withRoom}
+
+-- ---- marked: t is the buffer after the move, b its bytes at the end
+
+-- what equals a sound buffer is sound
+leaves : {s t : Buffer} → s ≡ t → Sound t → Leaves s t
+leaves e g = record { same = e; sound = subst Sound (sym e) g }
+
+pub moves : (s : Buffer) (b : List ℕ) → Sound s → b ≡ overlay (s .bytes) 0 (take (unread s) (drop (s .marks .read) (s .bytes))) → Leaves (buffer b (at 0 (unread s))) (moved s)
+unfolding moved unreadBytes
+moves s b g e = leaves (ap (λ (l : List ℕ). buffer l (at 0 (unread s))) e) (sound-moved s g)
+
+pub room-made : (n : ℕ) (s t : Buffer) → room s < n → Leaves t (moved s) → Leaves t (withRoom n s)
+unfolding withRoom
+room-made n s t h e = rw (lt-ltb _ _ h) e
+
+pub room-enough : (n : ℕ) (s : Buffer) → n ≤ room s → Sound s → Leaves s (withRoom n s)
+unfolding withRoom
+room-enough n s h g = leaves (rw (le-ltb _ _ h)) (sound-withRoom n s g)
+
+-- what fits of n bytes goes behind the write mark: k bytes, ys
+module _ (n k : ℕ) (s t : Buffer) (et : Leaves t (withRoom n s)) (ek : k ≡ min (room t) n) where
+  pub fits : k ≡ fitting n s
+  unfolding fitting
+  fits = rw (← et .same) ek
+
+  behind : (ys b : List ℕ) → length ys ≡ k → b ≡ overlay (t .bytes) (t .marks .write) ys
+      → buffer b (at (t .marks .read) (t .marks .write + k)) ≡ appended ys (withRoom n s)
+  unfolding appended
+  behind ys b l e = rw (← et .same, l, e)
+
+-- the first k of l are k, where k is what fits of l
+pub cut : (k r : ℕ) (l : List ℕ) → k ≡ min r (length l) → length (take k l) ≡ k
+cut k r l e = length-take-le k l (omega (arith, min-le-right r (length l)))
+
+pub writes : (ys : List ℕ) (k : ℕ) (s t : Buffer) → Sound s → Leaves t (withRoom (length ys) s) → k ≡ min (room t) (length ys)
+    → (b : List ℕ) → b ≡ overlay (t .bytes) (t .marks .write) (take k ys)
+    → Leaves (buffer b (at (t .marks .read) (t .marks .write + k))) (written ys s)
+unfolding written
+writes ys k s t g et ek b e =
+    leaves (rw (← fits (length ys) k s t et ek) (behind (length ys) k s t et ek (take k ys) b (cut k (room t) ys ek) e)) (sound-written ys s g)
+
+pub fills : (v n k : ℕ) (s t : Buffer) → Sound s → Leaves t (withRoom n s) → k ≡ min (room t) n
+    → (b : List ℕ) → b ≡ overlay (t .bytes) (t .marks .write) (replicate k v)
+    → Leaves (buffer b (at (t .marks .read) (t .marks .write + k))) (filled v n s)
+unfolding filled
+fills v n k s t g et ek b e =
+    leaves (rw (← fits n k s t et ek) (behind n k s t et ek (replicate k v) b (length-replicate k v) e)) (sound-filled v n s g)
+
+-- all of ys or nothing: n bytes of room are asked for
+module _ (want : ℕ) (ys : List ℕ) (n : ℕ) (s t : Buffer) (g : Sound s) (en : n ≡ max want (length ys)) (et : Leaves t (withRoom n s)) where
+  lacks : room t < n → lacksRoom (max want (length ys)) s ≡ true
+  unfolding lacksRoom
+  lacks h = rw (← en, ← et .same, lt-ltb _ _ h)
+
+  has : n ≤ room t → lacksRoom (max want (length ys)) s ≡ false
+  unfolding lacksRoom
+  has h = rw (← en, ← et .same, le-ltb _ _ h)
+
+  pub refuses : room t < n → (false ≡ not (lacksRoom (max want (length ys)) s)) × Leaves t (writtenAll want ys s)
+  unfolding writtenAll
+  refuses h = (rw (lacks h), leaves (rw (lacks h, ← en, ← et .same)) (sound-writtenAll want ys s g))
+
+  pub takes-all : n ≤ room t → (b : List ℕ) → b ≡ overlay (t .bytes) (t .marks .write) ys
+      → (true ≡ not (lacksRoom (max want (length ys)) s)) × Leaves (buffer b (at (t .marks .read) (t .marks .write + length ys))) (writtenAll want ys s)
+  unfolding writtenAll appended
+  takes-all h b e = (rw (has h), leaves (rw (has h, ← en, ← et .same, e)) (sound-writtenAll want ys s g))
+
+-- k bytes are read off into d, which ends as e
+pub reads : (d : List ℕ) (k : ℕ) (s : Buffer) → Sound s → k ≡ min (unread s) (length d) → (e : List ℕ)
+    → e ≡ overlay d 0 (take (s .marks .read + k - s .marks .read) (drop (s .marks .read) (s .bytes)))
+    → (k ≡ ready (length d) s) × Leaves (buffer (s .bytes) (at (s .marks .read + k) (s .marks .write))) (readOff (length d) s) × (e ≡ overlay d 0 (given (length d) s))
+unfolding given ready readOff
+reads d k s g ek e ee =
+    let n : s .marks .read + k - s .marks .read ≡ k = omega arith in
+    (ek, leaves (rw ek) (sound-readOff (length d) s g), rw (n, ek) at ee)
+
+-- ---- the public calls: x is what `sound` answered
+
+pub tested : (s : Buffer) {x : Bool} → x ≡ isSound (length (s .bytes)) (s .marks) → x ≡ true → Sound s
+tested s e h = is-sound s (sym e ∙ h)
+
+module _ (s : Buffer) {x : Bool} (e : x ≡ isSound (length (s .bytes)) (s .marks)) where
+  pub broken : {A : Type 0} (done refused : A) → x ≡ false → refused ≡ unlessBroken s done refused
+  unfolding unlessBroken
+  broken done refused h = rw (← e, h)
+
+  pub passes : {A : Type 0} {result done : A} (refused : A) → x ≡ true → result ≡ done → result ≡ unlessBroken s done refused
+  unfolding unlessBroken
+  passes refused h p = rw (← e, h) p
+
+-- a count and a buffer
+pub counts : {n k : ℕ} {t u : Buffer} → n ≡ k → t ≡ u → outcome 0 n t ≡ outcome 0 k u
+counts en et = rw (en, et)
+
+-- all was taken or nothing: d is whether it was
+module _ (s : Buffer) (n k : ℕ) {t u : Buffer} {d : Bool} (ed : d ≡ not (lacksRoom n s)) (et : t ≡ u) where
+  pub all-taken : d ≡ true → outcome 0 k t ≡ cond (lacksRoom n s) (outcome 1 0 u) (outcome 0 k u)
+  all-taken h = rw (not-true (lacksRoom n s) (sym ed ∙ h), et)
+
+  pub overflows : d ≡ false → outcome 1 0 t ≡ cond (lacksRoom n s) (outcome 1 0 u) (outcome 0 k u)
+  overflows h = rw (not-false (lacksRoom n s) (sym ed ∙ h), et)

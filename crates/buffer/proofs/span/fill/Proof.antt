@@ -1,0 +1,58 @@
+-- `buffer::span::fill` meets its contract: after i turns the first i of n times v are laid over io. Assumes nothing.
+use mathlib.Core.Path.{sym}
+use Prim.Native.Nat.{_-_}
+use native.Mathlib.Omega.{arith}
+use borrow.Author.Needs.{needs}
+use lib.ListN.{replicate, length-replicate, getD-replicate}
+use Rattle.buffer.proofs.Overlay.{Laid, laid-start, laid-turn, laid-end}
+use Rattle.buffer.proofs.span.fill.Statement.{statement}
+use Rattle.buffer.proofs.span.fill.Tie as tie
+
+abbrev Inv-loop : tie.InvT-loop
+Inv-loop io₀ at v n i₀ io i = Laid io₀ at (replicate n v) i io
+
+abbrev μ-loop : tie.MeasureT-loop
+μ-loop io₀ at v n i₀ io i = n - i
+
+loop-holds : tie.Need-loop-holds Inv-loop μ-loop
+loop-holds c = laid-start _ _ _
+
+add-io : tie.Need-add-io Inv-loop μ-loop
+add-io c = omega arith
+
+slice-write-io : tie.Need-slice-write-io Inv-loop μ-loop
+slice-write-io c = omega arith
+
+add-i : tie.Need-add-i Inv-loop μ-loop
+add-i c = omega arith
+
+loop-less : tie.Need-loop-less Inv-loop μ-loop
+loop-less c = omega arith
+
+loop-again : tie.Need-loop-again Inv-loop μ-loop
+loop-again c =
+    let head = c .before in
+    let a = head .before .args in
+    let n = length-replicate (a .n) (a .v) in
+    laid-turn _ _ _ _ _ _ (omega arith) (head .loop .inv) (omega arith) (sym (getD-replicate (a .n) (head .loop .i) (a .v) 0 (c .loop-test .taken)))
+
+same-length : tie.Need-same-length Inv-loop μ-loop
+same-length c = search needs
+
+returns : tie.Need-returns Inv-loop μ-loop
+returns c = laid-end _ _ _ _ _ (c .before .loop .inv) (omega (arith, length-replicate (c .before .before .args .n) (c .before .before .args .v)))
+
+pub fill-spec : {M : Type 1} → statement M
+fill-spec =
+    tie.close
+    (tie.spec
+    Inv-loop
+    μ-loop
+    loop-holds
+    add-io
+    slice-write-io
+    add-i
+    loop-less
+    loop-again
+    same-length
+    returns)

@@ -1,0 +1,67 @@
+-- `buffer::span::move_front` meets its contract: after i turns the first i of the n bytes are laid over the front, and the next was not stored to. Assumes nothing.
+use Prim.Native.Nat.{ℕ, _+_, _-_, _≤_}
+use native.Mathlib.Nat.{zero-add}
+use native.Mathlib.Omega.{arith}
+use borrow.Author.Needs.{needs}
+use lib.ListN.{take, drop}
+use Rattle.buffer.proofs.Overlay.{Laid, laid-start, laid-turn, laid-end, unmoved}
+use Rattle.buffer.proofs.Seq.{length-part}
+use Rattle.buffer.proofs.span.move_front.Statement.{statement}
+use Rattle.buffer.proofs.span.move_front.Tie as tie
+
+abbrev Inv-loop : tie.InvT-loop
+Inv-loop io₀ from n i₀ io i = Laid io₀ 0 (take n (drop from io₀)) i io
+
+abbrev μ-loop : tie.MeasureT-loop
+μ-loop io₀ from n i₀ io i = n - i
+
+loop-holds : tie.Need-loop-holds Inv-loop μ-loop
+loop-holds c = laid-start _ _ _
+
+add-io : tie.Need-add-io Inv-loop μ-loop
+add-io c = omega arith
+
+slice-read-io : tie.Need-slice-read-io Inv-loop μ-loop
+slice-read-io c = omega arith
+
+slice-write-io : tie.Need-slice-write-io Inv-loop μ-loop
+slice-write-io c = omega arith
+
+add-i : tie.Need-add-i Inv-loop μ-loop
+add-i c = omega arith
+
+loop-less : tie.Need-loop-less Inv-loop μ-loop
+loop-less c = omega arith
+
+loop-again : tie.Need-loop-again Inv-loop μ-loop
+loop-again c =
+    let turn = c .before in
+    let head = turn .before in
+    let a = head .before .args in
+    let n = length-part (a .from) (a .n) (a .io .now) (head .before .pre) in
+    rw zero-add at (laid-turn _ _ _ _ _ _ (omega arith) (head .loop .inv) (omega arith) (unmoved _ _ _ _ _ (head .loop .inv) (turn .loop-test .taken) (head .before .pre)))
+
+same-length : tie.Need-same-length Inv-loop μ-loop
+same-length c = search needs
+
+returns : tie.Need-returns Inv-loop μ-loop
+returns c =
+    let head = c .before in
+    let a = head .before .args in
+    laid-end _ _ _ _ _ (head .loop .inv) (omega (arith, length-part (a .from) (a .n) (a .io .now) (head .before .pre)))
+
+pub move-front-spec : {M : Type 1} → statement M
+move-front-spec =
+    tie.close
+    (tie.spec
+    Inv-loop
+    μ-loop
+    loop-holds
+    add-io
+    slice-read-io
+    slice-write-io
+    add-i
+    loop-less
+    loop-again
+    same-length
+    returns)

@@ -1,0 +1,148 @@
+// The buffer's calls for marks that are known to be sound: read mark ≤ write mark ≤ length. Each promises sound
+// marks again, so that a caller tests once.
+use crate::Marks;
+use crate::span::fill;
+use crate::span::move_front;
+use crate::span::put;
+ghost use mathlib.Core.Path.{_≡_};
+ghost use mathlib.Core.Bool.{Bool, not};
+ghost use Prim.Native.Nat.{ℕ, _+_, _-_, _≤_, min, max};
+ghost use lib.ListN.{length};
+ghost use Rattle.buffer.specs.Buffer.{Sound, Leaves, buffer, at, moved, withRoom, fitting, written, filled, lacksRoom, writtenAll, ready, given, readOff};
+ghost use Rattle.buffer.specs.Overlay.{overlay};
+
+// How many bytes a call took or gave, and the marks after it.
+pub struct Taken {
+    pub count: usize,
+    pub marks: Marks,
+}
+
+// Whether all bytes were taken, and the marks after it: a refusal keeps the move.
+pub struct Put {
+    pub done: bool,
+    pub marks: Marks,
+}
+
+fn least(a: usize, b: usize) -> usize
+    ensures { λ r. ⌜ r ≡ min a b ⌝ }
+{
+    if a < b { a } else { b }
+}
+
+fn greatest(a: usize, b: usize) -> usize
+    ensures { λ r. ⌜ r ≡ max a b ⌝ }
+{
+    if a < b { b } else { a }
+}
+
+// The marks of an empty buffer.
+pub fn clean() -> Marks
+    ensures { λ r. ⌜ r ≡ at 0 0 ⌝ }
+{
+    Marks { read: 0, write: 0 }
+}
+
+// The unread bytes move to the front.
+pub fn shift(io: &mut [u8], m: Marks) -> Marks
+    requires { ⌜ Sound (buffer (now io) m) ⌝ }
+    ensures { λ r. ⌜ Leaves (buffer (now (io .exit)) r) (moved (buffer (now (io .entry)) m)) ⌝ }
+{
+    let from = m.read;
+    let n = m.write - m.read;
+    move_front(io, from, n);
+    Marks { read: 0, write: n }
+}
+
+// The unread bytes move to the front if fewer than n bytes of room are left behind the write mark.
+pub fn make_room(io: &mut [u8], m: Marks, n: usize) -> Marks
+    requires { ⌜ Sound (buffer (now io) m) ⌝ }
+    ensures { λ r. ⌜ Leaves (buffer (now (io .exit)) r) (withRoom n (buffer (now (io .entry)) m)) ⌝ }
+{
+    if io.len() - m.write < n {
+        return shift(io, m);
+    }
+    m
+}
+
+// What fits of src goes behind the write mark.
+pub fn write(io: &mut [u8], m: Marks, src: &[u8]) -> Taken
+    requires { ⌜ Sound (buffer (now io) m) ⌝ }
+    ensures { λ r. ⌜ (r .count ≡ fitting (length (now (src .entry))) (buffer (now (io .entry)) m))
+        × Leaves (buffer (now (io .exit)) (r .marks)) (written (now (src .entry)) (buffer (now (io .entry)) m)) ⌝ }
+{
+    let t = make_room(io, m, src.len());
+    let at = t.write;
+    let n = least(io.len() - at, src.len());
+    put(io, at, &src[..n]);
+    Taken {
+        count: n,
+        marks: Marks {
+            read: t.read,
+            write: at + n,
+        },
+    }
+}
+
+// All of src goes behind the write mark, or nothing: `want` bytes of room are asked for, and src's own length.
+pub fn write_all(io: &mut [u8], m: Marks, want: usize, src: &[u8]) -> Put
+    requires { ⌜ Sound (buffer (now io) m) ⌝ }
+    ensures { λ r. ⌜ (r .done ≡ not (lacksRoom (max want (length (now (src .entry)))) (buffer (now (io .entry)) m)))
+        × Leaves (buffer (now (io .exit)) (r .marks)) (writtenAll want (now (src .entry)) (buffer (now (io .entry)) m)) ⌝ }
+{
+    let need = greatest(want, src.len());
+    let t = make_room(io, m, need);
+    let at = t.write;
+    if io.len() - at < need {
+        return Put {
+            done: false,
+            marks: t,
+        };
+    }
+    put(io, at, src);
+    Put {
+        done: true,
+        marks: Marks {
+            read: t.read,
+            write: at + src.len(),
+        },
+    }
+}
+
+// As many bytes v as fit, and at most n, go behind the write mark.
+pub fn fill_up_to(io: &mut [u8], m: Marks, v: u8, n: usize) -> Taken
+    requires { ⌜ Sound (buffer (now io) m) ⌝ }
+    ensures { λ r. ⌜ (r .count ≡ fitting n (buffer (now (io .entry)) m))
+        × Leaves (buffer (now (io .exit)) (r .marks)) (filled v n (buffer (now (io .entry)) m)) ⌝ }
+{
+    let t = make_room(io, m, n);
+    let at = t.write;
+    let k = least(io.len() - at, n);
+    fill(io, at, v, k);
+    Taken {
+        count: k,
+        marks: Marks {
+            read: t.read,
+            write: at + k,
+        },
+    }
+}
+
+// The first unread bytes, as many as dst holds, go to dst's front and count as read.
+pub fn read(io: &[u8], m: Marks, dst: &mut [u8]) -> Taken
+    requires { ⌜ Sound (buffer (now io) m) ⌝ }
+    ensures { λ r. ⌜ (r .count ≡ ready (length (now (dst .entry))) (buffer (now (io .entry)) m))
+        × Leaves (buffer (now (io .entry)) (r .marks)) (readOff (length (now (dst .entry))) (buffer (now (io .entry)) m))
+        × (now (dst .exit) ≡ overlay (now (dst .entry)) 0 (given (length (now (dst .entry))) (buffer (now (io .entry)) m))) ⌝ }
+{
+    let from = m.read;
+    let n = least(m.write - m.read, dst.len());
+    let end = from + n;
+    put(dst, 0, &io[from..end]);
+    Taken {
+        count: n,
+        marks: Marks {
+            read: end,
+            write: m.write,
+        },
+    }
+}
