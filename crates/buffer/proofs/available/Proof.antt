@@ -1,5 +1,6 @@
 -- `buffer::available` meets its contract: of sound marks the difference is what is unread. Assumes nothing.
 use mathlib.Core.Path.{refl}
+use native.Mathlib.Omega.{arith}
 use borrow.Author.Needs.{needs}
 use Rattle.buffer.specs.Buffer.{buffer}
 use Rattle.buffer.specs.Calls.{availableCall}
@@ -13,7 +14,8 @@ sound-requires c κs = search needs
 sub-t5 : tie.Need-sub-t5
 sub-t5 c =
     let a = c .before .before .before .before .args in
-    tested (buffer (a .io .now) (a .m)) (c .before .before .sound .ensures) (c .before .if1 .taken) .order
+    let g = tested (buffer (a .io .now) (a .m)) (c .before .before .sound .ensures) (c .before .if1 .taken) in
+    omega (arith, g .order)
 
 returns : tie.Need-returns
 unfolding availableCall

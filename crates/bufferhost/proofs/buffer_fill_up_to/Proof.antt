@@ -1,0 +1,29 @@
+-- `bufferhost::buffer_fill_up_to` meets its contract: `buffer::fill_up_to` on the caller's marks, reported. Assumes nothing.
+use borrow.Author.Needs.{needs}
+use Rattle.bufferhost.proofs.Laws.{ways}
+use Rattle.bufferhost.proofs.buffer_fill_up_to.Statement.{statement}
+use Rattle.bufferhost.proofs.buffer_fill_up_to.Tie as tie
+
+marked-requires : tie.Need-marked-requires
+marked-requires c κs = search needs
+
+fill-up-to-requires : tie.Need-fill-up-to-requires
+fill-up-to-requires c κs = search needs
+
+report-requires : tie.Need-report-requires
+report-requires c κs = search needs
+
+same-length : tie.Need-same-length
+same-length c = search needs
+
+same-length-2 : tie.Need-same-length-2
+same-length-2 c = search needs
+
+returns : tie.Need-returns
+returns c = search (ways, needs)
+
+returns-2 : tie.Need-returns-2
+returns-2 c = search (ways, needs)
+
+pub buffer-fill-up-to-spec : {M : Type 1} → statement M
+buffer-fill-up-to-spec = tie.close (tie.spec marked-requires fill-up-to-requires report-requires same-length same-length-2 returns returns-2)

@@ -1,0 +1,119 @@
+/* Replays buffer operations on the proved buffer and prints what each left.
+   Standard input: the operations that oracle/buffer-ops writes. Standard output: a line for each,
+       op answer count read write CONTENT [DESTINATION]
+   as oracle/buffer-ops writes it for buffer.rs. The kit has no C headers, so the few names used are declared here. */
+typedef __UINT8_TYPE__ uint8_t;
+typedef __UINT32_TYPE__ uint32_t;
+typedef __SIZE_TYPE__ size_t;
+int getchar(void);
+int putchar(int);
+int printf(const char *, ...);
+void *memset(void *, int, size_t);
+_Noreturn void exit(int);
+
+/* crates/bufferhost: a slice is a pointer and then a length; marks are read mark, write mark and count */
+uint32_t buffer_clean(const uint8_t *io, size_t io_len, size_t *marks, size_t marks_len);
+uint32_t buffer_shift(uint8_t *io, size_t io_len, size_t *marks, size_t marks_len);
+uint32_t buffer_write(uint8_t *io, size_t io_len, size_t *marks, size_t marks_len, const uint8_t *src, size_t src_len);
+uint32_t buffer_write_all(uint8_t *io, size_t io_len, size_t *marks, size_t marks_len, size_t want, const uint8_t *src,
+                          size_t src_len);
+uint32_t buffer_fill_up_to(uint8_t *io, size_t io_len, size_t *marks, size_t marks_len, uint8_t v, size_t n);
+uint32_t buffer_read(const uint8_t *io, size_t io_len, size_t *marks, size_t marks_len, uint8_t *dst, size_t dst_len);
+
+enum { NEW, WRITE, WRITE_ALL, READ, FILL_UP_TO, CLEAN, WRITE_ALL_BUSY, SHIFT };
+enum { MOST = 4096 };
+
+static uint8_t io[MOST], bytes[MOST];
+static size_t io_len, marks[3];
+
+static uint8_t byte(void) {
+    int c = getchar();
+    if (c < 0) {
+        printf("the operations end in the middle of one\n");
+        exit(1);
+    }
+    return (uint8_t)c;
+}
+
+static size_t number(void) {
+    size_t n = byte();
+    n |= (size_t)byte() << 8;
+    n |= (size_t)byte() << 16;
+    return n | (size_t)byte() << 24;
+}
+
+static size_t length(void) {
+    size_t n = number();
+    if (n > MOST) {
+        printf("an operand of %zu bytes: this program keeps %d\n", n, MOST);
+        exit(1);
+    }
+    return n;
+}
+
+static size_t take(uint8_t *to) {
+    size_t n = length();
+    for (size_t i = 0; i < n; i++) to[i] = byte();
+    return n;
+}
+
+static void hex(const uint8_t *s, size_t n) {
+    static const char digits[] = "0123456789abcdef";
+    putchar(' ');
+    if (n == 0) putchar('-');
+    for (size_t i = 0; i < n; i++) {
+        putchar(digits[s[i] >> 4]);
+        putchar(digits[s[i] & 15]);
+    }
+}
+
+int main(void) {
+    for (int op; (op = getchar()) >= 0;) {
+        uint32_t answer = 0;
+        size_t n = 0;
+        marks[2] = 0;
+        switch (op) {
+        case NEW:
+            io_len = take(io);
+            marks[0] = marks[1] = 0;
+            break;
+        case WRITE:
+            n = take(bytes);
+            answer = buffer_write(io, io_len, marks, 3, bytes, n);
+            break;
+        case WRITE_ALL: {
+            size_t want = number();
+            n = take(bytes);
+            answer = buffer_write_all(io, io_len, marks, 3, want, bytes, n);
+            break;
+        }
+        case READ:
+            n = length();
+            memset(bytes, 0xEE, n);
+            answer = buffer_read(io, io_len, marks, 3, bytes, n);
+            break;
+        case FILL_UP_TO: {
+            uint8_t value = byte();
+            answer = buffer_fill_up_to(io, io_len, marks, 3, value, number());
+            break;
+        }
+        case CLEAN:
+            answer = buffer_clean(io, io_len, marks, 3);
+            break;
+        case WRITE_ALL_BUSY:
+            answer = buffer_write_all(io, io_len, marks, 3, number(), bytes, 0);
+            break;
+        case SHIFT:
+            answer = buffer_shift(io, io_len, marks, 3);
+            break;
+        default:
+            printf("%d is no operation\n", op);
+            return 1;
+        }
+        printf("%d %u %zu %zu %zu", op, answer, marks[2], marks[0], marks[1]);
+        hex(io, io_len);
+        if (op == READ) hex(bytes, n);
+        putchar('\n');
+    }
+    return 0;
+}
