@@ -1,0 +1,84 @@
+//! Shows what is private in bbb.rs. The build appends this module behind the unchanged text.
+
+use super::{BulkOnly, DataDirection, State};
+use core::borrow::BorrowMut;
+use usb_device::bus::UsbBus;
+
+/// `buffer` is private to the crate; the buffer alone is driven through this name.
+pub use crate::buffer::Buffer;
+
+/// All of the record but the bytes of the IO buffer.
+#[derive(Clone, Copy, PartialEq, Eq, Debug)]
+pub struct Figures {
+    pub state: u8,
+    pub left: u32,
+    pub read_mark: usize,
+    pub write_mark: usize,
+    pub buffer_length: usize,
+    pub packet_size: usize,
+    pub tag: u32,
+    pub length: u32,
+    pub direction: &'static str,
+    pub lun: u8,
+    pub block_length: usize,
+    pub block: [u8; 16],
+    /// Status byte and residue.
+    pub status: Option<(u8, u32)>,
+}
+
+impl Figures {
+    pub fn unread(&self) -> usize {
+        self.write_mark - self.read_mark
+    }
+
+    pub fn room_after_moving(&self) -> usize {
+        self.buffer_length - self.unread()
+    }
+}
+
+impl<Bus: UsbBus, Buf: BorrowMut<[u8]>> BulkOnly<'_, Bus, Buf> {
+    pub fn peek_figures(&self) -> Figures {
+        let (read_mark, write_mark) = self.buf.peek_marks();
+        Figures {
+            state: number_of(self.state),
+            left: self.left_to_transfer,
+            read_mark,
+            write_mark,
+            buffer_length: self.buf.peek_bytes().len(),
+            packet_size: self.packet_size(),
+            tag: self.cbw.tag,
+            length: self.cbw.data_transfer_len,
+            direction: match self.cbw.direction {
+                DataDirection::Out => "out",
+                DataDirection::In => "in",
+                DataDirection::NotExpected => "none",
+            },
+            lun: self.cbw.lun,
+            block_length: self.cbw.block_len,
+            block: self.cbw.block,
+            status: self
+                .cs
+                .as_ref()
+                .map(|status| (status.status as u8, status.data_residue)),
+        }
+    }
+
+    pub fn peek_io(&self) -> &[u8] {
+        self.buf.peek_bytes()
+    }
+}
+
+/// Document 01's numbers, not the order in which the enum stands.
+fn number_of(state: State) -> u8 {
+    match state {
+        State::CommandTransfer => 0,
+        State::CommandTransferInvalid => 1,
+        State::DataTransferNoData => 2,
+        State::StatusTransfer => 3,
+        State::DataTransferToHost => 4,
+        State::DataTransferToHostStatusAwait => 5,
+        State::DataTransferToHostEnding => 6,
+        State::DataTransferFromHost => 7,
+        State::DataTransferFromHostEnding => 8,
+    }
+}

@@ -1,0 +1,96 @@
+//! A decoded command in words, and the decoder mode: one block a line, one command a line.
+
+use crate::panics;
+use std::io::{self, BufRead, Write};
+use usbd_storage::subclass::scsi::peek::peek_parse_cb;
+use usbd_storage::subclass::scsi::{PageControl, ScsiCommand};
+
+pub fn text(command: &ScsiCommand) -> String {
+    match command {
+        ScsiCommand::Unknown { cmd } => format!("Unknown opcode {cmd}"),
+        ScsiCommand::Inquiry {
+            evpd,
+            page_code,
+            alloc_len,
+        } => format!(
+            "Inquiry evpd {} page {page_code} allocation {alloc_len}",
+            u8::from(*evpd)
+        ),
+        ScsiCommand::TestUnitReady => "TestUnitReady".to_string(),
+        ScsiCommand::RequestSense { desc, alloc_len } => {
+            format!(
+                "RequestSense desc {} allocation {alloc_len}",
+                u8::from(*desc)
+            )
+        }
+        ScsiCommand::ModeSense6 {
+            dbd,
+            page_control,
+            page_code,
+            subpage_code,
+            alloc_len,
+        } => format!(
+            "ModeSense6 dbd {} control {} page {page_code} subpage {subpage_code} allocation {alloc_len}",
+            u8::from(*dbd),
+            page_control_number(*page_control)
+        ),
+        ScsiCommand::ModeSense10 {
+            dbd,
+            page_control,
+            page_code,
+            subpage_code,
+            alloc_len,
+        } => format!(
+            "ModeSense10 dbd {} control {} page {page_code} subpage {subpage_code} allocation {alloc_len}",
+            u8::from(*dbd),
+            page_control_number(*page_control)
+        ),
+        ScsiCommand::ReadCapacity10 => "ReadCapacity10".to_string(),
+        ScsiCommand::ReadCapacity16 { alloc_len } => {
+            format!("ReadCapacity16 allocation {alloc_len}")
+        }
+        ScsiCommand::Read { lba, len } => format!("Read address {lba} blocks {len}"),
+        ScsiCommand::Write { lba, len } => format!("Write address {lba} blocks {len}"),
+        ScsiCommand::ReadFormatCapacities { alloc_len } => {
+            format!("ReadFormatCapacities allocation {alloc_len}")
+        }
+        // The enum is open to later commands; the pinned text has none.
+        _ => panic!("LOUD: a command without words"),
+    }
+}
+
+fn page_control_number(control: PageControl) -> u8 {
+    match control {
+        PageControl::CurrentValues => 0,
+        PageControl::ChangeableValues => 1,
+        PageControl::DefaultValues => 2,
+        PageControl::SavedValues => 3,
+    }
+}
+
+pub fn lines(input: impl BufRead, output: impl Write) -> io::Result<()> {
+    let mut output = io::BufWriter::new(output);
+    for line in input.lines() {
+        match decode(&from_hex(line?.trim())) {
+            Some(command) => writeln!(output, "{}", text(&command))?,
+            None => writeln!(output, "13")?,
+        }
+    }
+    output.flush()
+}
+
+fn decode(block: &[u8]) -> Option<ScsiCommand> {
+    // Rule 13: where the Rust panics over an empty block.
+    panics::catch(panics::EMPTY_BLOCK, || peek_parse_cb(block))
+}
+
+fn from_hex(digits: &str) -> Vec<u8> {
+    assert!(
+        digits.len().is_multiple_of(2) && digits.bytes().all(|digit| digit.is_ascii_hexdigit()),
+        "not a line of hex bytes: {digits}"
+    );
+    (0..digits.len())
+        .step_by(2)
+        .map(|at| u8::from_str_radix(&digits[at..at + 2], 16).expect("two hex digits"))
+        .collect()
+}

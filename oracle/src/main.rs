@@ -1,0 +1,106 @@
+//! The oracle: the Rust of docs/src, unchanged, behind document 01's bench file.
+
+mod benchfile;
+mod bufferops;
+mod cases;
+mod chains;
+mod coverage;
+mod damage;
+mod decode;
+mod device;
+mod endpoints;
+mod firmware;
+mod generator;
+mod host;
+mod lines;
+mod panics;
+mod reachable;
+mod reached;
+mod rng;
+mod script;
+mod selftest;
+mod show;
+mod temper;
+mod vectors;
+mod wrapper;
+
+use lines::Detail;
+use std::io::{self, Read, Write};
+use std::process::ExitCode;
+
+const USAGE: &str = "unknown arguments; oracle/README.md names them";
+
+fn main() -> ExitCode {
+    panics::install();
+    let arguments: Vec<String> = std::env::args().skip(1).collect();
+    let (flags, words): (Vec<&str>, Vec<&str>) = arguments
+        .iter()
+        .map(String::as_str)
+        .partition(|word| word.starts_with("--"));
+    match command(&words, &flags) {
+        Ok(code) => code,
+        Err(error) => {
+            eprintln!("oracle: {error}");
+            ExitCode::FAILURE
+        }
+    }
+}
+
+fn command(words: &[&str], flags: &[&str]) -> io::Result<ExitCode> {
+    match (words, flags) {
+        (["run", file @ ..], []) if file.len() < 2 => run(file.first(), Detail::Lines)?,
+        (["run", file @ ..], ["--show"]) if file.len() < 2 => run(file.first(), Detail::Show)?,
+        (["run"], ["--decode"]) => decode::lines(io::stdin().lock(), io::stdout().lock())?,
+        (["gen", of @ ..], flags) => return generate(of, flags),
+        (["vectors", folder], []) => vectors::write(folder)?,
+        (["buffer-ops", seed, count, operations, results], []) => {
+            bufferops::command(number(seed)?, number(count)? as usize, operations, results)?;
+        }
+        (["selftest"], []) => selftest::names().for_each(|name| println!("{name}")),
+        (["selftest", name], []) => selftest::run(name),
+        _ => return Err(io::Error::other(USAGE)),
+    }
+    Ok(ExitCode::SUCCESS)
+}
+
+fn run(file: Option<&&str>, detail: Detail) -> io::Result<()> {
+    let mut bytes = Vec::new();
+    match file {
+        None | Some(&"-") => io::stdin().lock().read_to_end(&mut bytes)?,
+        Some(path) => std::fs::File::open(path)?.read_to_end(&mut bytes)?,
+    };
+    let text = lines::of_file(&bytes, detail, &mut |_| {});
+    io::stdout().lock().write_all(text.as_bytes())
+}
+
+fn generate(of: &[&str], flags: &[&str]) -> io::Result<ExitCode> {
+    let (list, complete) = (flags.contains(&"--list"), flags.contains(&"--complete"));
+    if flags
+        .iter()
+        .any(|flag| !["--list", "--complete"].contains(flag))
+        || of.len() > 3
+    {
+        return Err(io::Error::other(USAGE));
+    }
+    let seed = of.first().map_or(Ok(1), |seed| number(seed))?;
+    let count = match of.get(1) {
+        Some(count) => number(count)? as usize,
+        None => generator::DEFAULT_COUNT,
+    };
+    let coverage = generator::command(seed, count, of.get(2).copied(), list)?;
+    let enough = if complete {
+        coverage.missing().is_empty()
+    } else {
+        coverage.has_chains_and_answers()
+    };
+    Ok(if enough {
+        ExitCode::SUCCESS
+    } else {
+        ExitCode::FAILURE
+    })
+}
+
+fn number(word: &str) -> io::Result<u64> {
+    word.parse()
+        .map_err(|_| io::Error::other(format!("{USAGE} ({word} is no number)")))
+}
