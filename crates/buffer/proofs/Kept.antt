@@ -5,13 +5,13 @@
 use mathlib.Core.Path.{_≡_, refl, _∙_}
 use mathlib.Core.Bool.{Bool, true, false, cond, _&&_}
 use mathlib.Core.List.{List}
-use Prim.Native.Nat.{ℕ, _+_, _-_, _≤_, min, max, zero-le}
-use native.Mathlib.Nat.{min-le-left, min-le-right, le-max-right}
+use Prim.Native.Nat.{ℕ, _≤_, max, zero-le}
+use native.Mathlib.Nat.{min-le-left, le-max-right}
 use native.Mathlib.Omega.{arith}
 use borrow.Author.Tests.{leb-true, ltb-false, le-leb}
 use lib.Dec.{ltb, leb}
-use lib.ListN.{length, take, drop, replicate, length-take, length-replicate}
-use Rattle.buffer.specs.Buffer.{Buffer, buffer, Sound, isSound, unread, unreadBytes, room, moved, withRoom, appended, fitting, written, filled, lacksRoom, writtenAll, ready, given, readOff, emptied}
+use lib.ListN.{length, take, replicate, length-take, length-replicate}
+use Rattle.buffer.specs.Buffer.{Buffer, Sound, isSound, unread, unreadBytes, room, moved, withRoom, appended, fitting, written, filled, lacksRoom, writtenAll, ready, readOff, emptied}
 use Rattle.buffer.proofs.Seq.{length-part}
 use Rattle.buffer.proofs.Overlay.{length-overlay}
 

@@ -2,6 +2,7 @@
 pub mod Seq
 pub mod Overlay
 pub mod Kept
+pub mod Room
 pub mod Unread
 pub mod Ways
 pub mod Unique

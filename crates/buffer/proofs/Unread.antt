@@ -11,7 +11,7 @@ use lib.Seq.{take-take, drop-drop, drop-append-le, length-take-le}
 use Rattle.buffer.specs.Overlay.{overlay}
 use Rattle.buffer.specs.Buffer.{Buffer, Sound, unread, unreadBytes, room, moved, withRoom, appended, fitting, written, filled, lacksRoom, writtenAll, ready, given, readOff, emptied}
 use Rattle.buffer.proofs.Seq.{drop-take}
-use Rattle.buffer.proofs.Overlay.{take-overlay, length-overlay}
+use Rattle.buffer.proofs.Overlay.{overlay-nothing, take-overlay, length-overlay}
 use Rattle.buffer.proofs.Kept.{of-picked, length-unread, sound-withRoom, written-fits, filled-fits, all-fits, ready-most}
 
 pub unread-moved : (s : Buffer) → Sound s → unreadBytes (moved s) ≡ unreadBytes s
@@ -20,6 +20,11 @@ unread-moved s g =
     let ys : List ℕ = unreadBytes s in
     let n : unread s - 0 ≡ 0 + length ys = omega (arith, length-unread s g) in
     ap (λ (k : ℕ). take k (overlay (s .bytes) 0 ys)) n ∙ take-overlay (s .bytes) 0 ys zero-le
+
+-- "(both marks go to 0 if none)": the move of nothing empties
+pub moved-emptied : (s : Buffer) → unread s ≡ 0 → moved s ≡ emptied s
+unfolding moved emptied unreadBytes
+moved-emptied s e = rw (e, overlay-nothing)
 
 pub unread-withRoom : (n : ℕ) (s : Buffer) → Sound s → unreadBytes (withRoom n s) ≡ unreadBytes s
 unfolding withRoom

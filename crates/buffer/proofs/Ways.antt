@@ -1,18 +1,17 @@
 -- One law for each way through a function of src/: from the tests on the way and what its callees ensure, what it owes.
 -- Assumes nothing.
-use mathlib.Core.Path.{_≡_, refl, sym, ap, _∙_, subst}
+use mathlib.Core.Path.{_≡_, sym, ap, _∙_, subst}
 use mathlib.Core.Bool.{Bool, true, false, cond, not}
 use mathlib.Core.List.{List}
 use Prim.Native.Nat.{ℕ, _+_, _-_, _≤_, _<_, min, max}
 use native.Mathlib.Nat.{min-le-right}
 use native.Mathlib.Omega.{arith}
 use borrow.Author.Tests.{lt-ltb, le-ltb, not-true, not-false}
-use lib.Dec.{ltb}
 use lib.ListN.{length, take, drop, replicate, length-replicate}
 use lib.Seq.{length-take-le}
 use Rattle.buffer.specs.Overlay.{overlay}
 use Rattle.buffer.specs.Buffer.{Buffer, buffer, at, Sound, Leaves, isSound, unread, unreadBytes, room, moved, withRoom, appended, fitting, written, filled, lacksRoom, writtenAll, ready, given, readOff}
-use Rattle.buffer.specs.Calls.{Outcome, outcome, unlessBroken}
+use Rattle.buffer.specs.Calls.{outcome, unlessBroken}
 use Rattle.buffer.proofs.Kept.{is-sound, sound-moved, sound-written, sound-filled, sound-writtenAll, sound-readOff, sound-withRoom}
 
 -- ---- marked: t is the buffer after the move, b its bytes at the end

@@ -1,17 +1,17 @@
 -- What each way through an exported call owes, once for all calls. Assumes nothing.
-use mathlib.Core.Path.{_≡_, refl, sym, ap, _∙_}
+use mathlib.Core.Path.{_≡_, refl, ap, _∙_}
 use mathlib.Core.List.{List, [], _∷_}
 use Prim.Native.Nat.{ℕ}
 use native.Mathlib.Omega.{arith}
 use borrow.Author.Tests.{eq-eqb, ne-eqb}
-use lib.ListN.{length, getD, set, drop-of-length-le}
+use lib.ListN.{length, set, drop-of-length-le}
 use lib.Seq.{sets-eq}
 use Rattle.buffer.specs.declared.Marks.{Marks}
 use Rattle.buffer.specs.declared.Answer.{Answer}
 use Rattle.buffer.specs.declared.Answer.the-variants.{Done, Overflow, Broken}
-use Rattle.buffer.specs.Buffer.{Buffer, buffer, at}
+use Rattle.buffer.specs.Buffer.{Buffer, buffer}
 use Rattle.buffer.specs.Calls.{Outcome, told, readInto}
-use Rattle.bufferhost.specs.Host.{Host, host, numberOf, marksOf, markedBy, shown, hosted, hostInto}
+use Rattle.bufferhost.specs.Host.{host, numberOf, marksOf, markedBy, shown, hosted, hostInto}
 
 -- three stores fill a list of three
 pub three-stored : (l : List ℕ) (a b c : ℕ) → length l ≡ 3 → set (set (set l 0 a) 1 b) 2 c ≡ a ∷ b ∷ c ∷ []

@@ -5,7 +5,7 @@ use buffer::Answer;
 use buffer::Marks;
 ghost use mathlib.Core.Path.{_≡_};
 ghost use lib.ListN.{length};
-ghost use Rattle.buffer.specs.Calls.{availableCall, cleanCall, shiftCall, writeCall, writeAllCall, fillCall, readCall, readInto};
+ghost use Rattle.buffer.specs.Calls.{availableCall, cleanCall, shiftCall, writeCall, writeAllCall, fillCall, readCall};
 ghost use Rattle.bufferhost.specs.Host.{hosted, marksOf, numberOf, host, markedBy, hostInto};
 
 // The answer's number; marks and count go where the caller keeps them.

@@ -1,5 +1,5 @@
 -- `buffer::span::move_front` meets its contract: after i turns the first i of the n bytes are laid over the front, and the next was not stored to. Assumes nothing.
-use Prim.Native.Nat.{ℕ, _+_, _-_, _≤_}
+use Prim.Native.Nat.{_-_}
 use native.Mathlib.Nat.{zero-add}
 use native.Mathlib.Omega.{arith}
 use borrow.Author.Needs.{needs}
