@@ -1,9 +1,9 @@
 -- Each call keeps the number of bytes, and its marks stay sound.
---     is-sound, not-sound           the test says whether marks are sound
+--     is-sound, sound-is            the test says whether marks are sound
 --     length-..., sound-...         for each definition of specs/Buffer.antt
 -- Assumes nothing.
 use mathlib.Core.Path.{_≡_, refl, _∙_}
-use mathlib.Core.Bool.{Bool, true, false, cond, _&&_}
+use mathlib.Core.Bool.{Bool, true, false}
 use mathlib.Core.List.{List}
 use Prim.Native.Nat.{ℕ, _≤_, max, zero-le}
 use native.Mathlib.Nat.{min-le-left, le-max-right}
@@ -12,19 +12,11 @@ use borrow.Author.Tests.{leb-true, ltb-false, le-leb}
 use lib.Dec.{ltb, leb}
 use lib.ListN.{length, take, replicate, length-take, length-replicate}
 use Rattle.buffer.specs.Buffer.{Buffer, Sound, isSound, unread, unreadBytes, room, moved, withRoom, appended, fitting, written, filled, lacksRoom, writtenAll, ready, readOff, emptied}
+use Rattle.buffer.proofs.Bools.{and-left, and-right, of-picked}
 use Rattle.buffer.proofs.Seq.{length-part}
 use Rattle.buffer.proofs.Overlay.{length-overlay}
 
 -- ---- the test
-
-and-left : (a b : Bool) → a && b ≡ true → a ≡ true
-and-left true b e = refl
-and-left false b e = e
-
-and-right : (a b : Bool) → a && b ≡ true → b ≡ true
-and-right true b e = e
-and-right false true e = refl
-and-right false false e = e
 
 pub is-sound : (s : Buffer) → isSound (length (s .bytes)) (s .marks) ≡ true → Sound s
 unfolding isSound
@@ -36,12 +28,6 @@ is-sound s e =
 pub sound-is : (s : Buffer) → Sound s → isSound (length (s .bytes)) (s .marks) ≡ true
 unfolding isSound
 sound-is s g = rw (le-leb _ _ (g .order), le-leb _ _ (g .within))
-
--- ---- what holds of each holds of the one that a test picks
-
-pub of-picked : {A : Type 0} (P : A → Type 0) (b : Bool) {s t : A} → (b ≡ true → P s) → (b ≡ false → P t) → P (cond b s t)
-of-picked P true p q = p refl
-of-picked P false p q = q refl
 
 -- ---- the move
 

@@ -1,18 +1,20 @@
--- No second answer satisfies a promise: what the `ensures` of a public call says is true of one answer alone, and of one content of
--- the lent slice at exit. `Post` is the contract itself, as the check reads it. Assumes nothing.
+-- No second answer satisfies a promise: what the `ensures` of a call says is true of one answer alone, and of one content of the
+-- lent slice at exit. `Post` is the contract itself, as the check reads it. First the calls that take any marks, then those of
+-- `marked` and `span`. Assumes nothing.
 use mathlib.Core.Path.{_≡_, refl, sym, ap, _∙_}
-use mathlib.Core.Bool.{cond}
+use mathlib.Core.Bool.{Bool, cond}
 use mathlib.Core.List.{List}
 use Prim.Native.Nat.{ℕ}
 use lib.Dec.{eqb}
-use contract.Lifetimes.{Lfts}
 use denote.Ref.{now}
-use denote.Triple.Clauses.{AtExit}
-use borrow.Fn.Kinds.{PK, RK, Out, Dens, resT, endedOf}
 use Rattle.buffer.specs.declared.Marks.{Marks}
+use Rattle.buffer.specs.declared.marked.Taken.{Taken}
+use Rattle.buffer.specs.declared.marked.Put.{Put}
 use Rattle.buffer.specs.declared.Answer.{Answer}
 use Rattle.buffer.specs.declared.Answer.the-variants.{Done, Overflow, Broken}
+use Rattle.buffer.specs.Buffer.{Buffer, buffer, Leaves}
 use Rattle.buffer.specs.Calls.{Outcome, told}
+use Rattle.buffer.proofs.Only.{Only}
 use Rattle.buffer.proofs.sound.Kinds as sound-kinds
 use Rattle.buffer.proofs.sound.Reads as sound
 use Rattle.buffer.proofs.available.Kinds as available-kinds
@@ -29,12 +31,26 @@ use Rattle.buffer.proofs.fill_up_to.Kinds as fill-kinds
 use Rattle.buffer.proofs.fill_up_to.Reads as fill
 use Rattle.buffer.proofs.read.Kinds as read-kinds
 use Rattle.buffer.proofs.read.Reads as read
-
--- two answers that meet a contract with the same arguments are the same, and so is what `look` sees at exit
-abbrev pub Only : {B : Type 0} (n : ℕ) (ps : List (PK n)) (r : RK n) → Out n ps r → ((κs : Lfts n) → AtExit (endedOf n ps r) κs → B) → Type 0
-Only n ps r Post look =
-    (κs : Lfts n) (a : Dens κs ps) (x y : resT r κs .Denot) (s t : AtExit (endedOf n ps r) κs)
-    → Post κs a x s → Post κs a y t → (x ≡ y) × (look κs s ≡ look κs t)
+use Rattle.buffer.proofs.marked.clean.Kinds as marked-clean-kinds
+use Rattle.buffer.proofs.marked.clean.Reads as marked-clean
+use Rattle.buffer.proofs.marked.shift.Kinds as marked-shift-kinds
+use Rattle.buffer.proofs.marked.shift.Reads as marked-shift
+use Rattle.buffer.proofs.marked.make_room.Kinds as make-room-kinds
+use Rattle.buffer.proofs.marked.make_room.Reads as make-room
+use Rattle.buffer.proofs.marked.write.Kinds as marked-write-kinds
+use Rattle.buffer.proofs.marked.write.Reads as marked-write
+use Rattle.buffer.proofs.marked.write_all.Kinds as marked-write-all-kinds
+use Rattle.buffer.proofs.marked.write_all.Reads as marked-write-all
+use Rattle.buffer.proofs.marked.fill_up_to.Kinds as marked-fill-kinds
+use Rattle.buffer.proofs.marked.fill_up_to.Reads as marked-fill
+use Rattle.buffer.proofs.marked.read.Kinds as marked-read-kinds
+use Rattle.buffer.proofs.marked.read.Reads as marked-read
+use Rattle.buffer.proofs.span.put.Kinds as put-kinds
+use Rattle.buffer.proofs.span.put.Reads as put
+use Rattle.buffer.proofs.span.move_front.Kinds as move-front-kinds
+use Rattle.buffer.proofs.span.move_front.Reads as move-front
+use Rattle.buffer.proofs.span.fill.Kinds as span-fill-kinds
+use Rattle.buffer.proofs.span.fill.Reads as span-fill
 
 -- document 01's number and values tell the answer, and the bytes
 untold : Outcome → Answer
@@ -79,3 +95,60 @@ fill-only κs a x y s t p q = told-once _ x y _ _ p q
 
 pub read-only : Only 2 read-kinds.ps read-kinds.r read.Post (λ κs s. now (s .1 .1 .0))
 read-only κs a x y s t p q = (told-once _ x y _ _ (p .0) (q .0) .0, p .1 ∙ sym (q .1))
+
+-- ---- marked and span
+
+-- a buffer that is left tells its bytes and its marks
+left-once : {b c : List ℕ} {m l : Marks} {t : Buffer} → Leaves (buffer b m) t → Leaves (buffer c l) t → (m ≡ l) × (b ≡ c)
+left-once p q =
+    let e = p .same ∙ sym (q .same) in
+    (ap (λ (s : Buffer). s .marks) e, ap (λ (s : Buffer). s .bytes) e)
+
+-- a count, or whether all was taken, beside the marks
+abbrev taken : ℕ → Marks → Taken
+taken n m = record { count = n; marks = m }
+
+abbrev wrote : Bool → Marks → Put
+wrote d m = record { done = d; marks = m }
+
+taken-once : {x y : Taken} {b c : List ℕ} {n : ℕ} {t : Buffer}
+    → x .count ≡ n → Leaves (buffer b (x .marks)) t → y .count ≡ n → Leaves (buffer c (y .marks)) t → (x ≡ y) × (b ≡ c)
+taken-once {x} {y} en p ek q =
+    let e = left-once p q in
+    (ap (λ (k : ℕ). taken k (x .marks)) (en ∙ sym ek) ∙ ap (taken (y .count)) (e .0), e .1)
+
+wrote-once : {x y : Put} {b c : List ℕ} {d : Bool} {t : Buffer}
+    → x .done ≡ d → Leaves (buffer b (x .marks)) t → y .done ≡ d → Leaves (buffer c (y .marks)) t → (x ≡ y) × (b ≡ c)
+wrote-once {x} {y} ed p ef q =
+    let e = left-once p q in
+    (ap (λ (d : Bool). wrote d (x .marks)) (ed ∙ sym ef) ∙ ap (wrote (y .done)) (e .0), e .1)
+
+pub marked-clean-only : Only 0 marked-clean-kinds.ps marked-clean-kinds.r marked-clean.Post (λ κs s. tt {0})
+marked-clean-only κs a x y s t p q = (p ∙ sym q, refl)
+
+pub marked-shift-only : Only 1 marked-shift-kinds.ps marked-shift-kinds.r marked-shift.Post (λ κs s. now (s .0))
+marked-shift-only κs a x y s t p q = left-once p q
+
+pub make-room-only : Only 1 make-room-kinds.ps make-room-kinds.r make-room.Post (λ κs s. now (s .0))
+make-room-only κs a x y s t p q = left-once p q
+
+pub marked-write-only : Only 2 marked-write-kinds.ps marked-write-kinds.r marked-write.Post (λ κs s. now (s .0))
+marked-write-only κs a x y s t p q = taken-once (p .0) (p .1) (q .0) (q .1)
+
+pub marked-fill-only : Only 1 marked-fill-kinds.ps marked-fill-kinds.r marked-fill.Post (λ κs s. now (s .0))
+marked-fill-only κs a x y s t p q = taken-once (p .0) (p .1) (q .0) (q .1)
+
+pub marked-write-all-only : Only 2 marked-write-all-kinds.ps marked-write-all-kinds.r marked-write-all.Post (λ κs s. now (s .0))
+marked-write-all-only κs a x y s t p q = wrote-once (p .0) (p .1) (q .0) (q .1)
+
+pub marked-read-only : Only 2 marked-read-kinds.ps marked-read-kinds.r marked-read.Post (λ κs s. now (s .1 .1 .0))
+marked-read-only κs a x y s t p q = (taken-once (p .0) (p .1) (q .0) (q .1) .0, p .2 ∙ sym (q .2))
+
+pub put-only : Only 2 put-kinds.ps put-kinds.r put.Post (λ κs s. now (s .0))
+put-only κs a x y s t p q = (refl, p ∙ sym q)
+
+pub move-front-only : Only 1 move-front-kinds.ps move-front-kinds.r move-front.Post (λ κs s. now (s .0))
+move-front-only κs a x y s t p q = (refl, p ∙ sym q)
+
+pub span-fill-only : Only 1 span-fill-kinds.ps span-fill-kinds.r span-fill.Post (λ κs s. now (s .0))
+span-fill-only κs a x y s t p q = (refl, p ∙ sym q)

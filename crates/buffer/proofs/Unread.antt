@@ -12,7 +12,8 @@ use Rattle.buffer.specs.Overlay.{overlay}
 use Rattle.buffer.specs.Buffer.{Buffer, Sound, unread, unreadBytes, room, moved, withRoom, appended, fitting, written, filled, lacksRoom, writtenAll, ready, given, readOff, emptied}
 use Rattle.buffer.proofs.Seq.{drop-take}
 use Rattle.buffer.proofs.Overlay.{overlay-nothing, take-overlay, length-overlay}
-use Rattle.buffer.proofs.Kept.{of-picked, length-unread, sound-withRoom, written-fits, filled-fits, all-fits, ready-most}
+use Rattle.buffer.proofs.Bools.{of-picked}
+use Rattle.buffer.proofs.Kept.{length-unread, sound-withRoom, written-fits, filled-fits, all-fits, ready-most}
 
 pub unread-moved : (s : Buffer) → Sound s → unreadBytes (moved s) ≡ unreadBytes s
 unfolding moved unreadBytes

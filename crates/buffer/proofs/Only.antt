@@ -1,0 +1,13 @@
+-- What it is that a contract has no second answer, for any function of any crate. Assumes nothing: this is a definition.
+use mathlib.Core.Path.{_≡_}
+use mathlib.Core.List.{List}
+use Prim.Native.Nat.{ℕ}
+use contract.Lifetimes.{Lfts}
+use denote.Triple.Clauses.{AtExit}
+use borrow.Fn.Kinds.{PK, RK, Out, Dens, resT, endedOf}
+
+-- two answers that meet a contract with the same arguments are the same, and so is what `look` sees at exit
+abbrev pub Only : {B : Type 0} (n : ℕ) (ps : List (PK n)) (r : RK n) → Out n ps r → ((κs : Lfts n) → AtExit (endedOf n ps r) κs → B) → Type 0
+Only n ps r Post look =
+    (κs : Lfts n) (a : Dens κs ps) (x y : resT r κs .Denot) (s t : AtExit (endedOf n ps r) κs)
+    → Post κs a x s → Post κs a y t → (x ≡ y) × (look κs s ≡ look κs t)
