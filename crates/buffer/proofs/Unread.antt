@@ -7,9 +7,9 @@ use Prim.Native.Nat.{ℕ, _+_, _-_, _≤_, max, zero-le}
 use native.Mathlib.Omega.{arith}
 use lib.Dec.{ltb}
 use lib.ListN.{length, take, drop, replicate, length-drop}
-use lib.Seq.{take-take, drop-drop, drop-append-le, length-take-le}
+use lib.Seq.{drop-drop, drop-append-le, length-take-le}
 use Rattle.buffer.specs.Overlay.{overlay}
-use Rattle.buffer.specs.Buffer.{Buffer, Sound, unread, unreadBytes, room, moved, withRoom, appended, fitting, written, filled, lacksRoom, writtenAll, ready, given, readOff, emptied}
+use Rattle.buffer.specs.Buffer.{Buffer, Sound, unread, unreadBytes, room, moved, withRoom, appended, fitting, written, filled, lacksRoom, writtenAll, ready, readOff, emptied}
 use Rattle.buffer.proofs.Seq.{drop-take}
 use Rattle.buffer.proofs.Overlay.{overlay-nothing, take-overlay, length-overlay}
 use Rattle.buffer.proofs.Bools.{of-picked}
@@ -80,11 +80,6 @@ unread-readOff n s g =
     ap (λ (m : ℕ). take m (drop (r + k) b)) left
     ∙ ap (take (w - r - k)) (sym (drop-drop k r b))
     ∙ sym (drop-take k (w - r) (drop r b) few there)
-
--- what a read gives is the front of what was unread
-pub given-unread : (n : ℕ) (s : Buffer) → given n s ≡ take (ready n s) (unreadBytes s)
-unfolding given unreadBytes
-given-unread n s = sym (take-take (ready n s) (unread s) (drop (s .marks .read) (s .bytes)) (ready-most n s))
 
 pub unread-emptied : (s : Buffer) → unreadBytes (emptied s) ≡ []
 unfolding emptied unreadBytes

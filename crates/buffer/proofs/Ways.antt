@@ -4,11 +4,11 @@ use mathlib.Core.Path.{_≡_, sym, ap, _∙_, subst}
 use mathlib.Core.Bool.{Bool, true, false, cond, not}
 use mathlib.Core.List.{List}
 use Prim.Native.Nat.{ℕ, _+_, _-_, _≤_, _<_, min, max}
-use native.Mathlib.Nat.{min-le-right}
+use native.Mathlib.Nat.{min-le-left, min-le-right}
 use native.Mathlib.Omega.{arith}
 use borrow.Author.Tests.{lt-ltb, le-ltb, not-true, not-false}
 use lib.ListN.{length, take, drop, replicate, length-replicate}
-use lib.Seq.{length-take-le}
+use lib.Seq.{length-take-le, take-take}
 use Rattle.buffer.specs.Overlay.{overlay}
 use Rattle.buffer.specs.Buffer.{Buffer, buffer, at, Sound, Leaves, isSound, unread, unreadBytes, room, moved, withRoom, appended, fitting, written, filled, lacksRoom, writtenAll, ready, given, readOff}
 use Rattle.buffer.specs.Calls.{outcome, unlessBroken}
@@ -84,10 +84,11 @@ module _ (want : ℕ) (ys : List ℕ) (n : ℕ) (s t : Buffer) (g : Sound s) (en
 pub reads : (d : List ℕ) (k : ℕ) (s : Buffer) → Sound s → k ≡ min (unread s) (length d) → (e : List ℕ)
     → e ≡ overlay d 0 (take (s .marks .read + k - s .marks .read) (drop (s .marks .read) (s .bytes)))
     → (k ≡ ready (length d) s) × Leaves (buffer (s .bytes) (at (s .marks .read + k) (s .marks .write))) (readOff (length d) s) × (e ≡ overlay d 0 (given (length d) s))
-unfolding given ready readOff
+unfolding given ready readOff unreadBytes
 reads d k s g ek e ee =
     let n : s .marks .read + k - s .marks .read ≡ k = omega arith in
-    (ek, leaves (rw ek) (sound-readOff (length d) s g), rw (n, ek) at ee)
+    let first = take-take k (unread s) (drop (s .marks .read) (s .bytes)) (omega (arith, min-le-left (unread s) (length d))) in
+    (ek, leaves (rw ek) (sound-readOff (length d) s g), rw (n, ← first, ek) at ee)
 
 -- ---- the public calls: x is what `sound` answered
 

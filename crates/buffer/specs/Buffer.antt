@@ -28,11 +28,6 @@ pub record Sound (s : Buffer) : Type 0 where
 unfoldable pub isSound : ℕ → Marks → Bool
 isSound len m = leb (m .read) (m .write) && leb (m .write) len
 
--- A call leaves s where that is t, and s has sound marks.
-pub record Leaves (s t : Buffer) : Type 0 where
-  pub same : s ≡ t
-  pub sound : Sound s
-
 -- "Unread is write mark minus read mark."
 abbrev pub unread : Buffer → ℕ
 unread s = s .marks .write - s .marks .read
@@ -77,12 +72,12 @@ writtenAll want ys s =
     (withRoom (max want (length ys)) s)
     (appended ys (withRoom (max want (length ys)) s))
 
--- "Reading advances the read mark only": to a destination of n bytes go so many, these, and this is left.
+-- "Reading advances the read mark only": of the unread bytes the first go to a destination of n bytes, so many, and this is left.
 unfoldable pub ready : ℕ → Buffer → ℕ
 ready n s = min (unread s) n
 
 unfoldable pub given : ℕ → Buffer → List ℕ
-given n s = take (ready n s) (drop (s .marks .read) (s .bytes))
+given n s = take (ready n s) (unreadBytes s)
 
 unfoldable pub readOff : ℕ → Buffer → Buffer
 readOff n s = buffer (s .bytes) (at (s .marks .read + ready n s) (s .marks .write))
@@ -90,3 +85,8 @@ readOff n s = buffer (s .bytes) (at (s .marks .read + ready n s) (s .marks .writ
 -- Emptying sets both marks to 0; the bytes stay.
 unfoldable pub emptied : Buffer → Buffer
 emptied s = buffer (s .bytes) (at 0 0)
+
+-- What a call on sound marks promises of the buffer s that it leaves: it is t, and its marks are sound again.
+pub record Leaves (s t : Buffer) : Type 0 where
+  pub same : s ≡ t
+  pub sound : Sound s
