@@ -12,9 +12,9 @@ use borrow.Author.Tests.{leb-true, ltb-false, le-leb}
 use lib.Dec.{ltb, leb}
 use lib.ListN.{length, take, replicate, length-take, length-replicate}
 use Rattle.buffer.specs.Buffer.{Buffer, Sound, isSound, unread, unreadBytes, room, moved, withRoom, appended, fitting, written, filled, lacksRoom, writtenAll, ready, readOff, emptied}
-use Rattle.buffer.proofs.Bools.{and-left, and-right, of-picked}
-use Rattle.buffer.proofs.Seq.{length-part}
-use Rattle.buffer.proofs.Overlay.{length-overlay}
+use Rattle.fields.proofs.Bools.{and-left, and-right, of-picked}
+use Rattle.fields.proofs.Seq.{length-part}
+use Rattle.fields.proofs.Overlay.{length-overlay}
 
 -- ---- the test
 

@@ -12,7 +12,7 @@ use borrow.Author.Tests.{le-ltb, ltb-false}
 use lib.Dec.{ltb}
 use lib.ListN.{length}
 use Rattle.buffer.specs.Buffer.{Buffer, Sound, unread, room, moved, withRoom, fitting, lacksRoom}
-use Rattle.buffer.proofs.Bools.{of-picked}
+use Rattle.fields.proofs.Bools.{of-picked}
 use Rattle.buffer.proofs.Kept.{length-moved}
 
 abbrev pub room-left : Buffer → ℕ

@@ -14,7 +14,7 @@ use Rattle.buffer.specs.declared.Answer.{Answer}
 use Rattle.buffer.specs.declared.Answer.the-variants.{Done, Overflow, Broken}
 use Rattle.buffer.specs.Buffer.{Buffer, buffer, Leaves}
 use Rattle.buffer.specs.Calls.{Outcome, told}
-use Rattle.buffer.proofs.Only.{Only}
+use Rattle.fields.proofs.Only.{Only}
 use Rattle.buffer.proofs.sound.Kinds as sound-kinds
 use Rattle.buffer.proofs.sound.Reads as sound
 use Rattle.buffer.proofs.available.Kinds as available-kinds

@@ -8,11 +8,11 @@ use native.Mathlib.Omega.{arith}
 use lib.Dec.{ltb}
 use lib.ListN.{length, take, drop, replicate, length-drop}
 use lib.Seq.{drop-drop, drop-append-le, length-take-le}
-use Rattle.buffer.specs.Overlay.{overlay}
+use Rattle.fields.specs.Overlay.{overlay}
 use Rattle.buffer.specs.Buffer.{Buffer, Sound, unread, unreadBytes, room, moved, withRoom, appended, fitting, written, filled, lacksRoom, writtenAll, ready, readOff, emptied}
-use Rattle.buffer.proofs.Seq.{drop-take}
-use Rattle.buffer.proofs.Overlay.{overlay-nothing, take-overlay, length-overlay}
-use Rattle.buffer.proofs.Bools.{of-picked}
+use Rattle.fields.proofs.Seq.{drop-take}
+use Rattle.fields.proofs.Overlay.{overlay-nothing, take-overlay, length-overlay}
+use Rattle.fields.proofs.Bools.{of-picked}
 use Rattle.buffer.proofs.Kept.{length-unread, sound-withRoom, written-fits, filled-fits, all-fits, ready-most}
 
 pub unread-moved : (s : Buffer) → Sound s → unreadBytes (moved s) ≡ unreadBytes s

@@ -6,7 +6,7 @@ use mathlib.Core.Bool.{Bool, cond, _&&_}
 use mathlib.Core.List.{List}
 use lib.Dec.{ltb, leb}
 use lib.ListN.{length, take, drop, replicate}
-use Rattle.buffer.specs.Overlay.{overlay}
+use Rattle.fields.specs.Overlay.{overlay}
 use Rattle.buffer.specs.declared.Marks.{Marks}
 
 -- A buffer: its bytes, and the marks of the next byte to read and of the next to write.

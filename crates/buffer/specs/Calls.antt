@@ -4,7 +4,7 @@ use Prim.Native.Nat.{ℕ, max}
 use mathlib.Core.Bool.{cond}
 use mathlib.Core.List.{List}
 use lib.ListN.{length}
-use Rattle.buffer.specs.Overlay.{overlay}
+use Rattle.fields.specs.Overlay.{overlay}
 use Rattle.buffer.specs.Buffer.{Buffer, buffer, isSound, unread, moved, fitting, written, filled, lacksRoom, writtenAll, ready, given, readOff, emptied}
 use Rattle.buffer.specs.declared.Marks.{Marks}
 use Rattle.buffer.specs.declared.Answer.{Answer}

@@ -3,7 +3,7 @@ use mathlib.Core.Path.{_≡_, refl}
 use mathlib.Core.List.{List, [], _∷_, map}
 use Prim.Native.Nat.{ℕ}
 use lib.ListN.{length, replicate}
-use Rattle.buffer.specs.Overlay.{overlay}
+use Rattle.fields.specs.Overlay.{overlay}
 use Rattle.buffer.specs.Buffer.{Buffer, buffer, at, isSound, unreadBytes, moved, withRoom, appended, fitting, written, filled, lacksRoom, writtenAll, ready, given, readOff, emptied}
 use Rattle.buffer.specs.Calls.{Outcome, outcome, unlessBroken, availableCall, cleanCall, shiftCall, writeCall, writeAllCall, fillCall, readCall, readInto}
 

@@ -1,5 +1,4 @@
 -- What a reader of the buffer must believe, in document 01's order.
-pub mod Overlay
 pub mod Buffer
 pub mod Calls
 pub mod Cases

@@ -2,7 +2,7 @@
 ghost use mathlib.Core.Path.{_≡_};
 ghost use Prim.Native.Nat.{_+_, _≤_};
 ghost use lib.ListN.{length, take, drop, replicate};
-ghost use Rattle.buffer.specs.Overlay.{overlay};
+ghost use Rattle.fields.specs.Overlay.{overlay};
 
 // dst from index `at` on becomes src.
 pub fn put(dst: &mut [u8], at: usize, src: &[u8])

@@ -3,7 +3,7 @@ use mathlib.Core.Path.{_≡_, sym, ap, _∙_}
 use mathlib.Core.List.{List}
 use Prim.Native.Nat.{ℕ}
 use denote.Ref.{now}
-use Rattle.buffer.proofs.Only.{Only}
+use Rattle.fields.proofs.Only.{Only}
 use Rattle.bufferhost.specs.Host.{Host, host}
 use Rattle.bufferhost.proofs.buffer_available.Kinds as available-kinds
 use Rattle.bufferhost.proofs.buffer_available.Reads as available

@@ -4,7 +4,7 @@ use Prim.Native.Nat.{_-_}
 use native.Mathlib.Omega.{arith}
 use borrow.Author.Needs.{needs}
 use lib.ListN.{replicate, length-replicate, getD-replicate}
-use Rattle.buffer.proofs.Overlay.{Laid, laid-start, laid-turn, laid-end}
+use Rattle.fields.proofs.Overlay.{Laid, laid-start, laid-turn, laid-end}
 use Rattle.buffer.proofs.span.fill.Statement.{statement}
 use Rattle.buffer.proofs.span.fill.Tie as tie
 

@@ -4,8 +4,8 @@ use native.Mathlib.Nat.{zero-add}
 use native.Mathlib.Omega.{arith}
 use borrow.Author.Needs.{needs}
 use lib.ListN.{take, drop}
-use Rattle.buffer.proofs.Overlay.{Laid, laid-start, laid-turn, laid-end, unmoved}
-use Rattle.buffer.proofs.Seq.{length-part}
+use Rattle.fields.proofs.Overlay.{Laid, laid-start, laid-turn, laid-end, unmoved}
+use Rattle.fields.proofs.Seq.{length-part}
 use Rattle.buffer.proofs.span.move_front.Statement.{statement}
 use Rattle.buffer.proofs.span.move_front.Tie as tie
 

@@ -2,18 +2,20 @@
 --     overlay-nothing, length-overlay                   nothing laid over changes nothing; the length stays
 --     take-overlay, drop-overlay                        the list up to the end of ys, and from there on
 --     overlay-before, overlay-inside, overlay-after     each element: before ys, in ys, behind ys
+--     part-inside, part-before, part-behind             parts: ys itself, and what lies before or behind it
 --     overlay-stored                                    a store right behind ys makes ys one longer
 --     Laid, laid-start, laid-turn, laid-end, unmoved    the invariant of such a loop
 -- Assumes nothing.
 use mathlib.Core.Path.{_≡_, refl, sym, ap, _∙_}
 use mathlib.Core.List.{List, [], _∷_, _++_, append-assoc, append-nil}
-use Prim.Native.Nat.{ℕ, suc, _+_, _≤_, _<_, zero-le}
-use native.Mathlib.Nat.{add-zero}
+use Prim.Native.Nat.{ℕ, suc, _+_, _-_, _≤_, _<_, zero-le}
+use native.Mathlib.Nat.{add-zero, add-sub-of-le}
 use native.Mathlib.Numerals.{add-one}
 use native.Mathlib.Omega.{arith}
 use lib.ListN.{length, take, drop, getD, set, length-append, length-drop, length-set, take-append-drop, List·getD-append}
-use lib.Seq.{getD-take, getD-drop, getD-append-add, length-take-le, take-all, take-at, drop-at, take-suc, drop-cons, set-at, append-snoc}
-use Rattle.buffer.specs.Overlay.{overlay}
+use lib.Seq.{getD-take, getD-drop, getD-append-add, length-take-le, take-all, take-at, drop-at, drop-drop, take-take, take-append-le, take-suc, drop-cons, set-at, append-snoc}
+use Rattle.fields.specs.Overlay.{overlay}
+use Rattle.fields.proofs.Seq.{drop-front}
 
 pub overlay-nothing : (d : List ℕ) (at : ℕ) → overlay d at [] ≡ d
 unfolding overlay
@@ -55,6 +57,37 @@ module _ (d : List ℕ) (at : ℕ) (ys : List ℕ) where
       sym (getD-drop (at + length ys) (overlay d at ys) i 0)
       ∙ ap (λ (l : List ℕ). getD l i 0) (drop-overlay h)
       ∙ getD-drop (at + length ys) d i 0
+
+  pub part-inside : at ≤ length d → take (length ys) (drop at (overlay d at ys)) ≡ ys
+  unfolding overlay
+  part-inside h =
+      ap (λ (l : List ℕ). take (length ys) (drop at l)) (append-assoc (take at d) ys (drop (at + length ys) d))
+      ∙ ap (take (length ys)) (drop-at (take at d) (ys ++ drop (at + length ys) d) at (length-take-le at d h))
+      ∙ take-at ys (drop (at + length ys) d) (length ys) refl
+
+  front : (n : ℕ) → n ≤ at → at ≤ length d → take n (overlay d at ys) ≡ take n d
+  unfolding overlay
+  front n h fits =
+      take-append-le n (take at d ++ ys) (drop (at + length ys) d) (omega (arith, length-head fits))
+      ∙ take-append-le n (take at d) ys (omega (arith, length-take-le at d fits))
+      ∙ take-take n at d h
+
+  pub part-before : (f n : ℕ) → f + n ≤ at → at + length ys ≤ length d → take n (drop f (overlay d at ys)) ≡ take n (drop f d)
+  part-before f n h fits =
+      sym (drop-front f n (overlay d at ys) (omega (arith, length-overlay fits)))
+      ∙ ap (drop f) (front (f + n) h (omega arith))
+      ∙ drop-front f n d (omega arith)
+
+  pub part-behind : (f n : ℕ) → at + length ys ≤ f → at ≤ length d → take n (drop f (overlay d at ys)) ≡ take n (drop f d)
+  part-behind f n h fits =
+      let k : ℕ = at + length ys in
+      let on : k + (f - k) ≡ f = add-sub-of-le h in
+      ap (take n)
+      (ap (λ (i : ℕ). drop i (overlay d at ys)) (sym on)
+      ∙ sym (drop-drop (f - k) k (overlay d at ys))
+      ∙ ap (drop (f - k)) (drop-overlay fits)
+      ∙ drop-drop (f - k) k d
+      ∙ ap (λ (i : ℕ). drop i d) on)
 
   pub overlay-stored : (v : ℕ) → at + length ys < length d → set (overlay d at ys) (at + length ys) v ≡ overlay d at (ys ++ (v ∷ []))
   unfolding overlay

@@ -1,0 +1,131 @@
+-- Laws of fields: one for each fact, at every width.
+--     one-byte                       a field of one byte is that byte
+--     little-doubled, big-doubled    two fields side by side are one of twice the width
+--     put-stored                     stores in order write a field
+--     length-put                     a message stays as long as it is
+--     get-put, get-before, get-behind    what was written is read; a field before or behind it reads as before
+--     shifted-one                    the divisor of a field of bits
+-- Assumes nothing.
+use mathlib.Core.Path.{_≡_, refl, sym, ap, _∙_}
+use mathlib.Core.List.{List, [], _∷_, _++_, reverse, reverse-append, reverse-reverse, append-assoc}
+use Prim.Native.Nat.{ℕ, zero, suc, _+_, _*_, _^_, _/_, _%_, _-_, _≤_, _<_}
+use native.Mathlib.Nat.{one-mul, mul-assoc, mul-comm, pow-suc, mod-add-div, div-lt-iff-lt-mul, zero-lt-suc}
+use native.Mathlib.Omega.{arith}
+use native.Mathlib.Numerals.{unary-clauses}
+use lib.Dec.{lit<}
+use lib.Pow.{shl-exact}
+use lib.ListN.{length, take, drop, getD, set, length-append, length-drop}
+use lib.Seq.{drop-cons, drop-drop, take-add, take-take, take-append-le, length-take-le, take-at, drop-at, sets, sets-eq}
+use Rattle.fields.specs.Overlay.{overlay}
+use Rattle.fields.specs.Field.{Order, little, big, Field, littleEndian, bigEndian, bytesAt, counted, digits, ordered, get, put}
+use Rattle.fields.proofs.Overlay.{length-overlay, part-inside, part-before, part-behind}
+use Rattle.fields.proofs.Seq.{length-reverse}
+
+-- ---- what bytes count
+
+step : (p c : ℕ) → p * 256 * c ≡ 256 * (p * c)
+step p c = ap (λ (x : ℕ). x * c) (mul-comm p 256) ∙ mul-assoc 256 p c
+
+counted-append : (xs ys : List ℕ) → counted (xs ++ ys) ≡ counted xs + 256 ^ length xs * counted ys
+unfolding counted
+counted-append [] ys = omega (arith, one-mul (counted ys))
+counted-append (x ∷ xs) ys = rw (pow-suc 256 (length xs), step, counted-append xs ys) (omega arith)
+
+counted-digits : (w n : ℕ) → n < 256 ^ w → counted (digits w n) ≡ n
+unfolding counted digits
+counted-digits zero n h = omega arith
+counted-digits (suc w) n h =
+    ap (λ (c : ℕ). n % 256 + 256 * c) (counted-digits w (n / 256) (div-lt-iff-lt-mul (zero-lt-suc 255) .1 (rw pow-suc at h)))
+    ∙ mod-add-div n 256
+
+-- ---- order
+
+length-ordered : (o : Order) (bs : List ℕ) → length (ordered o bs) ≡ length bs
+unfolding ordered
+length-ordered little bs = refl
+length-ordered big bs = length-reverse bs
+
+ordered-twice : (o : Order) (bs : List ℕ) → ordered o (ordered o bs) ≡ bs
+unfolding ordered
+ordered-twice little bs = refl
+ordered-twice big bs = reverse-reverse bs
+
+length-digits : (w n : ℕ) → length (digits w n) ≡ w
+unfolding digits
+length-digits zero n = refl
+length-digits (suc w) n = ap suc (length-digits w (n / 256))
+
+length-written : (o : Order) (w n : ℕ) → length (ordered o (digits w n)) ≡ w
+length-written o w n = length-ordered o (digits w n) ∙ length-digits w n
+
+-- ---- reading
+
+pub one-byte : (o : Order) (m : List ℕ) (at : ℕ) {x : ℕ} → at < length m → x ≡ getD m at 0 → x ≡ get (record { order = o; start = at; width = 1 }) m
+unfolding get bytesAt counted ordered
+one-byte little m at h e = rw (drop-cons m at 0 h) (omega arith)
+one-byte big m at h e = rw (drop-cons m at 0 h) (omega arith)
+
+-- the bytes of a field are those of its two halves
+halves : (m : List ℕ) (at w : ℕ) → take (w + w) (drop at m) ≡ take w (drop at m) ++ take w (drop (at + w) m)
+halves m at w = take-add w w (drop at m) ∙ ap (λ (l : List ℕ). take w (drop at m) ++ take w l) (drop-drop w at m)
+
+half-length : (m : List ℕ) (at w : ℕ) → at + w ≤ length m → length (take w (drop at m)) ≡ w
+half-length m at w h = length-take-le w (drop at m) (omega (arith, length-drop at m))
+
+pub little-doubled : (m : List ℕ) (at w : ℕ) {low high : ℕ} → at + (w + w) ≤ length m
+    → low ≡ get (littleEndian at w) m → high ≡ get (littleEndian (at + w) w) m → low + 256 ^ w * high ≡ get (littleEndian at (w + w)) m
+unfolding get bytesAt ordered
+little-doubled m at w h el eh =
+    rw (el, eh, halves m at w, counted-append (take w (drop at m)) (take w (drop (at + w) m)), half-length m at w (omega arith))
+
+pub big-doubled : (m : List ℕ) (at w : ℕ) {low high : ℕ} → at + (w + w) ≤ length m
+    → high ≡ get (bigEndian at w) m → low ≡ get (bigEndian (at + w) w) m → low + 256 ^ w * high ≡ get (bigEndian at (w + w)) m
+unfolding get bytesAt ordered
+big-doubled m at w h eh el =
+    let first : List ℕ = take w (drop at m) in
+    let second : List ℕ = take w (drop (at + w) m) in
+    rw (el, eh, halves m at w, reverse-append first second, counted-append (reverse second) (reverse first), length-reverse second, half-length m (at + w) w (omega arith))
+
+-- ---- writing
+
+pub length-put : (f : Field) (n : ℕ) (m : List ℕ) → f .start + f .width ≤ length m → length (put f n m) ≡ length m
+unfolding put
+length-put f n m h = length-overlay m (f .start) _ (omega (arith, length-written (f .order) (f .width) n))
+
+pub put-stored : (m : List ℕ) (at w n : ℕ) → at + w ≤ length m → sets m at (digits w n) ≡ put (littleEndian at w) n m
+unfolding put ordered overlay
+put-stored m at w n h = sets-eq (digits w n) m at (omega (arith, length-digits w n))
+
+pub four-stored : (m : List ℕ) (at n : ℕ) → at + 4 ≤ length m
+    → set (set (set (set m at (n % 256)) (at + 1) (n / 256 % 256)) (at + 2) (n / 256 / 256 % 256)) (at + 3) (n / 256 / 256 / 256 % 256) ≡ put (littleEndian at 4) n m
+unfolding digits
+four-stored m at n h = simp unary-clauses (put-stored m at 4 n h)
+
+module _ (f : Field) (n : ℕ) (m : List ℕ) (fits : f .start + f .width ≤ length m) where
+  -- the bytes that are laid over m
+  ys : List ℕ
+  ys = ordered (f .order) (digits (f .width) n)
+
+  length-ys : length ys ≡ f .width
+  unfolding ys
+  length-ys = length-written (f .order) (f .width) n
+
+  pub get-put : n < 256 ^ f .width → get f (put f n m) ≡ n
+  unfolding get put bytesAt ys
+  get-put h =
+      let there = rw length-ys at (part-inside m (f .start) ys (omega arith)) in
+      rw there (ap counted (ordered-twice (f .order) (digits (f .width) n)) ∙ counted-digits (f .width) n h)
+
+  pub get-before : (g : Field) → g .start + g .width ≤ f .start → get g (put f n m) ≡ get g m
+  unfolding get put bytesAt ys
+  get-before g h = rw (part-before m (f .start) ys (g .start) (g .width) h (omega (arith, length-ys)))
+
+  pub get-behind : (g : Field) → f .start + f .width ≤ g .start → get g (put f n m) ≡ get g m
+  unfolding get put bytesAt ys
+  get-behind g h = rw (part-behind m (f .start) ys (g .start) (g .width) (omega (arith, length-ys)) (omega arith))
+
+-- ---- bits
+
+-- one shifted left within a byte is a power of two
+pub shifted-one : (k : ℕ) → k < 8 → 1 * 2 ^ k % 2 ^ 8 ≡ 2 ^ k
+shifted-one k h = shl-exact {a = 1} 1 k 8 (lit< tt) (omega arith) ∙ one-mul (2 ^ k)

@@ -1,0 +1,10 @@
+-- Laws for the proofs of every crate.
+--     Bools, Seq    tests and lists
+--     Overlay       a list laid over a part of another, and the loops that do it
+--     Field         numbers in bytes: one law for each width
+--     Only          what it is that a contract has no second answer
+pub mod Bools
+pub mod Seq
+pub mod Overlay
+pub mod Field
+pub mod Only

@@ -1,0 +1,28 @@
+-- Facts about parts of lists that the library lacks. Assumes nothing.
+use mathlib.Core.Path.{_≡_, sym, ap, _∙_}
+use mathlib.Core.List.{List, [], _∷_, reverse, reverseAux}
+use Prim.Native.Nat.{ℕ, _+_, _-_, _≤_}
+use native.Mathlib.Nat.{add-zero, add-sub-of-le}
+use native.Mathlib.Omega.{arith}
+use lib.ListN.{length, take, drop, length-drop}
+use lib.Seq.{length-take-le, take-add, drop-at}
+
+-- n elements from index f on are n elements, where there are so many
+pub length-part : (f n : ℕ) (l : List ℕ) → f + n ≤ length l → length (take n (drop f l)) ≡ n
+length-part f n l h = length-take-le n (drop f l) (simp length-drop (omega arith))
+
+-- n elements from index f on, cut off behind first
+pub drop-front : (f n : ℕ) (l : List ℕ) → f ≤ length l → drop f (take (f + n) l) ≡ take n (drop f l)
+drop-front f n l h = ap (drop f) (take-add f n l) ∙ drop-at (take f l) (take n (drop f l)) f (length-take-le f l h)
+
+-- the elements from index f up to index t are the t - f elements from f on
+pub drop-take : (f t : ℕ) (l : List ℕ) → f ≤ t → f ≤ length l → drop f (take t l) ≡ take (t - f) (drop f l)
+drop-take f t l h k =
+    ap (λ (n : ℕ). drop f (take n l)) (sym (add-sub-of-le h)) ∙ drop-front f (t - f) l k
+
+pub length-reverse : (l : List ℕ) → length (reverse l) ≡ length l
+length-reverse l = onto l [] ∙ add-zero (length l)
+  where
+    onto : (l r : List ℕ) → length (reverseAux l r) ≡ length l + length r
+    onto [] r = omega arith
+    onto (x ∷ xs) r = rw (onto xs (x ∷ r)) (omega arith)

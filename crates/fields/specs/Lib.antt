@@ -1,0 +1,7 @@
+-- The words in which the other crates' specifications are written.
+--     Overlay    a list laid over a part of another: every write
+--     Field      numbers in bytes: the fields of the public standards' tables
+--     Case       a table of cases under one statement
+pub mod Overlay
+pub mod Field
+pub mod Case
