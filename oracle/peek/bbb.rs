@@ -1,6 +1,7 @@
 //! Shows what is private in bbb.rs. The build appends this module behind the unchanged text.
 
-use super::{BulkOnly, DataDirection, State};
+use super::{BulkOnly, CSW_LEN, DataDirection, State};
+use crate::transport::CommandStatus;
 use core::borrow::BorrowMut;
 use usb_device::bus::UsbBus;
 
@@ -65,6 +66,23 @@ impl<Bus: UsbBus, Buf: BorrowMut<[u8]>> BulkOnly<'_, Bus, Buf> {
 
     pub fn peek_io(&self) -> &[u8] {
         self.buf.peek_bytes()
+    }
+
+    /// The status for a wrapper of this tag and length, put in place as if it had been read: over
+    /// the wire a status comes only behind `length` bytes of data.
+    pub fn peek_csw(
+        &mut self,
+        tag: u32,
+        length: u32,
+        status: CommandStatus,
+        figure: u32,
+    ) -> [u8; CSW_LEN] {
+        self.cbw.tag = tag;
+        self.cbw.data_transfer_len = length;
+        self.state = State::DataTransferNoData;
+        self.set_status(status, figure);
+        self.build_csw()
+            .expect("LOUD: a status was set and none is built")
     }
 }
 

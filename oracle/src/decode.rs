@@ -1,7 +1,7 @@
 //! A decoded command in words, and the decoder mode: one block a line, one command a line.
 
+use crate::lines::from_hex;
 use crate::panics;
-use std::io::{self, BufRead, Write};
 use usbd_storage::subclass::scsi::peek::peek_parse_cb;
 use usbd_storage::subclass::scsi::{PageControl, ScsiCommand};
 
@@ -68,29 +68,9 @@ fn page_control_number(control: PageControl) -> u8 {
     }
 }
 
-pub fn lines(input: impl BufRead, output: impl Write) -> io::Result<()> {
-    let mut output = io::BufWriter::new(output);
-    for line in input.lines() {
-        match decode(&from_hex(line?.trim())) {
-            Some(command) => writeln!(output, "{}", text(&command))?,
-            None => writeln!(output, "13")?,
-        }
-    }
-    output.flush()
-}
-
-fn decode(block: &[u8]) -> Option<ScsiCommand> {
+pub fn answer(line: &str) -> String {
+    let block = from_hex(line);
     // Rule 13: where the Rust panics over an empty block.
-    panics::catch(panics::EMPTY_BLOCK, || peek_parse_cb(block))
-}
-
-fn from_hex(digits: &str) -> Vec<u8> {
-    assert!(
-        digits.len().is_multiple_of(2) && digits.bytes().all(|digit| digit.is_ascii_hexdigit()),
-        "not a line of hex bytes: {digits}"
-    );
-    (0..digits.len())
-        .step_by(2)
-        .map(|at| u8::from_str_radix(&digits[at..at + 2], 16).expect("two hex digits"))
-        .collect()
+    let command = panics::catch(panics::EMPTY_BLOCK, || peek_parse_cb(&block));
+    command.map_or("13".to_string(), |command| text(&command))
 }

@@ -70,6 +70,15 @@ fn number_of(error: BulkOnlyError) -> u8 {
     }
 }
 
+pub fn command_status(byte: u8) -> Option<CommandStatus> {
+    match byte {
+        0 => Some(CommandStatus::Passed),
+        1 => Some(CommandStatus::Failed),
+        2 => Some(CommandStatus::PhaseError),
+        _ => None,
+    }
+}
+
 impl<'a> Device<'a> {
     /// The device, or the answer that refuses it. 2 and 5 are the Rust's; 8 and 9 come behind them,
     /// in the order of document 01.
@@ -148,12 +157,8 @@ impl<'a> Device<'a> {
     }
 
     fn set_status(&mut self, status: u8, figure: u32) -> Outcome {
-        let status = match status {
-            0 => CommandStatus::Passed,
-            1 => CommandStatus::Failed,
-            2 => CommandStatus::PhaseError,
-            _ => unreachable!("the file's rules let no other status byte through"),
-        };
+        let status =
+            command_status(status).expect("the file's rules let no other status byte through");
         let before = self.figures();
         self.bus.begin_call();
         // Rule 12: where the Rust panics.

@@ -143,3 +143,14 @@ pub fn hex(text: &mut String, bytes: &[u8]) {
         text.push(char::from(DIGITS[usize::from(byte & 15)]));
     }
 }
+
+pub fn from_hex(digits: &str) -> Vec<u8> {
+    assert!(
+        digits.len().is_multiple_of(2) && digits.bytes().all(|digit| digit.is_ascii_hexdigit()),
+        "not a line of hex bytes: {digits}"
+    );
+    (0..digits.len())
+        .step_by(2)
+        .map(|at| u8::from_str_radix(&digits[at..at + 2], 16).expect("two hex digits"))
+        .collect()
+}

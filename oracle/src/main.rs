@@ -4,6 +4,8 @@ mod benchfile;
 mod bufferops;
 mod cases;
 mod chains;
+mod codecinputs;
+mod codecs;
 mod coverage;
 mod damage;
 mod decode;
@@ -25,7 +27,7 @@ mod vectors;
 mod wrapper;
 
 use lines::Detail;
-use std::io::{self, Read, Write};
+use std::io::{self, BufRead, Read, Write};
 use std::process::ExitCode;
 
 const USAGE: &str = "unknown arguments; oracle/README.md names them";
@@ -50,12 +52,15 @@ fn command(words: &[&str], flags: &[&str]) -> io::Result<ExitCode> {
     match (words, flags) {
         (["run", file @ ..], []) if file.len() < 2 => run(file.first(), Detail::Lines)?,
         (["run", file @ ..], ["--show"]) if file.len() < 2 => run(file.first(), Detail::Show)?,
-        (["run"], ["--decode"]) => decode::lines(io::stdin().lock(), io::stdout().lock())?,
+        (["run"], ["--decode"]) => by_line(decode::answer)?,
+        (["run"], ["--parse"]) => by_line(codecs::parse)?,
+        (["run"], ["--status"]) => by_line(codecs::status)?,
         (["gen", of @ ..], flags) => return generate(of, flags),
         (["vectors", folder], []) => vectors::write(folder)?,
         (["buffer-ops", seed, count, operations, results], []) => {
             bufferops::command(number(seed)?, number(count)? as usize, operations, results)?;
         }
+        (["codec-inputs", seed, folder], []) => codecinputs::write(number(seed)?, folder)?,
         (["selftest"], []) => selftest::names().for_each(|name| println!("{name}")),
         (["selftest", name], []) => selftest::run(name),
         _ => return Err(io::Error::other(USAGE)),
@@ -71,6 +76,15 @@ fn run(file: Option<&&str>, detail: Detail) -> io::Result<()> {
     };
     let text = lines::of_file(&bytes, detail, &mut |_| {});
     io::stdout().lock().write_all(text.as_bytes())
+}
+
+/// One line of standard output for each line of standard input.
+fn by_line(answer: fn(&str) -> String) -> io::Result<()> {
+    let mut output = io::BufWriter::new(io::stdout().lock());
+    for line in io::stdin().lock().lines() {
+        writeln!(output, "{}", answer(line?.trim()))?;
+    }
+    output.flush()
 }
 
 fn generate(of: &[&str], flags: &[&str]) -> io::Result<ExitCode> {

@@ -76,22 +76,12 @@ fn record(text: &mut String, figures: &Figures, io: &[u8]) {
     let Figures {
         read_mark,
         write_mark,
-        tag,
-        length,
-        direction,
-        lun,
-        block_length,
-        block,
         status,
         ..
     } = figures;
     write!(text, "\n  marks read {read_mark} write {write_mark}").expect("a string");
-    write!(
-        text,
-        "\n  wrapper tag {tag} length {length} direction {direction} lun {lun} block {block_length} "
-    )
-    .expect("a string");
-    hex(text, block);
+    text.push_str("\n  wrapper ");
+    wrapper(text, figures);
     match status {
         Some((status, residue)) => write!(text, "\n  status {status} residue {residue}"),
         None => write!(text, "\n  status none"),
@@ -104,4 +94,22 @@ fn record(text: &mut String, figures: &Figures, io: &[u8]) {
     };
     write!(text, "\n  buffer {} ", io.len()).expect("a string");
     hex_or_dash(text, shown);
+}
+
+pub fn wrapper(text: &mut String, figures: &Figures) {
+    let Figures {
+        tag,
+        length,
+        direction,
+        lun,
+        block_length,
+        block,
+        ..
+    } = figures;
+    write!(
+        text,
+        "tag {tag} length {length} direction {direction} lun {lun} block {block_length} "
+    )
+    .expect("a string");
+    hex(text, block);
 }

@@ -1,7 +1,7 @@
 -- Laws of fields: one for each fact, at every width.
 --     one-byte                       a field of one byte is that byte
 --     little-doubled, big-doubled    two fields side by side are one of twice the width
---     put-stored                     stores in order write a field
+--     put-stored, four-stored, byte-stored    stores in order write a field
 --     length-put                     a message stays as long as it is
 --     get-put, get-before, get-behind    what was written is read; a field before or behind it reads as before
 --     shifted-one                    the divisor of a field of bits
@@ -9,7 +9,7 @@
 use mathlib.Core.Path.{_≡_, refl, sym, ap, _∙_}
 use mathlib.Core.List.{List, [], _∷_, _++_, reverse, reverse-append, reverse-reverse, append-assoc}
 use Prim.Native.Nat.{ℕ, zero, suc, _+_, _*_, _^_, _/_, _%_, _-_, _≤_, _<_}
-use native.Mathlib.Nat.{one-mul, mul-assoc, mul-comm, pow-suc, mod-add-div, div-lt-iff-lt-mul, zero-lt-suc}
+use native.Mathlib.Nat.{one-mul, mul-assoc, mul-comm, pow-suc, mod-add-div, mod-eq-of-lt, div-lt-iff-lt-mul, zero-lt-suc}
 use native.Mathlib.Omega.{arith}
 use native.Mathlib.Numerals.{unary-clauses}
 use lib.Dec.{lit<}
@@ -100,6 +100,10 @@ pub four-stored : (m : List ℕ) (at n : ℕ) → at + 4 ≤ length m
     → set (set (set (set m at (n % 256)) (at + 1) (n / 256 % 256)) (at + 2) (n / 256 / 256 % 256)) (at + 3) (n / 256 / 256 / 256 % 256) ≡ put (littleEndian at 4) n m
 unfolding digits
 four-stored m at n h = simp unary-clauses (put-stored m at 4 n h)
+
+pub byte-stored : (m : List ℕ) (at n : ℕ) → n < 256 → at < length m → set m at n ≡ put (littleEndian at 1) n m
+unfolding digits
+byte-stored m at n h k = ap (set m at) (sym (mod-eq-of-lt h)) ∙ put-stored m at 1 n (omega arith)
 
 module _ (f : Field) (n : ℕ) (m : List ℕ) (fits : f .start + f .width ≤ length m) where
   -- the bytes that are laid over m

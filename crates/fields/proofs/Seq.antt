@@ -1,11 +1,11 @@
 -- Facts about parts of lists that the library lacks. Assumes nothing.
-use mathlib.Core.Path.{_≡_, sym, ap, _∙_}
+use mathlib.Core.Path.{_≡_, refl, sym, ap, _∙_}
 use mathlib.Core.List.{List, [], _∷_, reverse, reverseAux}
-use Prim.Native.Nat.{ℕ, _+_, _-_, _≤_}
+use Prim.Native.Nat.{ℕ, zero, suc, _+_, _-_, _≤_}
 use native.Mathlib.Nat.{add-zero, add-sub-of-le}
 use native.Mathlib.Omega.{arith}
-use lib.ListN.{length, take, drop, length-drop}
-use lib.Seq.{length-take-le, take-add, drop-at}
+use lib.ListN.{length, take, drop, getD, length-drop}
+use lib.Seq.{length-take-le, take-add, drop-at, drop-cons}
 
 -- n elements from index f on are n elements, where there are so many
 pub length-part : (f n : ℕ) (l : List ℕ) → f + n ≤ length l → length (take n (drop f l)) ≡ n
@@ -26,3 +26,12 @@ length-reverse l = onto l [] ∙ add-zero (length l)
     onto : (l r : List ℕ) → length (reverseAux l r) ≡ length l + length r
     onto [] r = omega arith
     onto (x ∷ xs) r = rw (onto xs (x ∷ r)) (omega arith)
+
+-- n elements from index f on, one by one
+abbrev pub listed : List ℕ → ℕ → ℕ → List ℕ
+listed l f zero = []
+listed l f (suc n) = getD l f 0 ∷ listed l (suc f) n
+
+pub part-listed : (l : List ℕ) (f n : ℕ) → f + n ≤ length l → take n (drop f l) ≡ listed l f n
+part-listed l f zero h = refl
+part-listed l f (suc n) h = rw (drop-cons l f 0 (omega arith), part-listed l (suc f) n (omega arith))

@@ -1,0 +1,22 @@
+use mathlib.Core.Path.{refl, ap}
+use Prim.Native.Nat.{ℕ}
+use native.Mathlib.Omega.{arith}
+use Rattle.wrapper.specs.Counters.{fallen}
+use borrow.Author.Needs.{needs}
+use Rattle.wrapper.proofs.Laws.{ways}
+use Rattle.wrapper.proofs.counters.left_after.Statement.{statement}
+use Rattle.wrapper.proofs.counters.left_after.Tie as tie
+
+sub-t6 : tie.Need-sub-t6
+sub-t6 c = search needs
+
+returns : tie.Need-returns
+unfolding fallen
+returns c = refl
+
+returns-2 : tie.Need-returns-2
+unfolding fallen
+returns-2 c = ap (λ (k : ℕ). record { 0 = k }) (omega arith)
+
+pub left-after-spec : {M : Type 1} → statement M
+left-after-spec = tie.close (tie.spec sub-t6 returns returns-2)

@@ -1,0 +1,22 @@
+use mathlib.Core.Path.{refl, ap}
+use Prim.Native.Nat.{ℕ}
+use native.Mathlib.Omega.{arith}
+use Rattle.wrapper.specs.Counters.{residueOf}
+use borrow.Author.Needs.{needs}
+use Rattle.wrapper.proofs.Laws.{ways}
+use Rattle.wrapper.proofs.counters.residue_of.Statement.{statement}
+use Rattle.wrapper.proofs.counters.residue_of.Tie as tie
+
+sub-t5 : tie.Need-sub-t5
+sub-t5 c = search needs
+
+returns : tie.Need-returns
+unfolding residueOf
+returns c = refl
+
+returns-2 : tie.Need-returns-2
+unfolding residueOf
+returns-2 c = ap (λ (k : ℕ). record { 0 = k }) (omega arith)
+
+pub residue-of-spec : {M : Type 1} → statement M
+residue-of-spec = tie.close (tie.spec sub-t5 returns returns-2)

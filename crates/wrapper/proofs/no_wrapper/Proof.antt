@@ -1,0 +1,13 @@
+use mathlib.Core.Path.{refl}
+use Rattle.wrapper.specs.Wrapper.{blank}
+use borrow.Author.Needs.{needs}
+use Rattle.wrapper.proofs.Laws.{ways}
+use Rattle.wrapper.proofs.no_wrapper.Statement.{statement}
+use Rattle.wrapper.proofs.no_wrapper.Tie as tie
+
+returns : tie.Need-returns
+unfolding blank
+returns c = refl
+
+pub no-wrapper-spec : {M : Type 1} → statement M
+no-wrapper-spec = tie.close (tie.spec returns)

@@ -1,0 +1,41 @@
+use borrow.Author.Needs.{needs}
+use Rattle.wrapper.proofs.Laws.{ways}
+use Rattle.wrapper.proofs.read_wrapper.Statement.{statement}
+use Rattle.wrapper.proofs.read_wrapper.Tie as tie
+
+le32-requires : tie.Need-le32-requires
+le32-requires c κs = search needs
+
+bits-of-requires : tie.Need-bits-of-requires
+bits-of-requires c κs = search needs
+
+direction-of-requires : tie.Need-direction-of-requires
+direction-of-requires c κs = search needs
+
+block-of-requires : tie.Need-block-of-requires
+block-of-requires c κs = search needs
+
+le32-requires-2 : tie.Need-le32-requires-2
+le32-requires-2 c κs = search needs
+
+bits-of-requires-2 : tie.Need-bits-of-requires-2
+bits-of-requires-2 c κs = search needs
+
+shared-slice-read-t8 : tie.Need-shared-slice-read-t8
+shared-slice-read-t8 c = search needs
+
+returns : tie.Need-returns
+returns c = search (ways, needs)
+
+pub read-wrapper-spec : {M : Type 1} → statement M
+read-wrapper-spec =
+    tie.close
+    (tie.spec
+    le32-requires
+    bits-of-requires
+    direction-of-requires
+    block-of-requires
+    le32-requires-2
+    bits-of-requires-2
+    shared-slice-read-t8
+    returns)

@@ -1,0 +1,150 @@
+// The wrapper (CBW) of document 01, after bbb.rs. Beside it the status (CSW), the two counters, and BOT's verdict on a message.
+// Every public call of this crate takes any bytes of any length and any number, and ends with an answer.
+pub mod counters;
+pub mod status;
+pub mod verdict;
+
+use fields::bits_of;
+use fields::le32;
+ghost use mathlib.Core.Path.{_≡_};
+ghost use lib.ListN.{length};
+ghost use Rattle.fields.specs.Field.{bytesAt};
+ghost use Rattle.wrapper.specs.Wrapper.{CBWCB, isSigned, isBlockLength, isValid, directionOf, wrapperOf, blank, parsed};
+
+pub enum DataDirection {
+    Out,
+    In,
+    NotExpected,
+}
+
+pub struct Wrapper {
+    pub tag: u32,
+    pub length: u32,
+    pub direction: DataDirection,
+    pub lun: u8,
+    pub blocklength: u8,
+    pub block: [u8; 16],
+}
+
+// A message, parsed: valid with all its fields, or invalid and all fields blank.
+pub struct Parsed {
+    pub valid: bool,
+    pub wrapper: Wrapper,
+}
+
+// Whether a message has 31 bytes and the wrapper's signature.
+pub(crate) fn signed(message: &[u8]) -> bool
+    ensures { λ r. ⌜ r ≡ isSigned (now (message .entry)) ⌝ }
+{
+    if message.len() == 31 {
+        return le32(message, 0) == 0x43425355;
+    }
+    false
+}
+
+pub(crate) fn block_fits(blocklength: u8) -> bool
+    ensures { λ r. ⌜ r ≡ isBlockLength blocklength ⌝ }
+{
+    if 1 <= blocklength {
+        return blocklength <= 16;
+    }
+    false
+}
+
+// Whether a message is a valid wrapper in document 01's sense.
+pub fn valid(message: &[u8]) -> bool
+    ensures { λ r. ⌜ r ≡ isValid (now (message .entry)) ⌝ }
+{
+    if signed(message) {
+        return block_fits(message[14]);
+    }
+    false
+}
+
+fn direction_of(length: u32, tohost: u8) -> DataDirection
+    ensures { λ r. ⌜ r ≡ directionOf length tohost ⌝ }
+{
+    if length == 0 {
+        return DataDirection::NotExpected;
+    }
+    if tohost == 1 {
+        return DataDirection::In;
+    }
+    DataDirection::Out
+}
+
+// The command block of a wrapper.
+fn block_of(m: &[u8]) -> [u8; 16]
+    requires { ⌜ length (now m) ≡ 31 ⌝ }
+    ensures { λ r. ⌜ r ≡ bytesAt CBWCB (now (m .entry)) ⌝ }
+{
+    [
+        m[15],
+        m[16],
+        m[17],
+        m[18],
+        m[19],
+        m[20],
+        m[21],
+        m[22],
+        m[23],
+        m[24],
+        m[25],
+        m[26],
+        m[27],
+        m[28],
+        m[29],
+        m[30],
+    ]
+}
+
+// What a wrapper of 31 bytes says.
+fn read_wrapper(m: &[u8]) -> Wrapper
+    requires { ⌜ length (now m) ≡ 31 ⌝ }
+    ensures { λ r. ⌜ r ≡ wrapperOf (now (m .entry)) ⌝ }
+{
+    let length = le32(m, 8);
+    let direction = direction_of(length, bits_of(m, 12, 7, 1));
+    let block = block_of(m);
+    Wrapper {
+        tag: le32(m, 4),
+        length: length,
+        direction: direction,
+        lun: bits_of(m, 13, 0, 4),
+        blocklength: m[14],
+        block: block,
+    }
+}
+
+// No wrapper yet.
+pub fn no_wrapper() -> Wrapper
+    ensures { λ r. ⌜ r ≡ blank ⌝ }
+{
+    let direction = DataDirection::NotExpected;
+    let block = [0u8; 16];
+    Wrapper {
+        tag: 0,
+        length: 0,
+        direction: direction,
+        lun: 0,
+        blocklength: 0,
+        block: block,
+    }
+}
+
+pub fn parse(message: &[u8]) -> Parsed
+    ensures { λ r. ⌜ r ≡ parsed (now (message .entry)) ⌝ }
+{
+    if valid(message) {
+        let w = read_wrapper(message);
+        return Parsed {
+            valid: true,
+            wrapper: w,
+        };
+    }
+    let none = no_wrapper();
+    Parsed {
+        valid: false,
+        wrapper: none,
+    }
+}

@@ -1,0 +1,50 @@
+// The status (CSW): what it can say, and its 13 bytes.
+use crate::counters::Residue;
+use fields::put_le32;
+ghost use mathlib.Core.Path.{_≡_};
+ghost use Rattle.wrapper.specs.Status.{told, statusCall, statusNumber, statusBytes};
+
+pub enum CommandStatus {
+    Passed,
+    Failed,
+    PhaseError,
+}
+
+// What a status byte stands for.
+pub enum StatusByte {
+    Known(CommandStatus),
+    Refused,
+}
+
+pub fn status_of(byte: u8) -> StatusByte
+    ensures { λ r. ⌜ told r ≡ statusCall byte ⌝ }
+{
+    match byte {
+        0 => StatusByte::Known(CommandStatus::Passed),
+        1 => StatusByte::Known(CommandStatus::Failed),
+        2 => StatusByte::Known(CommandStatus::PhaseError),
+        _ => StatusByte::Refused,
+    }
+}
+
+pub fn status_number(status: CommandStatus) -> u8
+    ensures { λ r. ⌜ r ≡ statusNumber status ⌝ }
+{
+    match status {
+        CommandStatus::Passed => 0,
+        CommandStatus::Failed => 1,
+        CommandStatus::PhaseError => 2,
+    }
+}
+
+// The status as it goes over the wire.
+pub fn status_bytes(tag: u32, residue: Residue, status: CommandStatus) -> [u8; 13]
+    ensures { λ r. ⌜ r ≡ statusBytes tag residue status ⌝ }
+{
+    let mut m = [0u8; 13];
+    put_le32(&mut m, 0, 0x53425355);
+    put_le32(&mut m, 4, tag);
+    put_le32(&mut m, 8, residue.0);
+    m[12] = status_number(status);
+    m
+}

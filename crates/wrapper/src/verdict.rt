@@ -1,0 +1,34 @@
+// BOT's verdict on one received message, added to what the Rust has.
+use fields::bits_of;
+ghost use mathlib.Core.Path.{_≡_};
+ghost use lib.ListN.{length};
+ghost use Rattle.wrapper.specs.Verdict.{isMeaningful, verdictOf};
+
+pub enum Verdict {
+    Invalid,
+    ValidOnly,
+    Meaningful,
+}
+
+fn meaningful(message: &[u8], maxlun: u8) -> bool
+    requires { ⌜ length (now message) ≡ 31 ⌝ }
+    ensures { λ r. ⌜ r ≡ isMeaningful maxlun (now (message .entry)) ⌝ }
+{
+    if bits_of(message, 13, 0, 4) <= maxlun {
+        return crate::block_fits(message[14]);
+    }
+    false
+}
+
+// BOT's verdict on one received message, for a device with the LUNs 0 to maxlun.
+pub fn verdict_on(message: &[u8], maxlun: u8) -> Verdict
+    ensures { λ r. ⌜ r ≡ verdictOf maxlun (now (message .entry)) ⌝ }
+{
+    if crate::signed(message) {
+        if meaningful(message, maxlun) {
+            return Verdict::Meaningful;
+        }
+        return Verdict::ValidOnly;
+    }
+    Verdict::Invalid
+}
