@@ -1,126 +1,108 @@
 //! `oracle/codec-inputs`: lines for `--decode`, `--parse` and `--status`, the same for the same seed.
 
+use crate::host::known_opcode;
 use crate::lines::hex;
 use crate::rng::Rng;
 use crate::wrapper::Wrapper;
-use std::fs::{self, File};
-use std::io::{self, BufWriter, Write};
+use std::fmt::Write;
+use std::{fs, io};
 
-const FILLS: usize = 30;
-/// Lengths that no wrapper can carry.
+/// Block lengths that no wrapper carries.
 const LONG: [usize; 8] = [17, 18, 24, 31, 32, 64, 255, 256];
-const LONG_FILLS: usize = 4;
 
 const EDGES: [u32; 8] = [0, 1, 255, 256, 65_535, 65_536, 1 << 31, u32::MAX];
 
 const STATUSES: usize = 110_000;
-/// Of so many statuses one has any byte, each byte in turn, and the others one of the three good ones.
+/// Of so many statuses one has any byte, each in turn; the others have one of the three good ones.
 const ANY_BYTE_EVERY: usize = 10;
 
 pub fn write(seed: u64, folder: &str) -> io::Result<()> {
-    fs::create_dir_all(folder)?;
-    let file = |name| File::create(format!("{folder}/{name}.txt")).map(BufWriter::new);
     let mut rng = Rng::new(seed);
-    blocks(&mut rng, file("blocks")?)?;
-    messages(&mut rng, file("messages")?)?;
-    statuses(&mut rng, file("statuses")?)
+    let blocks = hex_lines(&blocks(&mut rng));
+    let messages = hex_lines(&messages(&mut rng));
+    let statuses = statuses(&mut rng);
+    fs::create_dir_all(folder)?;
+    fs::write(format!("{folder}/blocks.txt"), blocks)?;
+    fs::write(format!("{folder}/messages.txt"), messages)?;
+    fs::write(format!("{folder}/statuses.txt"), statuses)
 }
 
-/// Every opcode with every length, the empty block among them.
-fn blocks(rng: &mut Rng, mut output: impl Write) -> io::Result<()> {
+fn blocks(rng: &mut Rng) -> Vec<Vec<u8>> {
+    let mut blocks = Vec::new();
     for opcode in 0..=255 {
-        hex_line(&mut output, &[])?;
+        blocks.push(Vec::new());
         for length in 1..=16 {
-            for fill in 0..FILLS {
-                hex_line(&mut output, &block(rng, opcode, length, fill))?;
-            }
+            blocks.extend((0..30).map(|fill| block(rng, opcode, length, fill)));
         }
         for length in LONG {
-            for fill in 0..LONG_FILLS {
-                hex_line(&mut output, &block(rng, opcode, length, fill))?;
-            }
+            blocks.extend((0..4).map(|fill| block(rng, opcode, length, fill)));
         }
     }
-    output.flush()
+    // Most opcodes are unknown, so the others come once more.
+    for fill in 0..20_000 {
+        let opcode = known_opcode(rng);
+        let length = rng.between(4, 16);
+        blocks.push(block(rng, opcode, length, fill));
+    }
+    blocks
 }
 
 /// Behind the opcode the first two fills are all 00 and all FF.
 fn block(rng: &mut Rng, opcode: u8, length: usize, fill: usize) -> Vec<u8> {
     let mut block = vec![opcode];
-    block.resize_with(length, || match fill {
-        0 => 0,
-        1 => 0xFF,
-        _ => byte_of_a_field(rng),
+    block.resize_with(length, || {
+        let any = rng.byte();
+        let one_bit = 1 << rng.below(8);
+        match fill {
+            0 => 0,
+            1 => 0xFF,
+            _ => rng.pick(&[any, one_bit, 0, 0xFF]),
+        }
     });
     block
 }
 
-fn byte_of_a_field(rng: &mut Rng) -> u8 {
-    let any = rng.byte();
-    let one_bit = 1 << rng.below(8);
-    rng.pick(&[any, one_bit, 0, 0xFF])
-}
-
-fn messages(rng: &mut Rng, mut output: impl Write) -> io::Result<()> {
-    // Flags, LUN and block length with every value, each without data and with some.
-    for value in 0..=255 {
-        for _ in 0..20 {
-            for length in [0, number(rng).max(1)] {
-                let with = |rng: &mut Rng| Wrapper {
-                    length,
-                    ..wrapper(rng)
-                };
-                let flags = Wrapper {
-                    flags: value,
-                    ..with(rng)
-                };
-                let lun = Wrapper {
-                    lun: value,
-                    ..with(rng)
-                };
-                let block_length = Wrapper {
-                    block_length: value,
-                    ..with(rng)
-                };
-                for wrapper in [flags, lun, block_length] {
-                    hex_line(&mut output, &wrapper.bytes())?;
-                }
+fn messages(rng: &mut Rng) -> Vec<Vec<u8>> {
+    let mut messages = Vec::new();
+    // Flags, LUN and block length: every value, without data and with data.
+    for at in 12..15 {
+        for value in 0..=255 {
+            for index in 0..40 {
+                let mut wrapper = wrapper(rng);
+                wrapper.length = [0, wrapper.length.max(1)][index % 2];
+                let mut message = wrapper.bytes();
+                message[at] = value;
+                messages.push(message);
             }
         }
     }
-    // Every other value in each byte of the signature, so also each bit of it flipped.
+    // The signature: every wrong value of each byte, so also each bit of it flipped.
     for at in 0..4 {
         for change in 1..=255 {
             for _ in 0..4 {
-                let mut wrapper = wrapper(rng);
-                wrapper.signature[at] ^= change;
-                hex_line(&mut output, &wrapper.bytes())?;
+                let mut message = wrapper(rng).bytes();
+                message[at] ^= change;
+                messages.push(message);
             }
         }
     }
     for tag in EDGES {
         for length in EDGES {
             for _ in 0..100 {
-                let wrapper = Wrapper {
-                    tag,
-                    length,
-                    ..wrapper(rng)
-                };
-                hex_line(&mut output, &wrapper.bytes())?;
+                let mut wrapper = wrapper(rng);
+                wrapper.tag = tag;
+                wrapper.length = length;
+                messages.push(wrapper.bytes());
             }
         }
     }
-    for _ in 0..40_000 {
-        hex_line(&mut output, &wrapper(rng).bytes())?;
-    }
-    for _ in 0..10_000 {
-        hex_line(&mut output, &rng.bytes(31))?;
-        hex_line(&mut output, &[&b"USBC"[..], &rng.bytes(27)].concat())?;
-    }
-    output.flush()
+    messages.extend((0..40_000).map(|_| wrapper(rng).bytes()));
+    messages.extend((0..10_000).map(|_| [&b"USBC"[..], &rng.bytes(27)].concat()));
+    messages.extend((0..10_000).map(|_| rng.bytes(31)));
+    messages
 }
 
-/// A valid one. Flags and LUN have bits that count for nothing, and the block may be shorter than its 16 bytes.
+/// A valid one, with any bits where none count.
 fn wrapper(rng: &mut Rng) -> Wrapper {
     Wrapper {
         length: number(rng),
@@ -131,22 +113,22 @@ fn wrapper(rng: &mut Rng) -> Wrapper {
     }
 }
 
-fn statuses(rng: &mut Rng, mut output: impl Write) -> io::Result<()> {
+fn statuses(rng: &mut Rng) -> String {
+    let mut text = String::new();
     for index in 0..STATUSES {
         let tag = number(rng);
         let length = number(rng);
-        let figure = number(rng);
+        let any = number(rng);
         let below = length.wrapping_sub(1);
         let above = length.wrapping_add(1);
-        let figure = rng.pick(&[figure, figure, length, below, above, 0, u32::MAX]);
-        let byte = if index % ANY_BYTE_EVERY == 0 {
-            index / ANY_BYTE_EVERY % 256
-        } else {
-            rng.below(3)
+        let figure = rng.pick(&[any, any, length, below, above, 0, u32::MAX]);
+        let byte = match index % ANY_BYTE_EVERY {
+            0 => index / ANY_BYTE_EVERY % 256,
+            _ => rng.below(3),
         };
-        writeln!(output, "{tag} {length} {figure} {byte}")?;
+        writeln!(text, "{tag} {length} {figure} {byte}").expect("a string");
     }
-    output.flush()
+    text
 }
 
 fn number(rng: &mut Rng) -> u32 {
@@ -156,8 +138,11 @@ fn number(rng: &mut Rng) -> u32 {
     rng.pick(&[any, any, one_bit, edge])
 }
 
-fn hex_line(output: &mut impl Write, bytes: &[u8]) -> io::Result<()> {
+fn hex_lines(all: &[Vec<u8>]) -> String {
     let mut text = String::new();
-    hex(&mut text, bytes);
-    writeln!(output, "{text}")
+    for bytes in all {
+        hex(&mut text, bytes);
+        text.push('\n');
+    }
+    text
 }

@@ -158,7 +158,7 @@ fn wrapper(now: &Figures, temper: &Temper, rng: &mut Rng, unshown: &[(u8, usize)
     wrapper.bytes()
 }
 
-fn known_opcode(rng: &mut Rng) -> u8 {
+pub fn known_opcode(rng: &mut Rng) -> u8 {
     rng.pick(&[
         0x00, 0x03, 0x12, 0x1A, 0x23, 0x25, 0x28, 0x2A, 0x5A, 0x88, 0x8A, 0x9E,
     ])

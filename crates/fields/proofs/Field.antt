@@ -1,5 +1,5 @@
 -- Laws of fields: one for each fact, at every width.
---     one-byte                       a field of one byte is that byte
+--     byte-read, one-order           a field of one byte is that byte, in either order
 --     little-doubled, big-doubled    two fields side by side are one of twice the width
 --     put-stored, four-stored, byte-stored    stores in order write a field
 --     length-put                     a message stays as long as it is
@@ -17,7 +17,7 @@ use lib.Pow.{shl-exact}
 use lib.ListN.{length, take, drop, getD, set, length-append, length-drop}
 use lib.Seq.{drop-cons, drop-drop, take-add, take-take, take-append-le, length-take-le, take-at, drop-at, sets, sets-eq}
 use Rattle.fields.specs.Overlay.{overlay}
-use Rattle.fields.specs.Field.{Order, little, big, Field, littleEndian, bigEndian, bytesAt, counted, digits, ordered, get, put}
+use Rattle.fields.specs.Field.{Order, little, big, Field, littleEndian, bigEndian, oneByte, bytesAt, counted, digits, ordered, get, put}
 use Rattle.fields.proofs.Overlay.{length-overlay, part-inside, part-before, part-behind}
 use Rattle.fields.proofs.Seq.{length-reverse}
 
@@ -60,10 +60,13 @@ length-written o w n = length-ordered o (digits w n) ∙ length-digits w n
 
 -- ---- reading
 
-pub one-byte : (o : Order) (m : List ℕ) (at : ℕ) {x : ℕ} → at < length m → x ≡ getD m at 0 → x ≡ get (record { order = o; start = at; width = 1 }) m
+pub byte-read : (m : List ℕ) (at : ℕ) → at < length m → getD m at 0 ≡ get (oneByte at) m
 unfolding get bytesAt counted ordered
-one-byte little m at h e = rw (drop-cons m at 0 h) (omega arith)
-one-byte big m at h e = rw (drop-cons m at 0 h) (omega arith)
+byte-read m at h = rw (drop-cons m at 0 h) (omega arith)
+
+pub one-order : (m : List ℕ) (at : ℕ) {x : ℕ} → at < length m → x ≡ get (oneByte at) m → x ≡ get (bigEndian at 1) m
+unfolding get bytesAt ordered
+one-order m at h e = rw (drop-cons m at 0 h) (rw (drop-cons m at 0 h) at e)
 
 -- the bytes of a field are those of its two halves
 halves : (m : List ℕ) (at w : ℕ) → take (w + w) (drop at m) ≡ take w (drop at m) ++ take w (drop (at + w) m)
@@ -101,7 +104,7 @@ pub four-stored : (m : List ℕ) (at n : ℕ) → at + 4 ≤ length m
 unfolding digits
 four-stored m at n h = simp unary-clauses (put-stored m at 4 n h)
 
-pub byte-stored : (m : List ℕ) (at n : ℕ) → n < 256 → at < length m → set m at n ≡ put (littleEndian at 1) n m
+pub byte-stored : (m : List ℕ) (at n : ℕ) → n < 256 → at < length m → set m at n ≡ put (oneByte at) n m
 unfolding digits
 byte-stored m at n h k = ap (set m at) (sym (mod-eq-of-lt h)) ∙ put-stored m at 1 n (omega arith)
 

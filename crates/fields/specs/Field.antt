@@ -21,6 +21,10 @@ littleEndian start width = record { order = little; start = start; width = width
 abbrev pub bigEndian : ℕ → ℕ → Field
 bigEndian start width = record { order = big; start = start; width = width }
 
+-- one byte has no order
+abbrev pub oneByte : ℕ → Field
+oneByte start = littleEndian start 1
+
 -- a field's own bytes in the message m
 unfoldable pub bytesAt : Field → List ℕ → List ℕ
 bytesAt f m = take (f .width) (drop (f .start) m)

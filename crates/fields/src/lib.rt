@@ -2,12 +2,12 @@
 // A number of twice the width is two numbers side by side, so each function stands on the one above it.
 ghost use mathlib.Core.Path.{_≡_};
 ghost use Prim.Native.Nat.{_+_, _≤_, _<_};
-ghost use lib.ListN.{length, getD};
-ghost use Rattle.fields.specs.Field.{littleEndian, bigEndian, get, put, bits, getBits};
+ghost use lib.ListN.{length};
+ghost use Rattle.fields.specs.Field.{littleEndian, bigEndian, oneByte, get, put, bits, getBits};
 
-fn byte(m: &[u8], at: usize) -> u8
+pub fn byte(m: &[u8], at: usize) -> u8
     requires { ⌜ at < length (now m) ⌝ }
-    ensures { λ r. ⌜ r ≡ getD (now (m .entry)) at 0 ⌝ }
+    ensures { λ r. ⌜ r ≡ get (oneByte at) (now (m .entry)) ⌝ }
 {
     m[at]
 }

@@ -8,12 +8,12 @@ use mathlib.Core.List.{List, [], _∷_}
 use Prim.Native.Nat.{ℕ, suc, _+_, _-_, _≤_, _<_}
 use native.Mathlib.Omega.{arith}
 use lib.Dec.{eqb, leb, lit≤}
-use lib.ListN.{length, getD, set, replicate}
+use lib.ListN.{length, set, replicate}
 use borrow.Author.Tests.{eq-eqb, ne-eqb, eqb-true, leb-true, le-leb, lt-leb}
-use Rattle.fields.specs.Field.{little, get, put, bytesAt, getBits}
+use Rattle.fields.specs.Field.{get, put, bytesAt, getBits}
 use Rattle.fields.proofs.Bools.{and-left, and-right}
 use Rattle.fields.proofs.Seq.{listed, part-listed}
-use Rattle.fields.proofs.Field.{one-byte, length-put, byte-stored}
+use Rattle.fields.proofs.Field.{length-put, byte-stored}
 use Rattle.wrapper.specs.declared.DataDirection.{DataDirection}
 use Rattle.wrapper.specs.declared.DataDirection.the-variants.{Out, In, NotExpected}
 use Rattle.wrapper.specs.declared.verdict.Verdict.{Verdict}
@@ -88,13 +88,9 @@ fits-bounds : (n : ℕ) → isBlockLength n ≡ true → (1 ≤ n) × (n ≤ 16)
 unfolding isBlockLength
 fits-bounds n e = (leb-true 1 n (and-left (leb 1 n) (leb n 16) e), leb-true n 16 (and-right (leb 1 n) (leb n 16) e))
 
--- the block length is byte 14
-fourteenth : (m : List ℕ) → length m ≡ 31 → getD m 14 0 ≡ get bCBWCBLength m
-fourteenth m h = one-byte little m 14 (omega arith) refl
-
-pub valid-by : (m : List ℕ) {s r : Bool} → s ≡ isSigned m → s ≡ true → r ≡ isBlockLength (getD m 14 0) → r ≡ isValid m
+pub valid-by : (m : List ℕ) {s r : Bool} {b : ℕ} → s ≡ isSigned m → s ≡ true → b ≡ get bCBWCBLength m → r ≡ isBlockLength b → r ≡ isValid m
 unfolding isValid
-valid-by m es e er = rw (sym es ∙ e, ← fourteenth m (signed-whole m es e)) er
+valid-by m es e eb er = rw (sym es ∙ e, ← eb) er
 
 pub invalid-by : (m : List ℕ) {s : Bool} → s ≡ isSigned m → s ≡ false → false ≡ isValid m
 unfolding isValid
@@ -146,11 +142,11 @@ pub block-listed : (m : List ℕ) → length m ≡ 31 → listed m 15 16 ≡ byt
 unfolding bytesAt
 block-listed m h = sym (part-listed m 15 16 (omega arith))
 
-pub reads : (m : List ℕ) {t l x u : ℕ} {d : DataDirection} {k : List ℕ} → length m ≡ 31
-    → t ≡ get dCBWTag m → l ≡ get dCBWDataTransferLength m → x ≡ getBits direction m → d ≡ directionOf l x → u ≡ getBits bCBWLUN m → k ≡ bytesAt CBWCB m
-    → _≡_ {A = Wrapper} (record { tag = t; length = l; direction = d; lun = u; blocklength = getD m 14 0; block = k }) (wrapperOf m)
+pub reads : (m : List ℕ) {t l x u b : ℕ} {d : DataDirection} {k : List ℕ}
+    → t ≡ get dCBWTag m → l ≡ get dCBWDataTransferLength m → x ≡ getBits direction m → d ≡ directionOf l x → u ≡ getBits bCBWLUN m → b ≡ get bCBWCBLength m → k ≡ bytesAt CBWCB m
+    → _≡_ {A = Wrapper} (record { tag = t; length = l; direction = d; lun = u; blocklength = b; block = k }) (wrapperOf m)
 unfolding wrapperOf
-reads m h et el ex ed eu ek = rw (ed, ex, et, el, eu, ek, fourteenth m h)
+reads m et el ex ed eu eb ek = rw (ed, ex, et, el, eu, eb, ek)
 
 -- ---- parse and verdict
 
@@ -164,9 +160,9 @@ pub parses-not : (m : List ℕ) {r : Bool} {w : Wrapper} → r ≡ isValid m →
 unfolding parsed
 parses-not m er e ew = rw (sym er ∙ e, ew)
 
-pub means : (m : List ℕ) (max : ℕ) {x : ℕ} {r : Bool} → length m ≡ 31 → x ≡ getBits bCBWLUN m → x ≤ max → r ≡ isBlockLength (getD m 14 0) → r ≡ isMeaningful max m
+pub means : (m : List ℕ) (max : ℕ) {x b : ℕ} {r : Bool} → x ≡ getBits bCBWLUN m → x ≤ max → b ≡ get bCBWCBLength m → r ≡ isBlockLength b → r ≡ isMeaningful max m
 unfolding isMeaningful
-means m max h ex le er = rw (← ex, le-leb _ _ le, ← fourteenth m h) er
+means m max ex le eb er = rw (← ex, le-leb _ _ le, ← eb) er
 
 pub means-not : (m : List ℕ) (max : ℕ) {x : ℕ} → x ≡ getBits bCBWLUN m → max < x → false ≡ isMeaningful max m
 unfolding isMeaningful

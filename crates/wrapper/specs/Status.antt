@@ -4,7 +4,7 @@ use mathlib.Core.Bool.{cond}
 use mathlib.Core.List.{List}
 use lib.Dec.{leb}
 use lib.ListN.{replicate}
-use Rattle.fields.specs.Field.{Field, littleEndian, put}
+use Rattle.fields.specs.Field.{Field, littleEndian, oneByte, put}
 use Rattle.wrapper.specs.declared.status.CommandStatus.{CommandStatus}
 use Rattle.wrapper.specs.declared.status.CommandStatus.the-variants.{Passed, Failed, PhaseError}
 use Rattle.wrapper.specs.declared.status.StatusByte.{StatusByte}
@@ -22,7 +22,7 @@ abbrev pub dCSWDataResidue : Field
 dCSWDataResidue = littleEndian 8 4
 
 abbrev pub bCSWStatus : Field
-bCSWStatus = littleEndian 12 1
+bCSWStatus = oneByte 12
 
 -- "`CommandStatus`, as in BOT: 0 passed, 1 failed, 2 phase error." (BOT table 5.3)
 abbrev pub statusNumber : CommandStatus → ℕ

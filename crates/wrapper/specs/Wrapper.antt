@@ -5,7 +5,7 @@ use mathlib.Core.Bool.{Bool, true, false, cond, _&&_}
 use mathlib.Core.List.{List}
 use lib.Dec.{eqb, leb}
 use lib.ListN.{length, replicate}
-use Rattle.fields.specs.Field.{Field, Bits, littleEndian, bits, bytesAt, get, getBits}
+use Rattle.fields.specs.Field.{Field, Bits, littleEndian, oneByte, bits, bytesAt, get, getBits}
 use Rattle.wrapper.specs.declared.DataDirection.{DataDirection}
 use Rattle.wrapper.specs.declared.DataDirection.the-variants.{Out, In, NotExpected}
 use Rattle.wrapper.specs.declared.Wrapper.{Wrapper}
@@ -30,7 +30,7 @@ abbrev pub bCBWLUN : Bits
 bCBWLUN = bits 13 0 4
 
 abbrev pub bCBWCBLength : Field
-bCBWCBLength = littleEndian 14 1
+bCBWCBLength = oneByte 14
 
 abbrev pub CBWCB : Field
 CBWCB = littleEndian 15 16

@@ -5,6 +5,7 @@ pub mod status;
 pub mod verdict;
 
 use fields::bits_of;
+use fields::byte;
 use fields::le32;
 ghost use mathlib.Core.Path.{_≡_};
 ghost use lib.ListN.{length};
@@ -56,7 +57,7 @@ pub fn valid(message: &[u8]) -> bool
     ensures { λ r. ⌜ r ≡ isValid (now (message .entry)) ⌝ }
 {
     if signed(message) {
-        return block_fits(message[14]);
+        return block_fits(byte(message, 14));
     }
     false
 }
@@ -111,7 +112,7 @@ fn read_wrapper(m: &[u8]) -> Wrapper
         length: length,
         direction: direction,
         lun: bits_of(m, 13, 0, 4),
-        blocklength: m[14],
+        blocklength: byte(m, 14),
         block: block,
     }
 }

@@ -1,5 +1,6 @@
 // BOT's verdict on one received message, added to what the Rust has.
 use fields::bits_of;
+use fields::byte;
 ghost use mathlib.Core.Path.{_≡_};
 ghost use lib.ListN.{length};
 ghost use Rattle.wrapper.specs.Verdict.{isMeaningful, verdictOf};
@@ -15,7 +16,7 @@ fn meaningful(message: &[u8], maxlun: u8) -> bool
     ensures { λ r. ⌜ r ≡ isMeaningful maxlun (now (message .entry)) ⌝ }
 {
     if bits_of(message, 13, 0, 4) <= maxlun {
-        return crate::block_fits(message[14]);
+        return crate::block_fits(byte(message, 14));
     }
     false
 }

@@ -1,5 +1,5 @@
 -- `fields::be16` meets its contract: two fields of one byte side by side. Assumes nothing.
-use Rattle.fields.proofs.Field.{big-doubled, one-byte}
+use Rattle.fields.proofs.Field.{big-doubled, one-order}
 use borrow.Author.Needs.{needs}
 use Rattle.fields.proofs.be16.Statement.{statement}
 use Rattle.fields.proofs.be16.Tie as tie
@@ -26,7 +26,7 @@ add-result : tie.Need-add-result
 add-result c = search needs
 
 returns : tie.Need-returns
-returns c = big-doubled _ _ 1 (search needs) (one-byte _ _ _ (search needs) (search needs)) (one-byte _ _ _ (search needs) (search needs))
+returns c = big-doubled _ _ 1 (search needs) (one-order _ _ (search needs) (search needs)) (one-order _ _ (search needs) (search needs))
 
 pub be16-spec : {M : Type 1} → statement M
 be16-spec = tie.close (tie.spec byte-requires cast-high add-byte byte-requires-2 cast-low mul-result add-result returns)

@@ -1,5 +1,5 @@
 -- `fields::le16` meets its contract: two fields of one byte side by side. Assumes nothing.
-use Rattle.fields.proofs.Field.{little-doubled, one-byte}
+use Rattle.fields.proofs.Field.{little-doubled}
 use borrow.Author.Needs.{needs}
 use Rattle.fields.proofs.le16.Statement.{statement}
 use Rattle.fields.proofs.le16.Tie as tie
@@ -26,7 +26,7 @@ add-result : tie.Need-add-result
 add-result c = search needs
 
 returns : tie.Need-returns
-returns c = little-doubled _ _ 1 (search needs) (one-byte _ _ _ (search needs) (search needs)) (one-byte _ _ _ (search needs) (search needs))
+returns c = little-doubled _ _ 1 (search needs) (search needs) (search needs)
 
 pub le16-spec : {M : Type 1} → statement M
 le16-spec = tie.close (tie.spec byte-requires cast-low add-byte byte-requires-2 cast-high mul-result add-result returns)

@@ -1,3 +1,4 @@
+-- `wrapper::read_wrapper` meets its contract. Assumes nothing.
 use borrow.Author.Needs.{needs}
 use Rattle.wrapper.proofs.Laws.{ways}
 use Rattle.wrapper.proofs.read_wrapper.Statement.{statement}
@@ -21,21 +22,11 @@ le32-requires-2 c κs = search needs
 bits-of-requires-2 : tie.Need-bits-of-requires-2
 bits-of-requires-2 c κs = search needs
 
-shared-slice-read-t8 : tie.Need-shared-slice-read-t8
-shared-slice-read-t8 c = search needs
+byte-requires : tie.Need-byte-requires
+byte-requires c κs = search needs
 
 returns : tie.Need-returns
 returns c = search (ways, needs)
 
 pub read-wrapper-spec : {M : Type 1} → statement M
-read-wrapper-spec =
-    tie.close
-    (tie.spec
-    le32-requires
-    bits-of-requires
-    direction-of-requires
-    block-of-requires
-    le32-requires-2
-    bits-of-requires-2
-    shared-slice-read-t8
-    returns)
+read-wrapper-spec = tie.close (tie.spec le32-requires bits-of-requires direction-of-requires block-of-requires le32-requires-2 bits-of-requires-2 byte-requires returns)

@@ -1,3 +1,4 @@
+-- `wrapper::valid` meets its contract. Assumes nothing.
 use borrow.Author.Needs.{needs}
 use Rattle.wrapper.proofs.Laws.{ways}
 use Rattle.wrapper.proofs.valid.Statement.{statement}
@@ -6,8 +7,8 @@ use Rattle.wrapper.proofs.valid.Tie as tie
 signed-requires : tie.Need-signed-requires
 signed-requires c κs = search needs
 
-shared-slice-read-block-fits : tie.Need-shared-slice-read-block-fits
-shared-slice-read-block-fits c = search (ways, needs)
+byte-requires : tie.Need-byte-requires
+byte-requires c κs = search (ways, needs)
 
 block-fits-requires : tie.Need-block-fits-requires
 block-fits-requires c κs = search needs
@@ -19,6 +20,4 @@ returns-2 : tie.Need-returns-2
 returns-2 c = search (ways, needs)
 
 pub valid-spec : {M : Type 1} → statement M
-valid-spec =
-    tie.close
-    (tie.spec signed-requires shared-slice-read-block-fits block-fits-requires returns returns-2)
+valid-spec = tie.close (tie.spec signed-requires byte-requires block-fits-requires returns returns-2)

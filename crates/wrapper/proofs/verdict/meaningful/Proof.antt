@@ -1,3 +1,4 @@
+-- `wrapper::verdict::meaningful` meets its contract. Assumes nothing.
 use borrow.Author.Needs.{needs}
 use Rattle.wrapper.proofs.Laws.{ways}
 use Rattle.wrapper.proofs.verdict.meaningful.Statement.{statement}
@@ -6,8 +7,8 @@ use Rattle.wrapper.proofs.verdict.meaningful.Tie as tie
 bits-of-requires : tie.Need-bits-of-requires
 bits-of-requires c κs = search needs
 
-shared-slice-read-block-fits : tie.Need-shared-slice-read-block-fits
-shared-slice-read-block-fits c = search needs
+byte-requires : tie.Need-byte-requires
+byte-requires c κs = search needs
 
 block-fits-requires : tie.Need-block-fits-requires
 block-fits-requires c κs = search needs
@@ -19,6 +20,4 @@ returns-2 : tie.Need-returns-2
 returns-2 c = search (ways, needs)
 
 pub meaningful-spec : {M : Type 1} → statement M
-meaningful-spec =
-    tie.close
-    (tie.spec bits-of-requires shared-slice-read-block-fits block-fits-requires returns returns-2)
+meaningful-spec = tie.close (tie.spec bits-of-requires byte-requires block-fits-requires returns returns-2)

@@ -1,0 +1,14 @@
+-- `fields::byte` meets its contract. Assumes nothing.
+use borrow.Author.Needs.{needs}
+use Rattle.fields.proofs.Field.{byte-read}
+use Rattle.fields.proofs.byte.Statement.{statement}
+use Rattle.fields.proofs.byte.Tie as tie
+
+shared-slice-read-result : tie.Need-shared-slice-read-result
+shared-slice-read-result c = search needs
+
+returns : tie.Need-returns
+returns c = byte-read _ _ (search needs)
+
+pub byte-spec : {M : Type 1} → statement M
+byte-spec = tie.close (tie.spec shared-slice-read-result returns)

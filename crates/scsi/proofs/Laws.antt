@@ -1,0 +1,149 @@
+-- Laws of the decoder, and what each way through a function owes (`ways`).
+--     here, past              the table's rule at one row: the row has the opcode and decides, or those behind it do
+--     missing                 an opcode in no row
+--     listed-known            a block of a listed opcode and length never decodes to Unknown
+--     unlisted-unknown        any other always does, with its opcode
+-- Assumes nothing.
+use mathlib.Core.Path.{_≡_, refl, sym, ap, _∙_}
+use mathlib.Core.Bool.{Bool, true, false, cond, not, _&&_, _||_}
+use mathlib.Core.List.{List, [], _∷_, map}
+use Prim.Native.Nat.{ℕ, zero, suc, _+_, _≤_, _<_}
+use native.Mathlib.Numerals.{add-one}
+use native.Mathlib.Omega.{arith}
+use lib.Dec.{eqb, leb}
+use lib.ListN.{length, getD, drop, List·getD-map}
+use lib.Seq.{drop-cons}
+use borrow.Author.Tests.{eq-eqb, ne-eqb, not-true}
+use Rattle.fields.specs.Field.{Bits, bits, getBits}
+use Rattle.fields.proofs.Bools.{and-left, and-right}
+use Rattle.scsi.specs.declared.PageControl.{PageControl}
+use Rattle.scsi.specs.declared.PageControl.the-variants.{CurrentValues, ChangeableValues, DefaultValues, SavedValues}
+use Rattle.scsi.specs.declared.ScsiCommand.{ScsiCommand}
+use Rattle.scsi.specs.declared.ScsiCommand.the-variants.{Unknown}
+use Rattle.scsi.specs.declared.table.Row.{Row}
+use Rattle.scsi.specs.Commands.{flag, pageControl}
+use Rattle.scsi.specs.Decoding.{Layout, rows, opcodeOf, lists, counts, isListed, fieldsBy, isUnknown, Outcome, decoded, decodeCall}
+
+-- ---- the table, in the code's form
+
+abbrev rowOf : Layout → Row
+rowOf r = record { opcode = r .opcode; shortest = r .shortest }
+
+abbrev noLayout : Layout
+noLayout = record { opcode = 0; shortest = 0; fields = λ b. Unknown 0 }
+
+abbrev pub noRow : Row
+noRow = record { opcode = 0; shortest = 0 }
+
+-- row i of a table
+abbrev pub rowAt : List Layout → ℕ → Row
+rowAt rs i = getD (map rowOf rs) i noRow
+
+-- what a table lists from row i on: what row i says of the opcode, or else the rows behind it
+at-row : (rs : List Layout) (op n i : ℕ) → i < length rs
+    → lists (drop i rs) op n ≡ cond (eqb (rowAt rs i .opcode) op) (leb (rowAt rs i .shortest) n) (lists (drop (i + 1) rs) op n)
+unfolding lists
+at-row rs op n i h = rw (add-one, List·getD-map rowOf rs i noLayout, drop-cons rs i noLayout)
+
+pub here : (rs : List Layout) (op n i : ℕ) → i < length rs → rowAt rs i .opcode ≡ op → leb (rowAt rs i .shortest) n ≡ lists (drop i rs) op n
+here rs op n i h e = sym (at-row rs op n i h ∙ simp (eq-eqb _ _ e))
+
+pub past : (rs : List Layout) (op n i : ℕ) → i < length rs → (rowAt rs i .opcode ≡ op → ⊥) → lists (drop (i + 1) rs) op n ≡ lists (drop i rs) op n
+past rs op n i h k = sym (at-row rs op n i h ∙ simp (ne-eqb _ _ k))
+
+-- no row has the opcode, as a `match` leaves it behind its last arm: beside A, of each row in turn
+abbrev pub Missing : Type 0 → List Layout → ℕ → Type 0
+Missing A [] op = A
+Missing A (r ∷ rs) op = Missing (A × (op ≡ r .opcode → ⊥)) rs op
+
+before : (A : Type 0) (rs : List Layout) (op : ℕ) → Missing A rs op → A
+before A [] op m = m
+before A (r ∷ rs) op m = before (A × (op ≡ r .opcode → ⊥)) rs op m .0
+
+pub missing : (A : Type 0) (rs : List Layout) (op : ℕ) (b : List ℕ) → Missing A rs op → Unknown op ≡ fieldsBy rs op b
+unfolding fieldsBy
+missing A [] op b m = refl
+missing A (r ∷ rs) op b m =
+    let B = A × (op ≡ r .opcode → ⊥) in
+    rw (ne-eqb (r .opcode) op (λ e. before B rs op m .1 (sym e))) (missing B rs op b m)
+
+-- ---- a listed block is known, and no other
+
+-- no row of a table reads Unknown
+allKnown : List Layout → List ℕ → Bool
+allKnown [] b = true
+allKnown (r ∷ rs) b = not (isUnknown (r .fields b)) && allKnown rs b
+
+known-by : (rs : List Layout) (op n : ℕ) (b : List ℕ) → allKnown rs b ≡ true → lists rs op n ≡ true → isUnknown (fieldsBy rs op b) ≡ false
+unfolding allKnown lists fieldsBy
+known-by [] op n b k e = sym e
+known-by (r ∷ rs) op n b k e =
+    picked (eqb (r .opcode) op) e (known-by rs op n b (and-right (not (isUnknown (r .fields b))) (allKnown rs b) k))
+  where
+    picked : (h : Bool) → cond h (leb (r .shortest) n) (lists rs op n) ≡ true
+        → (lists rs op n ≡ true → isUnknown (fieldsBy rs op b) ≡ false) → isUnknown (cond h (r .fields b) (fieldsBy rs op b)) ≡ false
+    picked true e behind = not-true _ (and-left (not (isUnknown (r .fields b))) (allKnown rs b) k)
+    picked false e behind = behind e
+
+rows-known : (b : List ℕ) → allKnown rows b ≡ true
+unfolding allKnown
+rows-known b = refl
+
+pub listed-lists : (e : Bool) (op n : ℕ) {r : Bool} → r ≡ isListed e op n → r ≡ true → lists rows op n ≡ true
+unfolding isListed
+listed-lists e op n er h = and-right (counts e op) (lists rows op n) (sym er ∙ h)
+
+pub listed-known : (e : Bool) (b : List ℕ) → isListed e (opcodeOf b) (length b) ≡ true → isUnknown (decoded e b) ≡ false
+unfolding decoded
+listed-known e b h = rw h (known-by rows (opcodeOf b) (length b) b (rows-known b) (listed-lists e (opcodeOf b) (length b) refl h))
+
+pub unlisted-unknown : (e : Bool) (b : List ℕ) → isListed e (opcodeOf b) (length b) ≡ false → decoded e b ≡ Unknown (opcodeOf b)
+unfolding decoded
+unlisted-unknown e b h = rw h
+
+-- ---- ways
+
+pub set-by : (b : List ℕ) (at bit : ℕ) {x : ℕ} → x ≡ getBits (bits at bit 1) b → eqb x 1 ≡ flag at bit b
+unfolding flag
+set-by b at bit e = rw e
+
+pub control-by : (b : List ℕ) (f : Bits) {x : ℕ} {p : PageControl} → x ≡ getBits f b → p ≡ pageControl x → p ≡ pageControl (getBits f b)
+control-by b f ex ep = rw (← ex) ep
+
+pub control-other : (n : ℕ) → (n ≡ 1 → ⊥) → (n ≡ 2 → ⊥) → (n ≡ 3 → ⊥) → CurrentValues ≡ pageControl n
+unfolding pageControl
+control-other zero a b c = refl
+control-other (suc zero) a b c = absurd (a refl)
+control-other (suc (suc zero)) a b c = absurd (b refl)
+control-other (suc (suc (suc zero))) a b c = absurd (c refl)
+control-other (suc (suc (suc (suc n)))) a b c = refl
+
+pub counts-told : (e : Bool) (op : ℕ) → e ≡ true → true ≡ counts e op
+unfolding counts
+counts-told e op h = rw h
+
+pub listed-by : (e : Bool) (op n : ℕ) {c r : Bool} → c ≡ counts e op → c ≡ true → r ≡ lists rows op n → r ≡ isListed e op n
+unfolding isListed
+listed-by e op n ec h er = rw (sym ec ∙ h) er
+
+pub listed-not : (e : Bool) (op n : ℕ) {c : Bool} → c ≡ counts e op → c ≡ false → false ≡ isListed e op n
+unfolding isListed
+listed-not e op n ec h = rw (sym ec ∙ h)
+
+pub decodes : (e : Bool) (b : List ℕ) {op : ℕ} {r : Bool} {c : ScsiCommand} → op ≡ opcodeOf b → r ≡ isListed e op (length b) → r ≡ true → c ≡ fieldsBy rows op b → c ≡ decoded e b
+unfolding decoded
+decodes e b eo er h ec = rw (← eo, sym er ∙ h) ec
+
+pub decodes-not : (e : Bool) (b : List ℕ) {op : ℕ} {r : Bool} → op ≡ opcodeOf b → r ≡ isListed e op (length b) → r ≡ false → Unknown op ≡ decoded e b
+unfolding decoded
+decodes-not e b eo er h = rw (← eo, sym er ∙ h)
+
+pub empty : (e : Bool) (b : List ℕ) → length b ≡ 0 → _≡_ {A = Outcome} (record { number = 13; commands = [] }) (decodeCall e b)
+unfolding decodeCall
+empty e b h = rw (eq-eqb _ _ h)
+
+pub filled : (e : Bool) (b : List ℕ) {c : ScsiCommand} → (length b ≡ 0 → ⊥) → c ≡ decoded e b → _≡_ {A = Outcome} (record { number = 0; commands = c ∷ [] }) (decodeCall e b)
+unfolding decodeCall
+filled e b n ec = rw (ne-eqb _ _ n, ec)
+
+pub ruleset ways = (set-by, control-by, counts-told, listed-lists, listed-by, listed-not, decodes, decodes-not, empty, filled)

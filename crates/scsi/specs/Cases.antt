@@ -1,0 +1,65 @@
+-- Document 01's cases of decoding: one table, and one statement, which antt computes. Assumes nothing.
+use mathlib.Core.Path.{refl}
+use mathlib.Core.Bool.{true, false}
+use mathlib.Core.List.{List, [], _∷_, _++_}
+use Prim.Native.Nat.{ℕ}
+use lib.ListN.{replicate}
+use Rattle.fields.specs.Field.{bytesAt, counted, ordered, get, getBits}
+use Rattle.fields.specs.Case.{Case, case, AllHold}
+use Rattle.scsi.specs.declared.PageControl.the-variants.{DefaultValues, SavedValues}
+use Rattle.scsi.specs.declared.ScsiCommand.{ScsiCommand}
+use Rattle.scsi.specs.declared.ScsiCommand.the-variants.{Unknown, Inquiry, TestUnitReady, RequestSense, ModeSense6, ModeSense10, ReadCapacity10, ReadCapacity16, Read, Write, ReadFormatCapacities}
+use Rattle.scsi.specs.Commands.{flag, pageControl}
+use Rattle.scsi.specs.Decoding.{Outcome, lists, counts, isListed, fieldsBy, decoded, decodeCall}
+
+-- a block and the command that it decodes to, with extended addressing off; and on
+plain : List ℕ → ScsiCommand → Case
+plain b c = case (decodeCall false b) (record { number = 0; commands = c ∷ [] })
+
+extended : List ℕ → ScsiCommand → Case
+extended b c = case (decodeCall true b) (record { number = 0; commands = c ∷ [] })
+
+-- "(starred ones are proved)": those of 01 that concern this crate
+pub starred : List Case
+starred =
+    -- "12 01 80 00 FF: EVPD, page 128, allocation 255*"
+    plain (0x12 ∷ 0x01 ∷ 0x80 ∷ 0x00 ∷ 0xFF ∷ []) (Inquiry true 128 255)
+    -- "28 00 00 00 01 00 00 00 08: address 256, 8 blocks*"
+    ∷ plain (0x28 ∷ 0 ∷ 0 ∷ 0 ∷ 1 ∷ 0 ∷ 0 ∷ 0 ∷ 8 ∷ []) (Read 256 8)
+    -- "1A 08 BF 00 C0: DBD, defaults, page 63, 192*"
+    ∷ plain (0x1A ∷ 0x08 ∷ 0xBF ∷ 0x00 ∷ 0xC0 ∷ []) (ModeSense6 true DefaultValues 63 0 192)
+    ∷ []
+
+-- and ours: each row at its shortest length, with bytes that tell each field's place and order, and a byte less
+pub ours : List Case
+ours =
+    -- "four bytes: Unknown"
+    plain (0x12 ∷ 0x01 ∷ 0x80 ∷ 0x00 ∷ []) (Unknown 0x12)
+    ∷ plain (0x00 ∷ []) TestUnitReady
+    ∷ plain (0x03 ∷ 0x01 ∷ 2 ∷ 3 ∷ 4 ∷ []) (RequestSense true 4)
+    ∷ plain (0x03 ∷ 0xFE ∷ 2 ∷ 3 ∷ []) (Unknown 0x03)
+    ∷ plain (0x23 ∷ 1 ∷ 2 ∷ 3 ∷ 4 ∷ 5 ∷ 6 ∷ 1 ∷ 2 ∷ []) (ReadFormatCapacities 258)
+    ∷ plain (0x25 ∷ []) ReadCapacity10
+    ∷ plain (0x2A ∷ 1 ∷ 0 ∷ 0 ∷ 1 ∷ 2 ∷ 6 ∷ 1 ∷ 2 ∷ []) (Write 258 258)
+    ∷ plain (0x2A ∷ replicate 7 0) (Unknown 0x2A)
+    ∷ plain (0x5A ∷ 0xF7 ∷ 0xFF ∷ 3 ∷ 4 ∷ 5 ∷ 6 ∷ 1 ∷ 2 ∷ []) (ModeSense10 false SavedValues 63 3 258)
+    ∷ plain (0x9E ∷ replicate 9 0xFF ++ (0 ∷ 0 ∷ 1 ∷ 2 ∷ [])) (ReadCapacity16 258)
+    ∷ plain (0x9E ∷ replicate 12 0) (Unknown 0x9E)
+    -- a block beyond 16 bytes
+    ∷ plain (0x12 ∷ 0xFE ∷ 0x7F ∷ 1 ∷ 2 ∷ replicate 20 0xFF) (Inquiry false 127 258)
+    -- 88 and 8A, told that they count, and not
+    ∷ extended (0x88 ∷ 1 ∷ 0 ∷ 0 ∷ 0 ∷ 1 ∷ 0 ∷ 0 ∷ 0 ∷ 2 ∷ 0 ∷ 0 ∷ 1 ∷ 2 ∷ []) (Read 0x100000002 258)
+    ∷ extended (0x8A ∷ replicate 13 0) (Write 0 0)
+    ∷ extended (0x8A ∷ replicate 12 0) (Unknown 0x8A)
+    ∷ plain (0x88 ∷ replicate 15 0) (Unknown 0x88)
+    ∷ plain (0x8A ∷ replicate 15 0) (Unknown 0x8A)
+    -- an opcode in no row, at any length
+    ∷ plain (0x01 ∷ replicate 15 0) (Unknown 0x01)
+    -- an empty block
+    ∷ case (decodeCall false []) (record { number = 13; commands = [] })
+    ∷ case (decodeCall true []) (record { number = 13; commands = [] })
+    ∷ []
+
+pub cases : AllHold (starred ++ ours)
+unfolding starred ours plain extended bytesAt counted ordered get getBits flag pageControl lists counts isListed fieldsBy decoded decodeCall
+cases = refl

@@ -1,0 +1,93 @@
+-- Document 01, section Decoding: the table, and what a block decodes to. Assumes nothing: these are definitions.
+use Prim.Native.Nat.{ℕ}
+use mathlib.Core.Bool.{Bool, true, false, cond, not, _&&_, _||_}
+use mathlib.Core.List.{List, [], _∷_}
+use lib.Dec.{eqb, leb}
+use lib.ListN.{length}
+use Rattle.fields.specs.Field.{oneByte, get}
+use Rattle.scsi.specs.declared.Decoded.{Decoded}
+use Rattle.scsi.specs.declared.Decoded.the-variants.{Command, Empty}
+use Rattle.scsi.specs.declared.ScsiCommand.{ScsiCommand}
+use Rattle.scsi.specs.declared.ScsiCommand.the-variants.{Unknown, Inquiry, TestUnitReady, RequestSense, ModeSense6, ModeSense10, ReadCapacity10, ReadCapacity16, Read, Write, ReadFormatCapacities}
+use Rattle.scsi.specs.Commands.{testUnitReady, requestSense, inquiry, modeSense6, modeSense10, readCapacity10, readCapacity16, read10, write10, read16, write16, readFormatCapacities}
+
+-- a row of the table: an opcode, its shortest block, and the fields of its command
+pub record Layout : Type 0 where
+  pub opcode : ℕ
+  pub shortest : ℕ
+  pub fields : List ℕ → ScsiCommand
+
+abbrev row : ℕ → ℕ → (List ℕ → ScsiCommand) → Layout
+row o n f = record { opcode = o; shortest = n; fields = f }
+
+-- "Opcode and shortest block length stand in a constant table"
+abbrev pub rows : List Layout
+rows =
+    row 0x00 1 testUnitReady
+    ∷ row 0x03 5 requestSense
+    ∷ row 0x12 5 inquiry
+    ∷ row 0x1A 5 modeSense6
+    ∷ row 0x23 9 readFormatCapacities
+    ∷ row 0x25 1 readCapacity10
+    ∷ row 0x28 9 read10
+    ∷ row 0x2A 9 write10
+    ∷ row 0x5A 9 modeSense10
+    ∷ row 0x88 14 read16
+    ∷ row 0x8A 14 write16
+    ∷ row 0x9E 14 readCapacity16
+    ∷ []
+
+-- the first byte of a block
+abbrev pub opcodeOf : List ℕ → ℕ
+opcodeOf b = get (oneByte 0) b
+
+-- whether a table lists an opcode with a block of n bytes
+unfoldable pub lists : List Layout → ℕ → ℕ → Bool
+lists [] opcode n = false
+lists (r ∷ rs) opcode n = cond (eqb (r .opcode) opcode) (leb (r .shortest) n) (lists rs opcode n)
+
+-- "88 and 8A count only with extended addressing"
+unfoldable pub counts : Bool → ℕ → Bool
+counts extended opcode = extended || not (eqb opcode 0x88 || eqb opcode 0x8A)
+
+unfoldable pub isListed : Bool → ℕ → ℕ → Bool
+isListed extended opcode n = counts extended opcode && lists rows opcode n
+
+-- the fields by the row of the opcode
+unfoldable pub fieldsBy : List Layout → ℕ → List ℕ → ScsiCommand
+fieldsBy [] opcode b = Unknown opcode
+fieldsBy (r ∷ rs) opcode b = cond (eqb (r .opcode) opcode) (r .fields b) (fieldsBy rs opcode b)
+
+-- "Anything else, or shorter, is Unknown with its opcode."
+unfoldable pub decoded : Bool → List ℕ → ScsiCommand
+decoded extended b = cond (isListed extended (opcodeOf b) (length b)) (fieldsBy rows (opcodeOf b) b) (Unknown (opcodeOf b))
+
+-- whether a command is Unknown
+abbrev pub isUnknown : ScsiCommand → Bool
+isUnknown (Unknown cmd) = true
+isUnknown (Inquiry evpd page allocation) = false
+isUnknown TestUnitReady = false
+isUnknown (RequestSense desc allocation) = false
+isUnknown (ModeSense6 dbd control page subpage allocation) = false
+isUnknown (ModeSense10 dbd control page subpage allocation) = false
+isUnknown ReadCapacity10 = false
+isUnknown (ReadCapacity16 allocation) = false
+isUnknown (Read address blocks) = false
+isUnknown (Write address blocks) = false
+isUnknown (ReadFormatCapacities allocation) = false
+
+-- 01's number of a decoding, and the command where there is one
+pub record Outcome : Type 0 where
+  pub number : ℕ
+  pub commands : List ScsiCommand
+
+abbrev outcome : ℕ → List ScsiCommand → Outcome
+outcome n c = record { number = n; commands = c }
+
+abbrev pub told : Decoded → Outcome
+told (Command c) = outcome 0 (c ∷ [])
+told Empty = outcome 13 []
+
+-- 13: "decoding an empty block"
+unfoldable pub decodeCall : Bool → List ℕ → Outcome
+decodeCall extended b = cond (eqb (length b) 0) (outcome 13 []) (outcome 0 (decoded extended b ∷ []))

@@ -1,0 +1,102 @@
+// The SCSI decoder of document 01, after scsi.rs. It takes a block of any bytes and any length.
+//     table       which opcodes are listed, with how long a block
+//     commands    the fields of each listed command
+mod commands;
+mod table;
+
+use crate::commands::read_fields;
+use crate::table::listed;
+use fields::byte;
+ghost use mathlib.Core.Path.{_≡_};
+ghost use mathlib.Core.Bool.{false};
+ghost use Prim.Native.Nat.{_≤_};
+ghost use lib.ListN.{length};
+ghost use Rattle.scsi.specs.Decoding.{told, decodeCall, decoded};
+
+pub enum PageControl {
+    CurrentValues,
+    ChangeableValues,
+    DefaultValues,
+    SavedValues,
+}
+
+pub enum ScsiCommand {
+    Unknown {
+        cmd: u8,
+    },
+    Inquiry {
+        evpd: bool,
+        page_code: u8,
+        alloc_len: u16,
+    },
+    TestUnitReady,
+    RequestSense {
+        desc: bool,
+        alloc_len: u8,
+    },
+    ModeSense6 {
+        dbd: bool,
+        page_control: PageControl,
+        page_code: u8,
+        subpage_code: u8,
+        alloc_len: u8,
+    },
+    ModeSense10 {
+        dbd: bool,
+        page_control: PageControl,
+        page_code: u8,
+        subpage_code: u8,
+        alloc_len: u16,
+    },
+    ReadCapacity10,
+    ReadCapacity16 {
+        alloc_len: u32,
+    },
+    Read {
+        lba: u64,
+        len: u32,
+    },
+    Write {
+        lba: u64,
+        len: u32,
+    },
+    ReadFormatCapacities {
+        alloc_len: u16,
+    },
+}
+
+pub enum Decoded {
+    Command(ScsiCommand),
+    // The block has no byte, and so no opcode.
+    Empty,
+}
+
+// What a block with an opcode decodes to.
+fn command(block: &[u8], extended: bool) -> ScsiCommand
+    requires { ⌜ 1 ≤ length (now block) ⌝ }
+    ensures { λ r. ⌜ r ≡ decoded extended (now (block .entry)) ⌝ }
+{
+    let opcode = byte(block, 0);
+    if listed(opcode, block.len(), extended) {
+        return read_fields(block, opcode);
+    }
+    ScsiCommand::Unknown { cmd: opcode }
+}
+
+// The entry that is told whether extended addressing is on: whether 88 and 8A count.
+pub fn decode_told(block: &[u8], extended: bool) -> Decoded
+    ensures { λ r. ⌜ told r ≡ decodeCall extended (now (block .entry)) ⌝ }
+{
+    if block.len() == 0 {
+        return Decoded::Empty;
+    }
+    let c = command(block, extended);
+    Decoded::Command(c)
+}
+
+// The plain entry: extended addressing is off.
+pub fn decode(block: &[u8]) -> Decoded
+    ensures { λ r. ⌜ told r ≡ decodeCall false (now (block .entry)) ⌝ }
+{
+    decode_told(block, false)
+}

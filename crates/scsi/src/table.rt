@@ -1,0 +1,97 @@
+// The constant table of opcodes and shortest block lengths.
+ghost use mathlib.Core.Path.{_≡_};
+ghost use Rattle.scsi.specs.Decoding.{rows, lists, counts, isListed};
+
+pub(crate) struct Row {
+    opcode: u8,
+    shortest: u8,
+}
+
+const ROWS: [Row; 12] = [
+    Row {
+        opcode: 0x00,
+        shortest: 1,
+    },
+    Row {
+        opcode: 0x03,
+        shortest: 5,
+    },
+    Row {
+        opcode: 0x12,
+        shortest: 5,
+    },
+    Row {
+        opcode: 0x1A,
+        shortest: 5,
+    },
+    Row {
+        opcode: 0x23,
+        shortest: 9,
+    },
+    Row {
+        opcode: 0x25,
+        shortest: 1,
+    },
+    Row {
+        opcode: 0x28,
+        shortest: 9,
+    },
+    Row {
+        opcode: 0x2A,
+        shortest: 9,
+    },
+    Row {
+        opcode: 0x5A,
+        shortest: 9,
+    },
+    Row {
+        opcode: 0x88,
+        shortest: 14,
+    },
+    Row {
+        opcode: 0x8A,
+        shortest: 14,
+    },
+    Row {
+        opcode: 0x9E,
+        shortest: 14,
+    },
+];
+
+// Whether a row has the opcode, and a block of n bytes is not shorter than it says.
+fn in_table(opcode: u8, n: usize) -> bool
+    ensures { λ r. ⌜ r ≡ lists rows opcode n ⌝ }
+{
+    let mut i: usize = 0;
+    while i < 12 {
+        let row = ROWS[i];
+        if row.opcode == opcode {
+            return row.shortest as usize <= n;
+        }
+        i += 1;
+    }
+    false
+}
+
+// 88 and 8A count only with extended addressing.
+fn opcode_counts(opcode: u8, extended: bool) -> bool
+    ensures { λ r. ⌜ r ≡ counts extended opcode ⌝ }
+{
+    if extended {
+        return true;
+    }
+    if opcode == 0x88 {
+        return false;
+    }
+    opcode != 0x8A
+}
+
+// Whether a block of n bytes with this opcode is one of the listed commands.
+pub(crate) fn listed(opcode: u8, n: usize, extended: bool) -> bool
+    ensures { λ r. ⌜ r ≡ isListed extended opcode n ⌝ }
+{
+    if opcode_counts(opcode, extended) {
+        return in_table(opcode, n);
+    }
+    false
+}
