@@ -87,7 +87,7 @@ static void print_hex(const uint8_t *s, size_t n) {
     putchar('\n');
 }
 
-/* By kind: the command's name and those of its fields. */
+/* By kind: the command's name and those of its fields. Where there is no name the number has to be 0. */
 static const char *const words[][COMMAND] = {
     {"Unknown", "opcode"},
     {"Inquiry", "evpd", "page", "allocation"},
@@ -137,8 +137,8 @@ static void print_command(uint32_t answer) {
     for (size_t i = 1; i < COMMAND; i++) {
         if (word[i])
             printf(" %s %lu", word[i], command[i]);
-        else
-            require(command[i] == 0, "a field that the command does not have is not 0");
+        else if (command[i] != 0)
+            printf(" unused %lu", command[i]);
     }
     putchar('\n');
 }
@@ -158,7 +158,8 @@ static void parse(void) {
     }
     require(answer == 1, "there is no such answer to a message");
     require(fields[2] < 3, "there is no such direction");
-    printf("tag %u length %u direction %s lun %u block %u ", fields[0], fields[1], directions[fields[2]], fields[3], fields[4]);
+    printf("tag %u length %u direction %s ", fields[0], fields[1], directions[fields[2]]);
+    printf("lun %u block %u ", fields[3], fields[4]);
     print_hex(lent.block, BLOCK);
 }
 
@@ -180,11 +181,11 @@ static void verdict(void) {
 static unsigned refused;
 
 static void refusal(const char *what, uint32_t answer, uint32_t due) {
-    require_kept(what);
     if (answer != due) {
         printf("%s: the answer is %u and should be %u\n", what, answer, due);
         exit(1);
     }
+    require_kept(what);
     refused++;
 }
 
@@ -192,32 +193,39 @@ static void refuses_message(const char *what, const uint8_t *message, size_t n) 
     refusal(what, wrapper_parse(message, n, lent.fields, FIELDS, lent.block, BLOCK), 0);
 }
 
+/* Three lengths that are not the right one. */
+static size_t wrong(size_t right, size_t which) { return (size_t[]){0, right - 1, right + 1}[which]; }
+
 static void refusals(void) {
-    static const uint8_t block[] = {0x12, 1, 0x80, 0, 0xFF};
+    static const uint8_t inquiry[] = {0x12, 1, 0x80, 0, 0xFF};
     static const uint8_t wrapper[WRAPPER + 1] = {'U', 'S', 'B', 'C', [14] = 6};
     static const uint8_t other_signature[WRAPPER] = {'U', 'S', 'B', 'S', [14] = 6};
     static const uint8_t block_length_0[WRAPPER] = {'U', 'S', 'B', 'C', [14] = 0};
     static const uint8_t block_length_17[WRAPPER] = {'U', 'S', 'B', 'C', [14] = 17};
+    uint32_t answer;
     lend();
 
     for (size_t i = 0; i < 3; i++) {
-        size_t command = (size_t[]){0, COMMAND - 1, COMMAND + 1}[i], fields = (size_t[]){0, FIELDS - 1, FIELDS + 1}[i];
-        size_t kept = (size_t[]){0, BLOCK - 1, BLOCK + 1}[i], out = (size_t[]){0, STATUS - 1, STATUS + 1}[i];
-        size_t message = (size_t[]){0, WRAPPER - 1, WRAPPER + 1}[i];
-        refusal("decode, command too short or long", scsi_decode(block, 5, lent.command, command), 10);
-        refusal("told off, command too short or long", scsi_decode_told(block, 5, 0, lent.command, command), 10);
-        refusal("extended, command too short or long", scsi_decode_told(block, 5, 1, lent.command, command), 10);
-        refusal("parse, fields too short or long", wrapper_parse(wrapper, WRAPPER, lent.fields, fields, lent.block, BLOCK), 10);
-        refusal("parse, block too short or long", wrapper_parse(wrapper, WRAPPER, lent.fields, FIELDS, lent.block, kept), 10);
-        refusal("status, too short or long", wrapper_status(1, 512, 500, 0, lent.out, out), 10);
-        refuses_message("parse, message too short or long", wrapper, message);
-        refusal("verdict, message too short or long", wrapper_verdict(wrapper, message, 15), 0);
+        answer = scsi_decode(inquiry, 5, lent.command, wrong(COMMAND, i));
+        refusal("decode, wrong length of the command", answer, 10);
+        answer = scsi_decode_told(inquiry, 5, 0, lent.command, wrong(COMMAND, i));
+        refusal("told off, wrong length of the command", answer, 10);
+        answer = scsi_decode_told(inquiry, 5, 1, lent.command, wrong(COMMAND, i));
+        refusal("extended, wrong length of the command", answer, 10);
+        answer = wrapper_parse(wrapper, WRAPPER, lent.fields, wrong(FIELDS, i), lent.block, BLOCK);
+        refusal("parse, wrong length of the fields", answer, 10);
+        answer = wrapper_parse(wrapper, WRAPPER, lent.fields, FIELDS, lent.block, wrong(BLOCK, i));
+        refusal("parse, wrong length of the block", answer, 10);
+        answer = wrapper_status(1, 512, 500, 0, lent.out, wrong(STATUS, i));
+        refusal("status, wrong length", answer, 10);
+        refuses_message("parse, wrong length of the message", wrapper, wrong(WRAPPER, i));
+        refusal("verdict, wrong length of the message", wrapper_verdict(wrapper, wrong(WRAPPER, i), 15), 0);
     }
-    refusal("decode, empty block", scsi_decode(block, 0, lent.command, COMMAND), 13);
-    refusal("told off, empty block", scsi_decode_told(block, 0, 0, lent.command, COMMAND), 13);
-    refusal("extended, empty block", scsi_decode_told(block, 0, 1, lent.command, COMMAND), 13);
-    refusal("told 2", scsi_decode_told(block, 5, 2, lent.command, COMMAND), 10);
-    refusal("told 2^32 - 1", scsi_decode_told(block, 5, 0xFFFFFFFF, lent.command, COMMAND), 10);
+    refusal("decode, empty block", scsi_decode(inquiry, 0, lent.command, COMMAND), 13);
+    refusal("told off, empty block", scsi_decode_told(inquiry, 0, 0, lent.command, COMMAND), 13);
+    refusal("extended, empty block", scsi_decode_told(inquiry, 0, 1, lent.command, COMMAND), 13);
+    refusal("told 2", scsi_decode_told(inquiry, 5, 2, lent.command, COMMAND), 10);
+    refusal("told 2^32 - 1", scsi_decode_told(inquiry, 5, 0xFFFFFFFF, lent.command, COMMAND), 10);
     refuses_message("parse, another signature", other_signature, WRAPPER);
     refusal("verdict, another signature", wrapper_verdict(other_signature, WRAPPER, 15), 0);
     refuses_message("parse, block length 0", block_length_0, WRAPPER);

@@ -1,11 +1,10 @@
 -- What each way through an exported call owes, once for all calls. Assumes nothing.
-use mathlib.Core.Path.{_≡_, refl, ap, _∙_}
+use mathlib.Core.Path.{_≡_, refl}
 use mathlib.Core.List.{List, [], _∷_}
 use Prim.Native.Nat.{ℕ}
-use native.Mathlib.Omega.{arith}
 use borrow.Author.Tests.{eq-eqb, ne-eqb}
-use lib.ListN.{length, set, drop-of-length-le}
-use lib.Seq.{sets-eq}
+use lib.ListN.{length, set}
+use Rattle.fields.proofs.Seq.{all-stored}
 use Rattle.buffer.specs.declared.Marks.{Marks}
 use Rattle.buffer.specs.declared.Answer.{Answer}
 use Rattle.buffer.specs.declared.Answer.the-variants.{Done, Overflow, Broken}
@@ -15,8 +14,7 @@ use Rattle.bufferhost.specs.Host.{host, numberOf, marksOf, markedBy, sho
 
 -- three stores fill a list of three
 pub three-stored : (l : List ℕ) (a b c : ℕ) → length l ≡ 3 → set (set (set l 0 a) 1 b) 2 c ≡ a ∷ b ∷ c ∷ []
-three-stored l a b c e =
-    sets-eq (a ∷ b ∷ c ∷ []) l 0 (omega arith) ∙ ap (λ (r : List ℕ). a ∷ b ∷ c ∷ r) (drop-of-length-le l {i = 3} (omega arith))
+three-stored l a b c e = all-stored l (a ∷ b ∷ c ∷ []) e
 
 -- an answer, as its caller sees it
 shown-told : (m : Marks) (a : Answer) (b was : List ℕ) → shown was (told m a b) ≡ host (numberOf a) b (marksOf a was)

@@ -1,5 +1,5 @@
 -- Laws of `overlay`, and of any loop that makes one by stores in order.
---     overlay-nothing, length-overlay                   nothing laid over changes nothing; the length stays
+--     overlay-nothing, overlay-whole, length-overlay    nothing laid over changes nothing; what is as long hides all; the length stays
 --     take-overlay, drop-overlay                        the list up to the end of ys, and from there on
 --     overlay-before, overlay-inside, overlay-after     each element: before ys, in ys, behind ys
 --     part-inside, part-before, part-behind             parts: ys itself, and what lies before or behind it
@@ -12,7 +12,7 @@ use Prim.Native.Nat.{ℕ, suc, _+_, _-_, _≤_, _<_, zero-le}
 use native.Mathlib.Nat.{add-zero, add-sub-of-le}
 use native.Mathlib.Numerals.{add-one}
 use native.Mathlib.Omega.{arith}
-use lib.ListN.{length, take, drop, getD, set, length-append, length-drop, length-set, take-append-drop, List·getD-append}
+use lib.ListN.{length, take, drop, getD, set, length-append, length-drop, length-set, take-append-drop, drop-of-length-le, List·getD-append}
 use lib.Seq.{getD-take, getD-drop, getD-append-add, length-take-le, take-all, take-at, drop-at, drop-drop, take-take, take-append-le, take-suc, drop-cons, set-at, append-snoc}
 use Rattle.fields.specs.Overlay.{overlay}
 use Rattle.fields.proofs.Seq.{drop-front}
@@ -20,6 +20,11 @@ use Rattle.fields.proofs.Seq.{drop-front}
 pub overlay-nothing : (d : List ℕ) (at : ℕ) → overlay d at [] ≡ d
 unfolding overlay
 overlay-nothing d at = simp (add-zero, append-nil, take-append-drop)
+
+-- what is as long as d hides it
+pub overlay-whole : (d ys : List ℕ) → length ys ≡ length d → overlay d 0 ys ≡ ys
+unfolding overlay
+overlay-whole d ys e = ap (λ (r : List ℕ). ys ++ r) (drop-of-length-le d {i = 0 + length ys} (omega arith)) ∙ append-nil ys
 
 module _ (d : List ℕ) (at : ℕ) (ys : List ℕ) where
   -- what stands before the rest of d, with ys

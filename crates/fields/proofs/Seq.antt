@@ -1,11 +1,11 @@
 -- Facts about parts of lists that the library lacks. Assumes nothing.
 use mathlib.Core.Path.{_≡_, refl, sym, ap, _∙_}
-use mathlib.Core.List.{List, [], _∷_, reverse, reverseAux}
+use mathlib.Core.List.{List, [], _∷_, _++_, append-nil, reverse, reverseAux}
 use Prim.Native.Nat.{ℕ, zero, suc, _+_, _-_, _≤_}
 use native.Mathlib.Nat.{add-zero, add-sub-of-le}
 use native.Mathlib.Omega.{arith}
-use lib.ListN.{length, take, drop, getD, length-drop}
-use lib.Seq.{length-take-le, take-add, drop-at, drop-cons}
+use lib.ListN.{length, take, drop, getD, length-drop, drop-of-length-le}
+use lib.Seq.{length-take-le, take-add, drop-at, drop-cons, sets, sets-eq}
 
 -- n elements from index f on are n elements, where there are so many
 pub length-part : (f n : ℕ) (l : List ℕ) → f + n ≤ length l → length (take n (drop f l)) ≡ n
@@ -35,3 +35,7 @@ listed l f (suc n) = getD l f 0 ∷ listed l (suc f) n
 pub part-listed : (l : List ℕ) (f n : ℕ) → f + n ≤ length l → take n (drop f l) ≡ listed l f n
 part-listed l f zero h = refl
 part-listed l f (suc n) h = rw (drop-cons l f 0 (omega arith), part-listed l (suc f) n (omega arith))
+
+-- stores at 0, 1, 2 .. fill a list
+pub all-stored : (l vs : List ℕ) → length l ≡ length vs → sets l 0 vs ≡ vs
+all-stored l vs e = sets-eq vs l 0 (omega arith) ∙ ap (λ (r : List ℕ). vs ++ r) (drop-of-length-le l {i = 0 + length vs} (omega arith)) ∙ append-nil vs

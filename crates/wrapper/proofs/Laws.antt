@@ -7,12 +7,12 @@ use mathlib.Core.Bool.{Bool, true, false, cond, _&&_}
 use mathlib.Core.List.{List, [], _∷_}
 use Prim.Native.Nat.{ℕ, suc, _+_, _-_, _≤_, _<_}
 use native.Mathlib.Omega.{arith}
-use lib.Dec.{eqb, leb, lit≤}
+use lib.Dec.{eqb, leb, lit<, lit≤}
 use lib.ListN.{length, set, replicate}
-use borrow.Author.Tests.{eq-eqb, ne-eqb, eqb-true, leb-true, le-leb, lt-leb}
+use borrow.Author.Tests.{eq-eqb, ne-eqb, eqb-true, leb-true, leb-false, le-leb, lt-leb}
 use Rattle.fields.specs.Field.{get, put, bytesAt, getBits}
 use Rattle.fields.proofs.Bools.{and-left, and-right}
-use Rattle.fields.proofs.Seq.{listed, part-listed}
+use Rattle.fields.proofs.Seq.{length-part, listed, part-listed}
 use Rattle.fields.proofs.Field.{length-put, byte-stored}
 use Rattle.wrapper.specs.declared.DataDirection.{DataDirection}
 use Rattle.wrapper.specs.declared.DataDirection.the-variants.{Out, In, NotExpected}
@@ -20,10 +20,11 @@ use Rattle.wrapper.specs.declared.verdict.Verdict.{Verdict}
 use Rattle.wrapper.specs.declared.verdict.Verdict.the-variants.{Invalid, ValidOnly, Meaningful}
 use Rattle.wrapper.specs.declared.status.CommandStatus.{CommandStatus}
 use Rattle.wrapper.specs.declared.status.CommandStatus.the-variants.{Passed, Failed, PhaseError}
+use Rattle.wrapper.specs.declared.status.StatusByte.the-variants.{Known, Refused}
 use Rattle.wrapper.specs.declared.counters.Residue.{Residue}
 use Rattle.wrapper.specs.declared.Wrapper.{Wrapper}
 use Rattle.wrapper.specs.declared.Parsed.{Parsed}
-use Rattle.wrapper.specs.Status.{Taken, statusCall, dCSWSignature, dCSWTag, dCSWDataResidue, statusNumber, statusBytes}
+use Rattle.wrapper.specs.Status.{Taken, told, statusCall, bCSWStatus, dCSWSignature, dCSWTag, dCSWDataResidue, statusNumber, statusBytes}
 use Rattle.wrapper.specs.Wrapper.{dCBWSignature, dCBWTag, dCBWDataTransferLength, direction, bCBWLUN, bCBWCBLength, CBWCB, Valid, isSigned, isBlockLength, isValid, directionOf, wrapperOf, blank, taken, parsed}
 use Rattle.wrapper.specs.Verdict.{isMeaningful, verdictOf}
 
@@ -37,22 +38,54 @@ pub status-refused : (b : ℕ) → 2 < b → _≡_ {A = Taken} (record { number 
 unfolding statusCall
 status-refused b h = rw (lt-leb b 2 h)
 
+-- what was known is the byte itself; what was refused is above 2
+pub status-accepted : (b : ℕ) (s : CommandStatus) → told (Known s) ≡ statusCall b → (b ≤ 2) × (statusNumber s ≡ b)
+unfolding statusCall
+status-accepted b s e = picked (leb b 2) refl e
+  where
+    picked : (t : Bool) → leb b 2 ≡ t → told (Known s) ≡ cond t (record { number = 0; status = b }) (record { number = 12; status = 0 }) → (b ≤ 2) × (statusNumber s ≡ b)
+    picked true h e = (leb-true b 2 h, ap (λ (x : Taken). x .status) e)
+    picked false h e = let n : _≡_ {A = ℕ} 0 12 = ap (λ (x : Taken). x .number) e in omega arith
+
+pub status-above : (b : ℕ) → told Refused ≡ statusCall b → 2 < b
+unfolding statusCall
+status-above b e = picked (leb b 2) refl e
+  where
+    picked : (t : Bool) → leb b 2 ≡ t → told Refused ≡ cond t (record { number = 0; status = b }) (record { number = 12; status = 0 }) → 2 < b
+    picked true h e = let n : _≡_ {A = ℕ} 12 0 = ap (λ (x : Taken). x .number) e in omega arith
+    picked false h e = leb-false b 2 h
+
 -- ---- the status bytes
 
-number-small : (s : CommandStatus) → statusNumber s ≤ 2
-number-small Passed = lit≤ tt
-number-small Failed = lit≤ tt
-number-small PhaseError = lit≤ tt
+-- the first three fields, laid
+front : ℕ → Residue → List ℕ
+front tag r = put dCSWDataResidue (r .0) (put dCSWTag tag (put dCSWSignature 0x53425355 (replicate 13 0)))
+
+length-front : (tag : ℕ) (r : Residue) → length (front tag r) ≡ 13
+unfolding front
+length-front tag r =
+    let a : List ℕ = put dCSWSignature 0x53425355 (replicate 13 0) in
+    let b : List ℕ = put dCSWTag tag a in
+    let la : length a ≡ 13 = length-put dCSWSignature 0x53425355 (replicate 13 0) (lit≤ tt) in
+    let lb : length b ≡ 13 = length-put dCSWTag tag a (omega arith) ∙ la in
+    length-put dCSWDataResidue (r .0) b (omega arith) ∙ lb
+
+pub length-status : (tag : ℕ) (r : Residue) (n : ℕ) → length (statusBytes tag r n) ≡ 13
+unfolding statusBytes front
+length-status tag r n = length-put bCSWStatus n (front tag r) (omega (arith, length-front tag r)) ∙ length-front tag r
+
+number-small : (s : CommandStatus) → statusNumber s < 256
+number-small Passed = lit< tt
+number-small Failed = lit< tt
+number-small PhaseError = lit< tt
 
 pub status-laid : (tag : ℕ) (r : Residue) (s : CommandStatus) (a b c : List ℕ) (n : ℕ)
     → a ≡ put dCSWSignature 0x53425355 (replicate 13 0) → b ≡ put dCSWTag tag a → c ≡ put dCSWDataResidue (r .0) b → n ≡ statusNumber s
-    → set c 12 n ≡ statusBytes tag r s
-unfolding statusBytes
+    → set c 12 n ≡ statusBytes tag r (statusNumber s)
+unfolding statusBytes front
 status-laid tag r s a b c n ea eb ec en =
-    let la : length a ≡ 13 = ap length ea ∙ length-put dCSWSignature 0x53425355 (replicate 13 0) (lit≤ tt) in
-    let lb : length b ≡ 13 = ap length eb ∙ length-put dCSWTag tag a (omega arith) ∙ la in
-    let lc : length c ≡ 13 = ap length ec ∙ length-put dCSWDataResidue (r .0) b (omega arith) ∙ lb in
-    byte-stored c 12 n (omega (arith, en, number-small s)) (omega arith) ∙ rw (en, ec, eb, ea)
+    let e : c ≡ front tag r = rw (ec, eb, ea) in
+    rw (e, en) (byte-stored (front tag r) 12 (statusNumber s) (number-small s) (omega (arith, length-front tag r)))
 
 -- ---- the wrapper: the tests
 
@@ -116,13 +149,21 @@ pub parsed-valid : (m : List ℕ) → Valid m → parsed m ≡ taken (wrapperOf 
 unfolding parsed
 parsed-valid m v = rw (valid-is m v)
 
-pub parsed-accepted : (m : List ℕ) → parsed m .valid ≡ true → Valid m
+-- whether a message was taken is whether it is valid
+pub parsed-is : (m : List ℕ) → parsed m .valid ≡ isValid m
 unfolding parsed
-parsed-accepted m e = is-valid m (accepted (isValid m) e)
+parsed-is m = picked (isValid m)
   where
-    accepted : (b : Bool) → cond b (taken (wrapperOf m)) (record { valid = false; wrapper = blank }) .valid ≡ true → b ≡ true
-    accepted true e = refl
-    accepted false e = e
+    picked : (b : Bool) → cond b (taken (wrapperOf m)) (record { valid = false; wrapper = blank }) .valid ≡ b
+    picked true = refl
+    picked false = refl
+
+pub parsed-accepted : (m : List ℕ) → parsed m .valid ≡ true → Valid m
+parsed-accepted m e = is-valid m (sym (parsed-is m) ∙ e)
+
+pub length-block : (m : List ℕ) → Valid m → length (wrapperOf m .block) ≡ 16
+unfolding wrapperOf bytesAt
+length-block m v = length-part 15 16 m (omega (arith, v .whole))
 
 -- ---- the wrapper: its fields
 

@@ -11,7 +11,7 @@ use Rattle.wrapper.specs.declared.DataDirection.the-variants.{Out, In, N
 use Rattle.wrapper.specs.declared.status.CommandStatus.the-variants.{Passed, Failed, PhaseError}
 use Rattle.wrapper.specs.declared.verdict.Verdict.the-variants.{Invalid, ValidOnly, Meaningful}
 use Rattle.wrapper.specs.Counters.{fallen, residueOf}
-use Rattle.wrapper.specs.Status.{statusBytes, statusCall}
+use Rattle.wrapper.specs.Status.{statusNumber, statusBytes, statusCall}
 use Rattle.wrapper.specs.Wrapper.{isSigned, isBlockLength, isValid, directionOf, wrapperOf, blank, parsed}
 use Rattle.wrapper.specs.Verdict.{isMeaningful, verdictOf}
 
@@ -45,7 +45,7 @@ ours =
     ∷ case (directionOf 0 1) NotExpected
     ∷ case (parsed (0x55 ∷ 0x53 ∷ 0x42 ∷ 0x43 ∷ replicate 26 1)) (record { valid = false; wrapper = blank })
     -- the status of tag 01020304, residue 12, failed
-    ∷ case (statusBytes 0x01020304 (residueOf 512 500) Failed) (0x55 ∷ 0x53 ∷ 0x42 ∷ 0x53 ∷ 4 ∷ 3 ∷ 2 ∷ 1 ∷ 12 ∷ 0 ∷ 0 ∷ 0 ∷ 1 ∷ [])
+    ∷ case (statusBytes 0x01020304 (residueOf 512 500) (statusNumber Failed)) (0x55 ∷ 0x53 ∷ 0x42 ∷ 0x53 ∷ 4 ∷ 3 ∷ 2 ∷ 1 ∷ 12 ∷ 0 ∷ 0 ∷ 0 ∷ 1 ∷ [])
     ∷ case (statusCall 2) (record { number = 0; status = 2 })
     ∷ case (statusCall 3) (record { number = 12; status = 0 })
     ∷ case (fallen (record { 0 = 5 }) 7 .0) 0

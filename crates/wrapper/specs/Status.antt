@@ -31,9 +31,9 @@ statusNumber Failed = 1
 statusNumber PhaseError = 2
 
 -- "Status: 55 53 42 53, tag, residue, status byte."
-unfoldable pub statusBytes : ℕ → Residue → CommandStatus → List ℕ
+unfoldable pub statusBytes : ℕ → Residue → ℕ → List ℕ
 statusBytes tag residue status =
-    put bCSWStatus (statusNumber status)
+    put bCSWStatus status
     (put dCSWDataResidue (residue .0)
     (put dCSWTag tag
     (put dCSWSignature 0x53425355

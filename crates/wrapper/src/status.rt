@@ -39,7 +39,7 @@ pub fn status_number(status: CommandStatus) -> u8
 
 // The status as it goes over the wire.
 pub fn status_bytes(tag: u32, residue: Residue, status: CommandStatus) -> [u8; 13]
-    ensures { λ r. ⌜ r ≡ statusBytes tag residue status ⌝ }
+    ensures { λ r. ⌜ r ≡ statusBytes tag residue (statusNumber status) ⌝ }
 {
     let mut m = [0u8; 13];
     put_le32(&mut m, 0, 0x53425355);

@@ -1,0 +1,119 @@
+-- What each way through an exported call owes (`ways`). Assumes nothing.
+use mathlib.Core.Path.{_≡_, refl, sym, ap, _∙_}
+use mathlib.Core.Bool.{Bool, true, false, cond, _&&_}
+use mathlib.Core.List.{List, [], _∷_}
+use Prim.Native.Nat.{ℕ, _≤_, _<_}
+use lib.Dec.{eqb, leb}
+use lib.ListN.{length, set}
+use borrow.Author.Tests.{eq-eqb, ne-eqb, le-leb, lt-leb}
+use Rattle.fields.proofs.Seq.{all-stored}
+use Rattle.fields.specs.Overlay.{overlay}
+use Rattle.fields.proofs.Overlay.{overlay-whole}
+use Rattle.scsi.specs.declared.ScsiCommand.{ScsiCommand}
+use Rattle.scsi.specs.declared.Decoded.{Decoded}
+use Rattle.scsi.specs.declared.Decoded.the-variants.{Command, Empty}
+use Rattle.scsi.specs.Decoding.{Outcome, told, decodeCall}
+use Rattle.wrapper.specs.declared.Wrapper.{Wrapper}
+use Rattle.wrapper.specs.declared.Parsed.{Parsed}
+use Rattle.wrapper.specs.declared.status.CommandStatus.{CommandStatus}
+use Rattle.wrapper.specs.declared.status.StatusByte.{StatusByte}
+use Rattle.wrapper.specs.declared.status.StatusByte.the-variants.{Known, Refused}
+use Rattle.wrapper.specs.declared.counters.Residue.{Residue}
+use Rattle.wrapper.specs.declared.verdict.Verdict.{Verdict}
+use Rattle.wrapper.specs.Counters.{residueOf}
+use Rattle.wrapper.specs.Status.{statusNumber, statusBytes, statusCall}
+use Rattle.wrapper.specs.Status as bot
+use Rattle.wrapper.specs.Wrapper.{Valid, isValid, wrapperOf, parsed}
+use Rattle.wrapper.specs.Verdict.{verdictOf, verdictNumber}
+use Rattle.wrapper.proofs.Laws.{status-accepted, status-above, length-status, valid-is, parsed-is, parsed-valid, parsed-accepted, length-block}
+use Rattle.codechost.specs.Decode.{six, shown, laid, reported, shownDecode, shownTold}
+use Rattle.codechost.specs.Decode as decode
+use Rattle.codechost.specs.Layout.{parse, fits, shownParse, status, shownStatus}
+use Rattle.codechost.specs.Layout as layout
+
+-- ---- the decoder
+
+pub six-stored : (l : List ℕ) (k a b c d e : ℕ) → length l ≡ 6 → set (set (set (set (set (set l 0 k) 1 a) 2 b) 3 c) 4 d) 5 e ≡ six k a b c d e
+six-stored l k a b c d e h = all-stored l (six k a b c d e) h
+
+-- the first two fields of a command, which other functions made numbers
+pub by-fields : {k a b c d e a′ b′ : ℕ} {l : List ℕ} → l ≡ six k a b c d e → a ≡ a′ → b ≡ b′ → l ≡ six k a′ b′ c d e
+by-fields h ea eb = rw (← ea, ← eb) h
+
+pub put-in : (c d : ScsiCommand) {l : List ℕ} → c ≡ d → l ≡ decode.numbers d → l ≡ decode.numbers c
+put-in c d e el = el ∙ ap decode.numbers (sym e)
+
+pub not-six : (was : List ℕ) (o : Outcome) → (length was ≡ 6 → ⊥) → shown 10 was ≡ reported was o
+unfolding reported
+not-six was o n = rw (ne-eqb _ _ n)
+
+pub reports : (was : List ℕ) (d : Decoded) (c : ScsiCommand) {l : List ℕ} → length was ≡ 6 → d ≡ Command c → l ≡ decode.numbers c → shown 0 l ≡ reported was (told d)
+unfolding reported
+reports was d c e ed el = rw (eq-eqb _ _ e, ed, el)
+
+pub reports-empty : (was : List ℕ) (d : Decoded) → length was ≡ 6 → d ≡ Empty → shown 13 was ≡ reported was (told d)
+unfolding reported
+reports-empty was d e ed = rw (eq-eqb _ _ e, ed)
+
+pub decodes : (was block : List ℕ) (d : Decoded) {r : ℕ} {l : List ℕ} → told d ≡ decodeCall false block → shown r l ≡ reported was (told d) → shown r l ≡ shownDecode block was
+unfolding shownDecode
+decodes was block d ed er = er ∙ ap (reported was) ed
+
+pub decodes-told : (was block : List ℕ) (x : ℕ) (d : Decoded) {r : ℕ} {l : List ℕ} → x ≤ 1 → told d ≡ decodeCall (eqb x 1) block → shown r l ≡ reported was (told d) → shown r l ≡ shownTold x block was
+unfolding shownTold
+decodes-told was block x d h ed er = rw (le-leb x 1 h) (er ∙ ap (reported was) ed)
+
+pub no-flag : (was block : List ℕ) (x : ℕ) → 1 < x → shown 10 was ≡ shownTold x block was
+unfolding shownTold
+no-flag was block x h = rw (lt-leb x 1 h)
+
+-- ---- the wrapper
+
+pub five-stored : (l : List ℕ) (w : Wrapper) {d : ℕ} → length l ≡ 5 → d ≡ layout.directionNumber (w .direction)
+    → set (set (set (set (set l 0 (w .tag)) 1 (w .length)) 2 d) 3 (w .lun)) 4 (w .blocklength) ≡ layout.numbers w
+five-stored l w h ed = rw ed (all-stored l (layout.numbers w) h)
+
+pub not-five : (m f b : List ℕ) → (length f ≡ 5 → ⊥) → parse 10 f b ≡ shownParse m f b
+unfolding shownParse fits
+not-five m f b n = rw (ne-eqb _ _ n)
+
+pub not-sixteen : (m f b : List ℕ) → length f ≡ 5 → (length b ≡ 16 → ⊥) → parse 10 f b ≡ shownParse m f b
+unfolding shownParse fits
+not-sixteen m f b e n = rw (eq-eqb _ _ e, ne-eqb _ _ n)
+
+pub parses : (m f b : List ℕ) (p : Parsed) (f′ b′ : List ℕ) → length f ≡ 5 → length b ≡ 16 → p ≡ parsed m → p .valid ≡ true
+    → f′ ≡ layout.numbers (p .wrapper) → b′ ≡ overlay b 0 (p .wrapper .block) → parse 1 f′ b′ ≡ shownParse m f b
+unfolding shownParse fits
+parses m f b p f′ b′ ef eb ep ev e₁ e₂ =
+    let valid : Valid m = parsed-accepted m (sym (ap (λ (x : Parsed). x .valid) ep) ∙ ev) in
+    let w : p .wrapper ≡ wrapperOf m = ap (λ (x : Parsed). x .wrapper) (ep ∙ parsed-valid m valid) in
+    rw (eq-eqb _ _ ef, eq-eqb _ _ eb, valid-is m valid, e₁, e₂, w, overlay-whole b (wrapperOf m .block) (length-block m valid ∙ sym eb))
+
+pub parses-not : (m f b : List ℕ) (p : Parsed) → length f ≡ 5 → length b ≡ 16 → p ≡ parsed m → p .valid ≡ false → parse 0 f b ≡ shownParse m f b
+unfolding shownParse fits
+parses-not m f b p ef eb ep ev = rw (eq-eqb _ _ ef, eq-eqb _ _ eb, sym (parsed-is m) ∙ sym (ap (λ (x : Parsed). x .valid) ep) ∙ ev)
+
+-- ---- the status
+
+pub not-thirteen : (t l f x : ℕ) (was : List ℕ) → (length was ≡ 13 → ⊥) → status 10 was ≡ shownStatus t l f x was
+unfolding shownStatus
+not-thirteen t l f x was n = rw (ne-eqb _ _ n)
+
+pub states : (t l f x : ℕ) (was : List ℕ) (k : StatusByte) (s : CommandStatus) (r : Residue) (b after : List ℕ)
+    → length was ≡ 13 → bot.told k ≡ statusCall x → k ≡ Known s → r ≡ residueOf l f → b ≡ statusBytes t r (statusNumber s) → after ≡ overlay was 0 b
+    → status 0 after ≡ shownStatus t l f x was
+unfolding shownStatus
+states t l f x was k s r b after e ek es er eb ea =
+    let a = status-accepted x s (ap bot.told (sym es) ∙ ek) in
+    rw (eq-eqb _ _ e, le-leb x 2 (a .0), ea, overlay-whole was b (ap length eb ∙ length-status t r (statusNumber s) ∙ sym e), eb, er, a .1)
+
+pub refuses : (t l f x : ℕ) (was : List ℕ) (k : StatusByte) → length was ≡ 13 → bot.told k ≡ statusCall x → k ≡ Refused → status 12 was ≡ shownStatus t l f x was
+unfolding shownStatus
+refuses t l f x was k e ek es = rw (eq-eqb _ _ e, lt-leb x 2 (status-above x (ap bot.told (sym es) ∙ ek)))
+
+-- ---- the verdict
+
+pub says : (k : Verdict) (max : ℕ) (m : List ℕ) {v : Verdict} → v ≡ verdictOf max m → v ≡ k → verdictNumber k ≡ verdictNumber (verdictOf max m)
+says k max m e ek = ap verdictNumber (sym ek ∙ e)
+
+pub ruleset ways = (six-stored, put-in, not-six, reports, reports-empty, decodes, decodes-told, no-flag, five-stored, not-five, not-sixteen, parses, parses-not, not-thirteen, states, refuses)

@@ -1,0 +1,2 @@
+-- Laws of the codecs' calls for C and Rust, and that each call's answer is the only one.
+pub mod Laws

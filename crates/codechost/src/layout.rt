@@ -1,0 +1,94 @@
+// The wrapper, the status and the verdict.
+use buffer::span::put;
+use wrapper::DataDirection;
+use wrapper::Wrapper;
+use wrapper::status::CommandStatus;
+use wrapper::status::StatusByte;
+use wrapper::verdict::Verdict;
+ghost use mathlib.Core.Path.{_≡_};
+ghost use lib.ListN.{length};
+ghost use Rattle.wrapper.specs.Verdict.{verdictOf, verdictNumber};
+ghost use Rattle.codechost.specs.Layout.{directionNumber, numbers, parse, shownParse, status, shownStatus};
+
+fn direction_number(direction: DataDirection) -> u32
+    ensures { λ r. ⌜ r ≡ directionNumber direction ⌝ }
+{
+    match direction {
+        DataDirection::Out => 2,
+        DataDirection::In => 1,
+        DataDirection::NotExpected => 0,
+    }
+}
+
+fn put_fields(fields: &mut [u32], w: Wrapper)
+    requires { ⌜ length (now fields) ≡ 5 ⌝ }
+    ensures { λ _. ⌜ now (fields .exit) ≡ numbers w ⌝ }
+{
+    let direction = w.direction;
+    fields[0] = w.tag;
+    fields[1] = w.length;
+    fields[2] = direction_number(direction);
+    fields[3] = w.lun as u32;
+    fields[4] = w.blocklength as u32;
+}
+
+// Whether a message is a valid wrapper: 1, with its fields and its block, or 0.
+#[no_mangle]
+pub extern "C" fn wrapper_parse(message: &[u8], fields: &mut [u32], block: &mut [u8]) -> u32
+    ensures { λ r. ⌜ parse r (now (fields .exit)) (now (block .exit)) ≡ shownParse (now (message .entry)) (now (fields .entry)) (now (block .entry)) ⌝ }
+{
+    if fields.len() != 5 {
+        return 10;
+    }
+    if block.len() != 16 {
+        return 10;
+    }
+    let p = wrapper::parse(message);
+    if p.valid {
+        let w = p.wrapper;
+        let b = w.block;
+        put_fields(fields, w);
+        put(block, 0, &b);
+        return 1;
+    }
+    0
+}
+
+// The status of a wrapper with this tag and length, for the firmware's figure and status byte.
+#[no_mangle]
+pub extern "C" fn wrapper_status(
+    tag: u32,
+    length: u32,
+    figure: u32,
+    byte: u8,
+    bytes: &mut [u8],
+) -> u32
+    ensures { λ r. ⌜ status r (now (bytes .exit)) ≡ shownStatus tag length figure byte (now (bytes .entry)) ⌝ }
+{
+    if bytes.len() != 13 {
+        return 10;
+    }
+    let known = wrapper::status::status_of(byte);
+    match known {
+        StatusByte::Known(s) => {
+            let residue = wrapper::counters::residue_of(length, figure);
+            let b = wrapper::status::status_bytes(tag, residue, s);
+            put(bytes, 0, &b);
+            0
+        }
+        StatusByte::Refused => 12,
+    }
+}
+
+// BOT's verdict on a message: 0 invalid, 1 valid only, 2 meaningful.
+#[no_mangle]
+pub extern "C" fn wrapper_verdict(message: &[u8], maxlun: u8) -> u32
+    ensures { λ r. ⌜ r ≡ verdictNumber (verdictOf maxlun (now (message .entry))) ⌝ }
+{
+    let v = wrapper::verdict::verdict_on(message, maxlun);
+    match v {
+        Verdict::Invalid => 0,
+        Verdict::ValidOnly => 1,
+        Verdict::Meaningful => 2,
+    }
+}
