@@ -1,9 +1,9 @@
 -- What each way through an exported call owes (`ways`). Assumes nothing.
-use mathlib.Core.Path.{_≡_, refl, sym, ap, _∙_}
-use mathlib.Core.Bool.{Bool, true, false, cond, _&&_}
-use mathlib.Core.List.{List, [], _∷_}
+use mathlib.Core.Path.{_≡_, sym, ap, _∙_}
+use mathlib.Core.Bool.{true, false}
+use mathlib.Core.List.{List}
 use Prim.Native.Nat.{ℕ, _≤_, _<_}
-use lib.Dec.{eqb, leb}
+use lib.Dec.{eqb}
 use lib.ListN.{length, set}
 use borrow.Author.Tests.{eq-eqb, ne-eqb, le-leb, lt-leb}
 use Rattle.fields.proofs.Seq.{all-stored}
@@ -23,10 +23,11 @@ use Rattle.wrapper.specs.declared.verdict.Verdict.{Verdict}
 use Rattle.wrapper.specs.Counters.{residueOf}
 use Rattle.wrapper.specs.Status.{statusNumber, statusBytes, statusCall}
 use Rattle.wrapper.specs.Status as bot
-use Rattle.wrapper.specs.Wrapper.{Valid, isValid, wrapperOf, parsed}
+use Rattle.wrapper.specs.Wrapper.{Valid, wrapperOf, parsed}
 use Rattle.wrapper.specs.Verdict.{verdictOf, verdictNumber}
-use Rattle.wrapper.proofs.Laws.{status-accepted, status-above, length-status, valid-is, parsed-is, parsed-valid, parsed-accepted, length-block}
-use Rattle.codechost.specs.Decode.{six, shown, laid, reported, shownDecode, shownTold}
+use Rattle.wrapper.proofs.Csw.{status-accepted, status-above, length-status}
+use Rattle.wrapper.proofs.Cbw.{valid-is, parsed-is, parsed-valid, parsed-accepted, length-block}
+use Rattle.codechost.specs.Decode.{six, shown, reported, shownDecode, shownTold}
 use Rattle.codechost.specs.Decode as decode
 use Rattle.codechost.specs.Layout.{parse, fits, shownParse, status, shownStatus}
 use Rattle.codechost.specs.Layout as layout

@@ -7,15 +7,15 @@
 --     shifted-one                    the divisor of a field of bits
 -- Assumes nothing.
 use mathlib.Core.Path.{_≡_, refl, sym, ap, _∙_}
-use mathlib.Core.List.{List, [], _∷_, _++_, reverse, reverse-append, reverse-reverse, append-assoc}
-use Prim.Native.Nat.{ℕ, zero, suc, _+_, _*_, _^_, _/_, _%_, _-_, _≤_, _<_}
+use mathlib.Core.List.{List, [], _∷_, _++_, reverse, reverse-append, reverse-reverse}
+use Prim.Native.Nat.{ℕ, zero, suc, _+_, _*_, _^_, _/_, _%_, _≤_, _<_}
 use native.Mathlib.Nat.{one-mul, mul-assoc, mul-comm, pow-suc, mod-add-div, mod-eq-of-lt, div-lt-iff-lt-mul, zero-lt-suc}
 use native.Mathlib.Omega.{arith}
 use native.Mathlib.Numerals.{unary-clauses}
 use lib.Dec.{lit<}
 use lib.Pow.{shl-exact}
-use lib.ListN.{length, take, drop, getD, set, length-append, length-drop}
-use lib.Seq.{drop-cons, drop-drop, take-add, take-take, take-append-le, length-take-le, take-at, drop-at, sets, sets-eq}
+use lib.ListN.{length, take, drop, getD, set, length-drop}
+use lib.Seq.{drop-cons, drop-drop, take-add, length-take-le, sets, sets-eq}
 use Rattle.fields.specs.Overlay.{overlay}
 use Rattle.fields.specs.Field.{Order, little, big, Field, littleEndian, bigEndian, oneByte, bytesAt, counted, digits, ordered, get, put}
 use Rattle.fields.proofs.Overlay.{length-overlay, part-inside, part-before, part-behind}

@@ -1,7 +1,9 @@
 -- Numbers in bytes: a field of a message, as the public standards' tables give it, and how it is read and written.
 -- Assumes nothing: these are definitions.
 use mathlib.Core.List.{List, [], _∷_, reverse}
+use mathlib.Core.Bool.{Bool, _&&_}
 use Prim.Native.Nat.{ℕ, zero, suc, _+_, _*_, _^_, _/_, _%_}
+use lib.Dec.{eqb}
 use lib.ListN.{take, drop, getD}
 use Rattle.fields.specs.Overlay.{overlay}
 
@@ -50,6 +52,11 @@ get f m = counted (ordered (f .order) (bytesAt f m))
 -- m with the number n in a field: "Bytes outside the part written .. keep their values."
 unfoldable pub put : Field → ℕ → List ℕ → List ℕ
 put f n m = overlay m (f .start) (ordered (f .order) (digits (f .width) n))
+
+-- whether fields stand one behind the other, without a gap, from one byte up to another
+unfoldable pub tile : ℕ → List Field → ℕ → Bool
+tile from [] to = eqb from to
+tile from (f ∷ fs) to = eqb (f .start) from && tile (from + f .width) fs to
 
 -- A field of some bits of one byte: the byte, its lowest bit (0 is the least significant), and how many bits it has.
 pub record Bits : Type 0 where

@@ -4,12 +4,11 @@
 --     listed-known            a block of a listed opcode and length never decodes to Unknown
 --     unlisted-unknown        any other always does, with its opcode
 -- Assumes nothing.
-use mathlib.Core.Path.{_≡_, refl, sym, ap, _∙_}
-use mathlib.Core.Bool.{Bool, true, false, cond, not, _&&_, _||_}
+use mathlib.Core.Path.{_≡_, refl, sym, _∙_}
+use mathlib.Core.Bool.{Bool, true, false, cond, not, _&&_}
 use mathlib.Core.List.{List, [], _∷_, map}
-use Prim.Native.Nat.{ℕ, zero, suc, _+_, _≤_, _<_}
+use Prim.Native.Nat.{ℕ, zero, suc, _+_, _<_}
 use native.Mathlib.Numerals.{add-one}
-use native.Mathlib.Omega.{arith}
 use lib.Dec.{eqb, leb}
 use lib.ListN.{length, getD, drop, List·getD-map}
 use lib.Seq.{drop-cons}
@@ -17,7 +16,7 @@ use borrow.Author.Tests.{eq-eqb, ne-eqb, not-true}
 use Rattle.fields.specs.Field.{Bits, bits, getBits}
 use Rattle.fields.proofs.Bools.{and-left, and-right}
 use Rattle.scsi.specs.declared.PageControl.{PageControl}
-use Rattle.scsi.specs.declared.PageControl.the-variants.{CurrentValues, ChangeableValues, DefaultValues, SavedValues}
+use Rattle.scsi.specs.declared.PageControl.the-variants.{CurrentValues}
 use Rattle.scsi.specs.declared.ScsiCommand.{ScsiCommand}
 use Rattle.scsi.specs.declared.ScsiCommand.the-variants.{Unknown}
 use Rattle.scsi.specs.declared.table.Row.{Row}

@@ -10,7 +10,7 @@ use Rattle.scsi.specs.declared.PageControl.the-variants.{DefaultValues, 
 use Rattle.scsi.specs.declared.ScsiCommand.{ScsiCommand}
 use Rattle.scsi.specs.declared.ScsiCommand.the-variants.{Unknown, Inquiry, TestUnitReady, RequestSense, ModeSense6, ModeSense10, ReadCapacity10, ReadCapacity16, Read, Write, ReadFormatCapacities}
 use Rattle.scsi.specs.Commands.{flag, pageControl}
-use Rattle.scsi.specs.Decoding.{Outcome, lists, counts, isListed, fieldsBy, decoded, decodeCall}
+use Rattle.scsi.specs.Decoding.{lists, counts, isListed, fieldsBy, decoded, decodeCall}
 
 -- a block and the command that it decodes to, with extended addressing off; and on
 plain : List ℕ → ScsiCommand → Case

@@ -9,7 +9,7 @@ use Rattle.fields.specs.Field.{bigEndian, oneByte, bits, get, getBits}
 use Rattle.scsi.specs.declared.PageControl.{PageControl}
 use Rattle.scsi.specs.declared.PageControl.the-variants.{CurrentValues, ChangeableValues, DefaultValues, SavedValues}
 use Rattle.scsi.specs.declared.ScsiCommand.{ScsiCommand}
-use Rattle.scsi.specs.declared.ScsiCommand.the-variants.{Unknown, Inquiry, TestUnitReady, RequestSense, ModeSense6, ModeSense10, ReadCapacity10, ReadCapacity16, Read, Write, ReadFormatCapacities}
+use Rattle.scsi.specs.declared.ScsiCommand.the-variants.{Inquiry, TestUnitReady, RequestSense, ModeSense6, ModeSense10, ReadCapacity10, ReadCapacity16, Read, Write, ReadFormatCapacities}
 
 -- ---- the three kinds of field
 

@@ -1,4 +1,8 @@
 -- Laws that no one function owns, for the proofs here and for those of the crates above.
---     Laws      both directions of the tests, what a status reads as, and what each way through a function owes
---     Unique    no contract has a second answer
-pub mod Laws
+--     Csw, Cbw    the status and the wrapper
+--     Judged      the verdict
+--     Unique      no contract has a second answer
+pub mod Csw
+pub mod Cbw
+pub mod Judged
+pub mod Unique

@@ -5,14 +5,14 @@ use mathlib.Core.List.{List, [], _∷_, _++_}
 use Prim.Native.Nat.{ℕ}
 use lib.ListN.{replicate}
 use Rattle.fields.specs.Overlay.{overlay}
-use Rattle.fields.specs.Field.{bytesAt, counted, digits, ordered, get, put, getBits}
+use Rattle.fields.specs.Field.{tile, bytesAt, counted, digits, ordered, get, put, getBits}
 use Rattle.fields.specs.Case.{Case, case, AllHold}
 use Rattle.wrapper.specs.declared.DataDirection.the-variants.{Out, In, NotExpected}
-use Rattle.wrapper.specs.declared.status.CommandStatus.the-variants.{Passed, Failed, PhaseError}
+use Rattle.wrapper.specs.declared.status.CommandStatus.the-variants.{Failed}
 use Rattle.wrapper.specs.declared.verdict.Verdict.the-variants.{Invalid, ValidOnly, Meaningful}
 use Rattle.wrapper.specs.Counters.{fallen, residueOf}
-use Rattle.wrapper.specs.Status.{statusNumber, statusBytes, statusCall}
-use Rattle.wrapper.specs.Wrapper.{isSigned, isBlockLength, isValid, directionOf, wrapperOf, blank, parsed}
+use Rattle.wrapper.specs.Status.{statusTable, statusNumber, statusBytes, statusCall}
+use Rattle.wrapper.specs.Wrapper.{wrapperTable, isSigned, isBlockLength, isValid, directionOf, wrapperOf, blank, parsed}
 use Rattle.wrapper.specs.Verdict.{isMeaningful, verdictOf}
 
 -- a wrapper with tag 01020304, L = 512, and these bytes for flags, LUN and block length
@@ -55,8 +55,11 @@ ours =
     ∷ case (verdictOf 15 (message 0 0 17)) ValidOnly
     ∷ case (verdictOf 15 (message 0 0 10 ++ (0 ∷ []))) Invalid
     ∷ case (verdictOf 15 (0x54 ∷ replicate 30 1)) Invalid
+    -- BOT's tables have no gap and end where the messages end
+    ∷ case (tile 0 wrapperTable 31) true
+    ∷ case (tile 0 statusTable 13) true
     ∷ []
 
 pub cases : AllHold (starred ++ ours)
-unfolding message starred ours overlay bytesAt counted digits ordered get put getBits fallen residueOf statusBytes statusCall isSigned isBlockLength isValid directionOf wrapperOf blank parsed isMeaningful verdictOf
+unfolding message starred ours tile overlay bytesAt counted digits ordered get put getBits fallen residueOf statusBytes statusCall isSigned isBlockLength isValid directionOf wrapperOf blank parsed isMeaningful verdictOf
 cases = refl

@@ -1,7 +1,7 @@
 -- Document 01, 'status (13 bytes)': BOT 1.0, table 5.2, Command Status Wrapper. Assumes nothing: these are definitions.
 use Prim.Native.Nat.{ℕ}
 use mathlib.Core.Bool.{cond}
-use mathlib.Core.List.{List}
+use mathlib.Core.List.{List, [], _∷_}
 use lib.Dec.{leb}
 use lib.ListN.{replicate}
 use Rattle.fields.specs.Field.{Field, littleEndian, oneByte, put}
@@ -23,6 +23,9 @@ dCSWDataResidue = littleEndian 8 4
 
 abbrev pub bCSWStatus : Field
 bCSWStatus = oneByte 12
+
+abbrev pub statusTable : List Field
+statusTable = dCSWSignature ∷ dCSWTag ∷ dCSWDataResidue ∷ bCSWStatus ∷ []
 
 -- "`CommandStatus`, as in BOT: 0 passed, 1 failed, 2 phase error." (BOT table 5.3)
 abbrev pub statusNumber : CommandStatus → ℕ

@@ -2,7 +2,7 @@
 use mathlib.Core.Path.{_≡_}
 use Prim.Native.Nat.{ℕ, _≤_}
 use mathlib.Core.Bool.{Bool, true, false, cond, _&&_}
-use mathlib.Core.List.{List}
+use mathlib.Core.List.{List, [], _∷_}
 use lib.Dec.{eqb, leb}
 use lib.ListN.{length, replicate}
 use Rattle.fields.specs.Field.{Field, Bits, littleEndian, oneByte, bits, bytesAt, get, getBits}
@@ -21,19 +21,26 @@ dCBWTag = littleEndian 4 4
 abbrev pub dCBWDataTransferLength : Field
 dCBWDataTransferLength = littleEndian 8 4
 
--- of bmCBWFlags (byte 12) the direction: bit 7
+abbrev pub bmCBWFlags : Field
+bmCBWFlags = oneByte 12
+
+-- of the flags the direction: bit 7
 abbrev pub direction : Bits
 direction = bits 12 7 1
 
--- "13 LUN, low four bits"
+-- "13 LUN, low four bits"; the others are reserved
 abbrev pub bCBWLUN : Bits
 bCBWLUN = bits 13 0 4
 
+-- BOT has bits 0 to 4 and reserves the others; 01 and the Rust look at the whole byte, which is above 16 where one of those is set
 abbrev pub bCBWCBLength : Field
 bCBWCBLength = oneByte 14
 
 abbrev pub CBWCB : Field
 CBWCB = littleEndian 15 16
+
+abbrev pub wrapperTable : List Field
+wrapperTable = dCBWSignature ∷ dCBWTag ∷ dCBWDataTransferLength ∷ bmCBWFlags ∷ oneByte 13 ∷ bCBWCBLength ∷ CBWCB ∷ []
 
 -- 31 bytes with the signature 55 53 42 43
 unfoldable pub isSigned : List ℕ → Bool

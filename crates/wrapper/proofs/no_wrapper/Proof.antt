@@ -1,7 +1,5 @@
 use mathlib.Core.Path.{refl}
 use Rattle.wrapper.specs.Wrapper.{blank}
-use borrow.Author.Needs.{needs}
-use Rattle.wrapper.proofs.Laws.{ways}
 use Rattle.wrapper.proofs.no_wrapper.Statement.{statement}
 use Rattle.wrapper.proofs.no_wrapper.Tie as tie
 

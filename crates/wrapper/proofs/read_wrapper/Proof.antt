@@ -1,6 +1,6 @@
 -- `wrapper::read_wrapper` meets its contract. Assumes nothing.
 use borrow.Author.Needs.{needs}
-use Rattle.wrapper.proofs.Laws.{ways}
+use Rattle.wrapper.proofs.Cbw.{ways}
 use Rattle.wrapper.proofs.read_wrapper.Statement.{statement}
 use Rattle.wrapper.proofs.read_wrapper.Tie as tie
 

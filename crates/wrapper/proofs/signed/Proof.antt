@@ -1,5 +1,5 @@
 use borrow.Author.Needs.{needs}
-use Rattle.wrapper.proofs.Laws.{ways}
+use Rattle.wrapper.proofs.Cbw.{ways}
 use Rattle.wrapper.proofs.signed.Statement.{statement}
 use Rattle.wrapper.proofs.signed.Tie as tie
 

@@ -1,6 +1,6 @@
 -- `wrapper::valid` meets its contract. Assumes nothing.
 use borrow.Author.Needs.{needs}
-use Rattle.wrapper.proofs.Laws.{ways}
+use Rattle.wrapper.proofs.Cbw.{ways}
 use Rattle.wrapper.proofs.valid.Statement.{statement}
 use Rattle.wrapper.proofs.valid.Tie as tie
 

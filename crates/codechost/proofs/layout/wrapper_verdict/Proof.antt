@@ -2,7 +2,6 @@
 use Rattle.wrapper.specs.declared.verdict.Verdict.the-variants.{Invalid, ValidOnly, Meaningful}
 use Rattle.codechost.proofs.Laws.{says}
 use borrow.Author.Needs.{needs}
-use Rattle.codechost.proofs.Laws.{ways}
 use Rattle.codechost.proofs.layout.wrapper_verdict.Statement.{statement}
 use Rattle.codechost.proofs.layout.wrapper_verdict.Tie as tie
 

@@ -2,8 +2,6 @@
 use borrow.Author.Tests.{leb-true}
 use Rattle.scsi.specs.Decoding.{rows, lists, fieldsBy}
 use Rattle.scsi.proofs.Laws.{missing}
-use borrow.Author.Needs.{needs}
-use Rattle.scsi.proofs.Laws.{ways}
 use Rattle.scsi.proofs.commands.read_fields.Statement.{statement}
 use Rattle.scsi.proofs.commands.read_fields.Tie as tie
 

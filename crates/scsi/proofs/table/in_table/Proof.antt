@@ -6,7 +6,6 @@ use lib.ListN.{drop}
 use Rattle.scsi.specs.Decoding.{rows, lists}
 use Rattle.scsi.proofs.Laws.{here, past}
 use borrow.Author.Needs.{needs}
-use Rattle.scsi.proofs.Laws.{ways}
 use Rattle.scsi.proofs.table.in_table.Statement.{statement}
 use Rattle.scsi.proofs.table.in_table.Tie as tie
 

@@ -3,7 +3,6 @@ use Prim.Native.Nat.{ℕ}
 use native.Mathlib.Omega.{arith}
 use Rattle.wrapper.specs.Counters.{fallen}
 use borrow.Author.Needs.{needs}
-use Rattle.wrapper.proofs.Laws.{ways}
 use Rattle.wrapper.proofs.counters.left_after.Statement.{statement}
 use Rattle.wrapper.proofs.counters.left_after.Tie as tie
 

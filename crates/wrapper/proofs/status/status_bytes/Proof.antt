@@ -1,5 +1,5 @@
 use borrow.Author.Needs.{needs}
-use Rattle.wrapper.proofs.Laws.{ways}
+use Rattle.wrapper.proofs.Csw.{ways}
 use Rattle.wrapper.proofs.status.status_bytes.Statement.{statement}
 use Rattle.wrapper.proofs.status.status_bytes.Tie as tie
 

@@ -1,7 +1,7 @@
 use native.Mathlib.Omega.{arith}
-use Rattle.wrapper.proofs.Laws.{status-refused}
+use Rattle.wrapper.proofs.Csw.{status-refused}
 use borrow.Author.Needs.{needs}
-use Rattle.wrapper.proofs.Laws.{ways}
+use Rattle.wrapper.proofs.Csw.{ways}
 use Rattle.wrapper.proofs.status.status_of.Statement.{statement}
 use Rattle.wrapper.proofs.status.status_of.Tie as tie
 

@@ -1,6 +1,7 @@
 -- `wrapper::verdict::meaningful` meets its contract. Assumes nothing.
 use borrow.Author.Needs.{needs}
-use Rattle.wrapper.proofs.Laws.{ways}
+use Rattle.wrapper.proofs.Cbw as cbw
+use Rattle.wrapper.proofs.Judged.{ways}
 use Rattle.wrapper.proofs.verdict.meaningful.Statement.{statement}
 use Rattle.wrapper.proofs.verdict.meaningful.Tie as tie
 
@@ -14,10 +15,10 @@ block-fits-requires : tie.Need-block-fits-requires
 block-fits-requires c κs = search needs
 
 returns : tie.Need-returns
-returns c = search (ways, needs)
+returns c = search (cbw.ways, ways, needs)
 
 returns-2 : tie.Need-returns-2
-returns-2 c = search (ways, needs)
+returns-2 c = search (cbw.ways, ways, needs)
 
 pub meaningful-spec : {M : Type 1} → statement M
 meaningful-spec = tie.close (tie.spec bits-of-requires byte-requires block-fits-requires returns returns-2)

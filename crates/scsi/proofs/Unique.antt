@@ -1,0 +1,32 @@
+-- No second answer satisfies a promise: what the `ensures` of a public call says is true of one answer alone. `Post` is the contract
+-- itself, as the check reads it. Assumes nothing.
+use mathlib.Core.Path.{_≡_, refl, sym, ap, _∙_}
+use mathlib.Core.List.{List, [], _∷_}
+use Rattle.fields.proofs.Only.{Only}
+use Rattle.scsi.specs.declared.ScsiCommand.{ScsiCommand}
+use Rattle.scsi.specs.declared.Decoded.{Decoded}
+use Rattle.scsi.specs.declared.Decoded.the-variants.{Command, Empty}
+use Rattle.scsi.specs.Decoding.{Outcome, told}
+use Rattle.scsi.proofs.decode_told.Kinds as decode-told-kinds
+use Rattle.scsi.proofs.decode_told.Reads as decode-told
+use Rattle.scsi.proofs.decode.Kinds as decode-kinds
+use Rattle.scsi.proofs.decode.Reads as decode
+
+-- the command carried tells the answer
+untold : List ScsiCommand → Decoded
+untold [] = Empty
+untold (c ∷ cs) = Command c
+
+untold-told : (x : Decoded) → untold (told x .commands) ≡ x
+unfolding untold
+untold-told (Command c) = refl
+untold-told Empty = refl
+
+told-once : (x y : Decoded) → told x ≡ told y → x ≡ y
+told-once x y e = sym (untold-told x) ∙ ap (λ (o : Outcome). untold (o .commands)) e ∙ untold-told y
+
+pub decode-told-only : Only 1 decode-told-kinds.ps decode-told-kinds.r decode-told.Post (λ κs s. tt {0})
+decode-told-only κs a x y s t p q = (told-once x y (p ∙ sym q), refl)
+
+pub decode-only : Only 1 decode-kinds.ps decode-kinds.r decode.Post (λ κs s. tt {0})
+decode-only κs a x y s t p q = (told-once x y (p ∙ sym q), refl)

@@ -1,0 +1,66 @@
+-- No second answer satisfies a promise: what the `ensures` of a public call says is true of one answer alone. `Post` is the contract
+-- itself, as the check reads it. Assumes nothing.
+use mathlib.Core.Path.{_≡_, refl, sym, ap, _∙_}
+use mathlib.Core.Bool.{cond}
+use lib.Dec.{eqb}
+use Rattle.fields.proofs.Only.{Only}
+use Rattle.wrapper.specs.declared.status.CommandStatus.the-variants.{Passed, Failed, PhaseError}
+use Rattle.wrapper.specs.declared.status.StatusByte.{StatusByte}
+use Rattle.wrapper.specs.declared.status.StatusByte.the-variants.{Known, Refused}
+use Rattle.wrapper.specs.Status.{Taken, told}
+use Rattle.wrapper.proofs.counters.left_after.Kinds as left-after-kinds
+use Rattle.wrapper.proofs.counters.left_after.Reads as left-after
+use Rattle.wrapper.proofs.counters.residue_of.Kinds as residue-of-kinds
+use Rattle.wrapper.proofs.counters.residue_of.Reads as residue-of
+use Rattle.wrapper.proofs.status.status_of.Kinds as status-of-kinds
+use Rattle.wrapper.proofs.status.status_of.Reads as status-of
+use Rattle.wrapper.proofs.status.status_number.Kinds as status-number-kinds
+use Rattle.wrapper.proofs.status.status_number.Reads as status-number
+use Rattle.wrapper.proofs.status.status_bytes.Kinds as status-bytes-kinds
+use Rattle.wrapper.proofs.status.status_bytes.Reads as status-bytes
+use Rattle.wrapper.proofs.valid.Kinds as valid-kinds
+use Rattle.wrapper.proofs.valid.Reads as valid
+use Rattle.wrapper.proofs.no_wrapper.Kinds as no-wrapper-kinds
+use Rattle.wrapper.proofs.no_wrapper.Reads as no-wrapper
+use Rattle.wrapper.proofs.parse.Kinds as parse-kinds
+use Rattle.wrapper.proofs.parse.Reads as parse
+use Rattle.wrapper.proofs.verdict.verdict_on.Kinds as verdict-on-kinds
+use Rattle.wrapper.proofs.verdict.verdict_on.Reads as verdict-on
+
+-- document 01's number, and the status's own, tell the answer
+untold : Taken → StatusByte
+untold t = cond (eqb (t .number) 12) Refused (Known (cond (eqb (t .status) 0) Passed (cond (eqb (t .status) 1) Failed PhaseError)))
+
+untold-told : (x : StatusByte) → untold (told x) ≡ x
+unfolding untold
+untold-told (Known Passed) = refl
+untold-told (Known Failed) = refl
+untold-told (Known PhaseError) = refl
+untold-told Refused = refl
+
+pub left-after-only : Only 0 left-after-kinds.ps left-after-kinds.r left-after.Post (λ κs s. tt {0})
+left-after-only κs a x y s t p q = (p ∙ sym q, refl)
+
+pub residue-of-only : Only 0 residue-of-kinds.ps residue-of-kinds.r residue-of.Post (λ κs s. tt {0})
+residue-of-only κs a x y s t p q = (p ∙ sym q, refl)
+
+pub status-of-only : Only 0 status-of-kinds.ps status-of-kinds.r status-of.Post (λ κs s. tt {0})
+status-of-only κs a x y s t p q = (sym (untold-told x) ∙ ap untold (p ∙ sym q) ∙ untold-told y, refl)
+
+pub status-number-only : Only 0 status-number-kinds.ps status-number-kinds.r status-number.Post (λ κs s. tt {0})
+status-number-only κs a x y s t p q = (p ∙ sym q, refl)
+
+pub status-bytes-only : Only 0 status-bytes-kinds.ps status-bytes-kinds.r status-bytes.Post (λ κs s. tt {0})
+status-bytes-only κs a x y s t p q = (p ∙ sym q, refl)
+
+pub valid-only : Only 1 valid-kinds.ps valid-kinds.r valid.Post (λ κs s. tt {0})
+valid-only κs a x y s t p q = (p ∙ sym q, refl)
+
+pub no-wrapper-only : Only 0 no-wrapper-kinds.ps no-wrapper-kinds.r no-wrapper.Post (λ κs s. tt {0})
+no-wrapper-only κs a x y s t p q = (p ∙ sym q, refl)
+
+pub parse-only : Only 1 parse-kinds.ps parse-kinds.r parse.Post (λ κs s. tt {0})
+parse-only κs a x y s t p q = (p ∙ sym q, refl)
+
+pub verdict-on-only : Only 1 verdict-on-kinds.ps verdict-on-kinds.r verdict-on.Post (λ κs s. tt {0})
+verdict-on-only κs a x y s t p q = (p ∙ sym q, refl)
