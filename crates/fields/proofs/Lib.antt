@@ -2,11 +2,13 @@
 --     Bools, Seq    tests and lists
 --     Overlay       a list laid over a part of another, and the loops that do it
 --     Field         numbers in bytes: one law for each width
+--     Case          tables of cases can be joined
 --     Only          what it is that a contract has no second answer
 --     Unique        no contract of this crate has one
 pub mod Bools
 pub mod Seq
 pub mod Overlay
 pub mod Field
+pub mod Case
 pub mod Only
 pub mod Unique

@@ -60,6 +60,10 @@ ours =
     ∷ case (decodeCall true []) (record { number = 13; commands = [] })
     ∷ []
 
-pub cases : AllHold (starred ++ ours)
-unfolding starred ours plain extended bytesAt counted ordered get getBits flag pageControl lists counts isListed fieldsBy decoded decodeCall
-cases = refl
+pub starred-hold : AllHold starred
+unfolding starred plain extended bytesAt counted ordered get getBits flag pageControl lists counts isListed fieldsBy decoded decodeCall
+starred-hold = refl
+
+pub ours-hold : AllHold ours
+unfolding ours plain extended bytesAt counted ordered get getBits flag pageControl lists counts isListed fieldsBy decoded decodeCall
+ours-hold = refl

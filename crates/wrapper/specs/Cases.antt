@@ -60,6 +60,10 @@ ours =
     ∷ case (tile 0 statusTable 13) true
     ∷ []
 
-pub cases : AllHold (starred ++ ours)
-unfolding message starred ours tile overlay bytesAt counted digits ordered get put getBits fallen residueOf statusBytes statusCall isSigned isBlockLength isValid directionOf wrapperOf blank parsed isMeaningful verdictOf
-cases = refl
+pub starred-hold : AllHold starred
+unfolding starred message tile overlay bytesAt counted digits ordered get put getBits fallen residueOf statusBytes statusCall isSigned isBlockLength isValid directionOf wrapperOf blank parsed isMeaningful verdictOf
+starred-hold = refl
+
+pub ours-hold : AllHold ours
+unfolding ours message tile overlay bytesAt counted digits ordered get put getBits fallen residueOf statusBytes statusCall isSigned isBlockLength isValid directionOf wrapperOf blank parsed isMeaningful verdictOf
+ours-hold = refl

@@ -1,6 +1,6 @@
 -- `fields::be16` meets its contract: two fields of one byte side by side. Assumes nothing.
-use Rattle.fields.proofs.Field.{big-doubled, one-order}
 use borrow.Author.Needs.{needs}
+use Rattle.fields.proofs.Field.{big-doubled, one-order}
 use Rattle.fields.proofs.be16.Statement.{statement}
 use Rattle.fields.proofs.be16.Tie as tie
 

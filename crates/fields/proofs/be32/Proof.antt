@@ -1,6 +1,6 @@
 -- `fields::be32` meets its contract: two fields of 2 bytes side by side. Assumes nothing.
-use Rattle.fields.proofs.Field.{big-doubled}
 use borrow.Author.Needs.{needs}
+use Rattle.fields.proofs.Field.{big-doubled}
 use Rattle.fields.proofs.be32.Statement.{statement}
 use Rattle.fields.proofs.be32.Tie as tie
 

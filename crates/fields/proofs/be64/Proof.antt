@@ -1,6 +1,6 @@
 -- `fields::be64` meets its contract: two fields of 4 bytes side by side. Assumes nothing.
-use Rattle.fields.proofs.Field.{big-doubled}
 use borrow.Author.Needs.{needs}
+use Rattle.fields.proofs.Field.{big-doubled}
 use Rattle.fields.proofs.be64.Statement.{statement}
 use Rattle.fields.proofs.be64.Tie as tie
 

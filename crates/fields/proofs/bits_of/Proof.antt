@@ -1,8 +1,8 @@
 -- `fields::bits_of` meets its contract: a shift, and a remainder by a power of two. Assumes nothing.
 use lib.Pow.{pow-pos}
+use borrow.Author.Needs.{needs}
 use Rattle.fields.specs.Field.{getBits}
 use Rattle.fields.proofs.Field.{shifted-one}
-use borrow.Author.Needs.{needs}
 use Rattle.fields.proofs.bits_of.Statement.{statement}
 use Rattle.fields.proofs.bits_of.Tie as tie
 

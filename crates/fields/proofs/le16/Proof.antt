@@ -1,6 +1,6 @@
 -- `fields::le16` meets its contract: two fields of one byte side by side. Assumes nothing.
-use Rattle.fields.proofs.Field.{little-doubled}
 use borrow.Author.Needs.{needs}
+use Rattle.fields.proofs.Field.{little-doubled}
 use Rattle.fields.proofs.le16.Statement.{statement}
 use Rattle.fields.proofs.le16.Tie as tie
 

@@ -1,6 +1,6 @@
 -- `fields::le32` meets its contract: two fields of 2 bytes side by side. Assumes nothing.
-use Rattle.fields.proofs.Field.{little-doubled}
 use borrow.Author.Needs.{needs}
+use Rattle.fields.proofs.Field.{little-doubled}
 use Rattle.fields.proofs.le32.Statement.{statement}
 use Rattle.fields.proofs.le32.Tie as tie
 

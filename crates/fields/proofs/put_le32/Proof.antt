@@ -1,8 +1,8 @@
 -- `fields::put_le32` meets its contract: four stores in order. Assumes nothing.
 use native.Mathlib.Omega.{arith}
 use lib.ListN.{length-set}
-use Rattle.fields.proofs.Field.{four-stored}
 use borrow.Author.Needs.{needs}
+use Rattle.fields.proofs.Field.{four-stored}
 use Rattle.fields.proofs.put_le32.Statement.{statement}
 use Rattle.fields.proofs.put_le32.Tie as tie
 

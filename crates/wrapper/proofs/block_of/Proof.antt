@@ -1,3 +1,4 @@
+-- `wrapper::block_of` meets its contract: the 16 bytes one by one. Assumes nothing.
 use borrow.Author.Needs.{needs}
 use Rattle.wrapper.proofs.Cbw.{ways}
 use Rattle.wrapper.proofs.block_of.Statement.{statement}
@@ -55,23 +56,4 @@ returns : tie.Need-returns
 returns c = search (ways, needs)
 
 pub block-of-spec : {M : Type 1} → statement M
-block-of-spec =
-    tie.close
-    (tie.spec
-    shared-slice-read-t3
-    shared-slice-read-t5
-    shared-slice-read-t7
-    shared-slice-read-t9
-    shared-slice-read-t11
-    shared-slice-read-t13
-    shared-slice-read-t15
-    shared-slice-read-t17
-    shared-slice-read-t19
-    shared-slice-read-t21
-    shared-slice-read-t23
-    shared-slice-read-t25
-    shared-slice-read-t27
-    shared-slice-read-t29
-    shared-slice-read-t31
-    shared-slice-read-t33
-    returns)
+block-of-spec = tie.close (tie.spec shared-slice-read-t3 shared-slice-read-t5 shared-slice-read-t7 shared-slice-read-t9 shared-slice-read-t11 shared-slice-read-t13 shared-slice-read-t15 shared-slice-read-t17 shared-slice-read-t19 shared-slice-read-t21 shared-slice-read-t23 shared-slice-read-t25 shared-slice-read-t27 shared-slice-read-t29 shared-slice-read-t31 shared-slice-read-t33 returns)

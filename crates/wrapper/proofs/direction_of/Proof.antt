@@ -1,3 +1,4 @@
+-- `wrapper::direction_of` meets its contract: one law for each direction. Assumes nothing.
 use borrow.Author.Needs.{needs}
 use Rattle.wrapper.proofs.Cbw.{ways}
 use Rattle.wrapper.proofs.direction_of.Statement.{statement}

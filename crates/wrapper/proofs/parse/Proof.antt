@@ -1,3 +1,4 @@
+-- `wrapper::parse` meets its contract: taken with its fields, or refused with none. Assumes nothing.
 use borrow.Author.Needs.{needs}
 use Rattle.wrapper.proofs.Cbw.{ways}
 use Rattle.wrapper.proofs.parse.Statement.{statement}
@@ -19,5 +20,4 @@ returns-2 : tie.Need-returns-2
 returns-2 c = search (ways, needs)
 
 pub parse-spec : {M : Type 1} → statement M
-parse-spec =
-    tie.close (tie.spec valid-requires read-wrapper-requires returns no-wrapper-requires returns-2)
+parse-spec = tie.close (tie.spec valid-requires read-wrapper-requires returns no-wrapper-requires returns-2)

@@ -1,4 +1,4 @@
--- `wrapper::read_wrapper` meets its contract. Assumes nothing.
+-- `wrapper::read_wrapper` meets its contract: each field by BOT's table. Assumes nothing.
 use borrow.Author.Needs.{needs}
 use Rattle.wrapper.proofs.Cbw.{ways}
 use Rattle.wrapper.proofs.read_wrapper.Statement.{statement}

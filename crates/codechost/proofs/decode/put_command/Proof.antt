@@ -1,8 +1,7 @@
--- `codechost::decode::put_command` meets its contract. Assumes nothing.
+-- `codechost::decode::put_command` meets its contract: each command in its six numbers. Assumes nothing.
 use mathlib.Core.Path.{refl}
-use Rattle.codechost.proofs.Laws.{by-fields, put-in}
 use borrow.Author.Needs.{needs}
-use Rattle.codechost.proofs.Laws.{ways}
+use Rattle.codechost.proofs.Laws.{by-fields, put-in, ways}
 use Rattle.codechost.proofs.decode.put_command.Statement.{statement}
 use Rattle.codechost.proofs.decode.put_command.Tie as tie
 

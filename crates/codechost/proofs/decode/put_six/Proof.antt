@@ -1,4 +1,4 @@
--- `codechost::decode::put_six` meets its contract. Assumes nothing.
+-- `codechost::decode::put_six` meets its contract: six stores in order. Assumes nothing.
 use lib.ListN.{length-set}
 use borrow.Author.Needs.{needs}
 use Rattle.codechost.proofs.Laws.{ways}

@@ -1,4 +1,4 @@
--- `codechost::decode::report` meets its contract. Assumes nothing.
+-- `codechost::decode::report` meets its contract: six numbers lent, or not; a command, or none. Assumes nothing.
 use borrow.Author.Needs.{needs}
 use Rattle.codechost.proofs.Laws.{ways}
 use Rattle.codechost.proofs.decode.report.Statement.{statement}

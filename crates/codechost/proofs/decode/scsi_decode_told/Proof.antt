@@ -1,4 +1,4 @@
--- `codechost::decode::scsi_decode_told` meets its contract. Assumes nothing.
+-- `codechost::decode::scsi_decode_told` meets its contract: the entry that is told, reported. Assumes nothing.
 use borrow.Author.Needs.{needs}
 use Rattle.codechost.proofs.Laws.{ways}
 use Rattle.codechost.proofs.decode.scsi_decode_told.Statement.{statement}

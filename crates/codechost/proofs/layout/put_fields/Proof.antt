@@ -1,4 +1,4 @@
--- `codechost::layout::put_fields` meets its contract. Assumes nothing.
+-- `codechost::layout::put_fields` meets its contract: five stores in order. Assumes nothing.
 use lib.ListN.{length-set}
 use borrow.Author.Needs.{needs}
 use Rattle.codechost.proofs.Laws.{ways}

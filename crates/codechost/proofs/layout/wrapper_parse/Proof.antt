@@ -1,4 +1,4 @@
--- `codechost::layout::wrapper_parse` meets its contract. Assumes nothing.
+-- `codechost::layout::wrapper_parse` meets its contract: refused, taken or invalid. Assumes nothing.
 use native.Mathlib.Omega.{arith}
 use borrow.Author.Needs.{needs}
 use Rattle.codechost.proofs.Laws.{ways}

@@ -1,4 +1,4 @@
--- `codechost::layout::wrapper_status` meets its contract. Assumes nothing.
+-- `codechost::layout::wrapper_status` meets its contract: refused, or the 13 bytes. Assumes nothing.
 use borrow.Author.Needs.{needs}
 use Rattle.codechost.proofs.Laws.{ways}
 use Rattle.codechost.proofs.layout.wrapper_status.Statement.{statement}

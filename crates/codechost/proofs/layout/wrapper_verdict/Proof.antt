@@ -1,7 +1,7 @@
--- `codechost::layout::wrapper_verdict` meets its contract. Assumes nothing.
+-- `codechost::layout::wrapper_verdict` meets its contract: one number for each verdict. Assumes nothing.
+use borrow.Author.Needs.{needs}
 use Rattle.wrapper.specs.declared.verdict.Verdict.the-variants.{Invalid, ValidOnly, Meaningful}
 use Rattle.codechost.proofs.Laws.{says}
-use borrow.Author.Needs.{needs}
 use Rattle.codechost.proofs.layout.wrapper_verdict.Statement.{statement}
 use Rattle.codechost.proofs.layout.wrapper_verdict.Tie as tie
 

@@ -1,4 +1,4 @@
--- `scsi::commands::read_fields` meets its contract. Assumes nothing.
+-- `scsi::commands::read_fields` meets its contract: each arm by the table at its opcode. Assumes nothing.
 use borrow.Author.Tests.{leb-true}
 use Rattle.scsi.specs.Decoding.{rows, lists, fieldsBy}
 use Rattle.scsi.proofs.Laws.{missing}

@@ -1,11 +1,11 @@
--- `scsi::table::in_table` meets its contract. Assumes nothing.
+-- `scsi::table::in_table` meets its contract: what the rows from i on list is what the table lists. Assumes nothing.
 use mathlib.Core.Path.{_≡_, refl, _∙_}
 use Prim.Native.Nat.{_≤_, _-_}
 use native.Mathlib.Omega.{arith}
 use lib.ListN.{drop}
+use borrow.Author.Needs.{needs}
 use Rattle.scsi.specs.Decoding.{rows, lists}
 use Rattle.scsi.proofs.Laws.{here, past}
-use borrow.Author.Needs.{needs}
 use Rattle.scsi.proofs.table.in_table.Statement.{statement}
 use Rattle.scsi.proofs.table.in_table.Tie as tie
 

@@ -1,4 +1,4 @@
--- `scsi::table::listed` meets its contract. Assumes nothing.
+-- `scsi::table::listed` meets its contract: the opcode counts, and the table lists it. Assumes nothing.
 use borrow.Author.Needs.{needs}
 use Rattle.scsi.proofs.Laws.{ways}
 use Rattle.scsi.proofs.table.listed.Statement.{statement}

@@ -1,7 +1,7 @@
--- `scsi::table::opcode_counts` meets its contract. Assumes nothing.
+-- `scsi::table::opcode_counts` meets its contract: one law for each way. Assumes nothing.
 use borrow.Author.Tests.{ne-eqb}
-use Rattle.scsi.specs.Decoding.{counts}
 use borrow.Author.Needs.{needs}
+use Rattle.scsi.specs.Decoding.{counts}
 use Rattle.scsi.proofs.Laws.{ways}
 use Rattle.scsi.proofs.table.opcode_counts.Statement.{statement}
 use Rattle.scsi.proofs.table.opcode_counts.Tie as tie

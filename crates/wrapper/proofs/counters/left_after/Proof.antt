@@ -1,8 +1,9 @@
+-- `wrapper::counters::left_after` meets its contract: a difference, or 0 where it would be below. Assumes nothing.
 use mathlib.Core.Path.{refl, ap}
 use Prim.Native.Nat.{ℕ}
 use native.Mathlib.Omega.{arith}
-use Rattle.wrapper.specs.Counters.{fallen}
 use borrow.Author.Needs.{needs}
+use Rattle.wrapper.specs.Counters.{fallen}
 use Rattle.wrapper.proofs.counters.left_after.Statement.{statement}
 use Rattle.wrapper.proofs.counters.left_after.Tie as tie
 

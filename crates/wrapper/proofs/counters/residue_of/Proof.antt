@@ -1,8 +1,9 @@
+-- `wrapper::counters::residue_of` meets its contract: a difference, or 0 where it would be below. Assumes nothing.
 use mathlib.Core.Path.{refl, ap}
 use Prim.Native.Nat.{ℕ}
 use native.Mathlib.Omega.{arith}
-use Rattle.wrapper.specs.Counters.{residueOf}
 use borrow.Author.Needs.{needs}
+use Rattle.wrapper.specs.Counters.{residueOf}
 use Rattle.wrapper.proofs.counters.residue_of.Statement.{statement}
 use Rattle.wrapper.proofs.counters.residue_of.Tie as tie
 

@@ -1,3 +1,4 @@
+-- `wrapper::status::status_bytes` meets its contract: the four fields laid in turn. Assumes nothing.
 use borrow.Author.Needs.{needs}
 use Rattle.wrapper.proofs.Csw.{ways}
 use Rattle.wrapper.proofs.status.status_bytes.Statement.{statement}
@@ -31,15 +32,4 @@ returns : tie.Need-returns
 returns c = search (ways, needs)
 
 pub status-bytes-spec : {M : Type 1} → statement M
-status-bytes-spec =
-    tie.close
-    (tie.spec
-    slice-aggregate-put-le32
-    put-le32-requires
-    slice-aggregate-put-le32-2
-    put-le32-requires-2
-    slice-aggregate-put-le32-3
-    put-le32-requires-3
-    status-number-requires
-    array-write-m
-    returns)
+status-bytes-spec = tie.close (tie.spec slice-aggregate-put-le32 put-le32-requires slice-aggregate-put-le32-2 put-le32-requires-2 slice-aggregate-put-le32-3 put-le32-requires-3 status-number-requires array-write-m returns)

@@ -1,7 +1,7 @@
+-- `wrapper::status::status_of` meets its contract: one law for the known bytes, one for the others. Assumes nothing.
 use native.Mathlib.Omega.{arith}
-use Rattle.wrapper.proofs.Csw.{status-refused}
 use borrow.Author.Needs.{needs}
-use Rattle.wrapper.proofs.Csw.{ways}
+use Rattle.wrapper.proofs.Csw.{status-refused, ways}
 use Rattle.wrapper.proofs.status.status_of.Statement.{statement}
 use Rattle.wrapper.proofs.status.status_of.Tie as tie
 

@@ -1,3 +1,4 @@
+-- `wrapper::verdict::verdict_on` meets its contract: one law for each verdict. Assumes nothing.
 use borrow.Author.Needs.{needs}
 use Rattle.wrapper.proofs.Cbw as cbw
 use Rattle.wrapper.proofs.Judged.{ways}
@@ -20,5 +21,4 @@ returns-3 : tie.Need-returns-3
 returns-3 c = search (cbw.ways, ways, needs)
 
 pub verdict-on-spec : {M : Type 1} → statement M
-verdict-on-spec =
-    tie.close (tie.spec signed-requires meaningful-requires returns returns-2 returns-3)
+verdict-on-spec = tie.close (tie.spec signed-requires meaningful-requires returns returns-2 returns-3)
