@@ -12,7 +12,7 @@ use Rattle.fields.proofs.Overlay.{overlay-whole}
 use Rattle.scsi.specs.declared.ScsiCommand.{ScsiCommand}
 use Rattle.scsi.specs.declared.Decoded.{Decoded}
 use Rattle.scsi.specs.declared.Decoded.the-variants.{Command, Empty}
-use Rattle.scsi.specs.Decoding.{Outcome, told, decodeCall}
+use Rattle.scsi.specs.Decoding.{Outcome, told, decodeCall, plainCall}
 use Rattle.wrapper.specs.declared.Wrapper.{Wrapper}
 use Rattle.wrapper.specs.declared.Parsed.{Parsed}
 use Rattle.wrapper.specs.declared.status.CommandStatus.{CommandStatus}
@@ -56,7 +56,7 @@ pub reports-empty : (was : List ℕ) (d : Decoded) → length was ≡ 6 → d �
 unfolding reported
 reports-empty was d e ed = rw (eq-eqb _ _ e, ed)
 
-pub decodes : (was block : List ℕ) (d : Decoded) {r : ℕ} {l : List ℕ} → told d ≡ decodeCall false block → shown r l ≡ reported was (told d) → shown r l ≡ shownDecode block was
+pub decodes : (was block : List ℕ) (d : Decoded) {r : ℕ} {l : List ℕ} → told d ≡ plainCall block → shown r l ≡ reported was (told d) → shown r l ≡ shownDecode block was
 unfolding shownDecode
 decodes was block d ed er = er ∙ ap (reported was) ed
 

@@ -9,7 +9,7 @@ use Rattle.scsi.specs.declared.PageControl.{PageControl}
 use Rattle.scsi.specs.declared.PageControl.the-variants.{CurrentValues, ChangeableValues, DefaultValues, SavedValues}
 use Rattle.scsi.specs.declared.ScsiCommand.{ScsiCommand}
 use Rattle.scsi.specs.declared.ScsiCommand.the-variants.{Unknown, Inquiry, TestUnitReady, RequestSense, ModeSense6, ModeSense10, ReadCapacity10, ReadCapacity16, Read, Write, ReadFormatCapacities}
-use Rattle.scsi.specs.Decoding.{Outcome, decodeCall}
+use Rattle.scsi.specs.Decoding.{Outcome, decodeCall, plainCall}
 
 -- a flag is 0 or 1; SPC's numbers of PAGE CONTROL
 abbrev pub flagNumber : Bool → ℕ
@@ -56,9 +56,9 @@ laid was (c ∷ cs) = numbers c
 unfoldable pub reported : List ℕ → Outcome → Shown
 reported was o = cond (eqb (length was) 6) (shown (o .number) (laid was (o .commands))) (shown 10 was)
 
--- the plain entry has extended addressing off
+-- the plain entry
 unfoldable pub shownDecode : List ℕ → List ℕ → Shown
-shownDecode block was = reported was (decodeCall false block)
+shownDecode block was = reported was (plainCall block)
 
 -- a second entry is told: 0 is off, 1 is on, and any other is a number for no flag
 unfoldable pub shownTold : ℕ → List ℕ → List ℕ → Shown

@@ -9,7 +9,7 @@
 use mathlib.Core.Path.{_≡_, refl, sym, ap, _∙_}
 use mathlib.Core.List.{List, [], _∷_, _++_, reverse, reverse-append, reverse-reverse}
 use Prim.Native.Nat.{ℕ, zero, suc, _+_, _*_, _^_, _/_, _%_, _≤_, _<_}
-use native.Mathlib.Nat.{one-mul, mul-assoc, mul-comm, pow-suc, mod-add-div, mod-eq-of-lt, div-lt-iff-lt-mul, zero-lt-suc}
+use native.Mathlib.Nat.{add-comm, one-mul, mul-assoc, mul-comm, pow-suc, mod-add-div, mod-eq-of-lt, div-lt-iff-lt-mul, zero-lt-suc}
 use native.Mathlib.Omega.{arith}
 use native.Mathlib.Numerals.{unary-clauses}
 use lib.Dec.{lit<}
@@ -82,12 +82,12 @@ little-doubled m at w h el eh =
     rw (el, eh, halves m at w, counted-append (take w (drop at m)) (take w (drop (at + w) m)), half-length m at w (omega arith))
 
 pub big-doubled : (m : List ℕ) (at w : ℕ) {low high : ℕ} → at + (w + w) ≤ length m
-    → high ≡ get (bigEndian at w) m → low ≡ get (bigEndian (at + w) w) m → low + 256 ^ w * high ≡ get (bigEndian at (w + w)) m
+    → high ≡ get (bigEndian at w) m → low ≡ get (bigEndian (at + w) w) m → 256 ^ w * high + low ≡ get (bigEndian at (w + w)) m
 unfolding get bytesAt ordered
 big-doubled m at w h eh el =
     let first : List ℕ = take w (drop at m) in
     let second : List ℕ = take w (drop (at + w) m) in
-    rw (el, eh, halves m at w, reverse-append first second, counted-append (reverse second) (reverse first), length-reverse second, half-length m (at + w) w (omega arith))
+    rw (el, eh, halves m at w, reverse-append first second, counted-append (reverse second) (reverse first), length-reverse second, half-length m (at + w) w (omega arith), add-comm)
 
 -- ---- writing
 

@@ -36,7 +36,7 @@ pub fn be16(m: &[u8], at: usize) -> u16
 {
     let high = byte(m, at) as u16;
     let low = byte(m, at + 1) as u16;
-    low + 256 * high
+    256 * high + low
 }
 
 pub fn be32(m: &[u8], at: usize) -> u32
@@ -45,7 +45,7 @@ pub fn be32(m: &[u8], at: usize) -> u32
 {
     let high = be16(m, at) as u32;
     let low = be16(m, at + 2) as u32;
-    low + 65536 * high
+    65536 * high + low
 }
 
 pub fn be64(m: &[u8], at: usize) -> u64
@@ -54,7 +54,7 @@ pub fn be64(m: &[u8], at: usize) -> u64
 {
     let high = be32(m, at) as u64;
     let low = be32(m, at + 4) as u64;
-    low + 4294967296 * high
+    4294967296 * high + low
 }
 
 pub fn put_le32(m: &mut [u8], at: usize, n: u32)

@@ -26,13 +26,13 @@ use Rattle.scsi.specs.Decoding.{Layout, rows, opcodeOf, lists, counts, i
 -- ---- the table, in the code's form
 
 abbrev rowOf : Layout → Row
-rowOf r = record { opcode = r .opcode; shortest = r .shortest }
+rowOf r = record { 0 = r .opcode; 1 = r .shortest }
 
 abbrev noLayout : Layout
 noLayout = record { opcode = 0; shortest = 0; fields = λ b. Unknown 0 }
 
 abbrev pub noRow : Row
-noRow = record { opcode = 0; shortest = 0 }
+noRow = record { 0 = 0; 1 = 0 }
 
 -- row i of a table
 abbrev pub rowAt : List Layout → ℕ → Row
@@ -40,14 +40,14 @@ rowAt rs i = getD (map rowOf rs) i noRow
 
 -- what a table lists from row i on: what row i says of the opcode, or else the rows behind it
 at-row : (rs : List Layout) (op n i : ℕ) → i < length rs
-    → lists (drop i rs) op n ≡ cond (eqb (rowAt rs i .opcode) op) (leb (rowAt rs i .shortest) n) (lists (drop (i + 1) rs) op n)
+    → lists (drop i rs) op n ≡ cond (eqb (rowAt rs i .0) op) (leb (rowAt rs i .1) n) (lists (drop (i + 1) rs) op n)
 unfolding lists
 at-row rs op n i h = rw (add-one, List·getD-map rowOf rs i noLayout, drop-cons rs i noLayout)
 
-pub here : (rs : List Layout) (op n i : ℕ) → i < length rs → rowAt rs i .opcode ≡ op → leb (rowAt rs i .shortest) n ≡ lists (drop i rs) op n
+pub here : (rs : List Layout) (op n i : ℕ) → i < length rs → rowAt rs i .0 ≡ op → leb (rowAt rs i .1) n ≡ lists (drop i rs) op n
 here rs op n i h e = sym (at-row rs op n i h ∙ simp (eq-eqb _ _ e))
 
-pub past : (rs : List Layout) (op n i : ℕ) → i < length rs → (rowAt rs i .opcode ≡ op → ⊥) → lists (drop (i + 1) rs) op n ≡ lists (drop i rs) op n
+pub past : (rs : List Layout) (op n i : ℕ) → i < length rs → (rowAt rs i .0 ≡ op → ⊥) → lists (drop (i + 1) rs) op n ≡ lists (drop i rs) op n
 past rs op n i h k = sym (at-row rs op n i h ∙ simp (ne-eqb _ _ k))
 
 -- no row has the opcode, as a `match` leaves it behind its last arm: beside A, of each row in turn

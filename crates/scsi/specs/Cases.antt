@@ -10,11 +10,11 @@ use Rattle.scsi.specs.declared.PageControl.the-variants.{DefaultValues, 
 use Rattle.scsi.specs.declared.ScsiCommand.{ScsiCommand}
 use Rattle.scsi.specs.declared.ScsiCommand.the-variants.{Unknown, Inquiry, TestUnitReady, RequestSense, ModeSense6, ModeSense10, ReadCapacity10, ReadCapacity16, Read, Write, ReadFormatCapacities}
 use Rattle.scsi.specs.Commands.{flag, pageControl}
-use Rattle.scsi.specs.Decoding.{lists, counts, isListed, fieldsBy, decoded, decodeCall}
+use Rattle.scsi.specs.Decoding.{lists, counts, isListed, fieldsBy, decoded, decodeCall, plainCall}
 
 -- a block and the command that it decodes to, with extended addressing off; and on
 plain : List ℕ → ScsiCommand → Case
-plain b c = case (decodeCall false b) (record { number = 0; commands = c ∷ [] })
+plain b c = case (plainCall b) (record { number = 0; commands = c ∷ [] })
 
 extended : List ℕ → ScsiCommand → Case
 extended b c = case (decodeCall true b) (record { number = 0; commands = c ∷ [] })
@@ -56,14 +56,14 @@ ours =
     -- an opcode in no row, at any length
     ∷ plain (0x01 ∷ replicate 15 0) (Unknown 0x01)
     -- an empty block
-    ∷ case (decodeCall false []) (record { number = 13; commands = [] })
+    ∷ case (plainCall []) (record { number = 13; commands = [] })
     ∷ case (decodeCall true []) (record { number = 13; commands = [] })
     ∷ []
 
 pub starred-hold : AllHold starred
-unfolding starred plain extended bytesAt counted ordered get getBits flag pageControl lists counts isListed fieldsBy decoded decodeCall
+unfolding starred plain extended bytesAt counted ordered get getBits flag pageControl lists counts isListed fieldsBy decoded decodeCall plainCall
 starred-hold = refl
 
 pub ours-hold : AllHold ours
-unfolding ours plain extended bytesAt counted ordered get getBits flag pageControl lists counts isListed fieldsBy decoded decodeCall
+unfolding ours plain extended bytesAt counted ordered get getBits flag pageControl lists counts isListed fieldsBy decoded decodeCall plainCall
 ours-hold = refl

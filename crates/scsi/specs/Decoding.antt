@@ -91,3 +91,7 @@ told Empty = outcome 13 []
 -- 13: "decoding an empty block"
 unfoldable pub decodeCall : Bool → List ℕ → Outcome
 decodeCall extended b = cond (eqb (length b) 0) (outcome 13 []) (outcome 0 (decoded extended b ∷ []))
+
+-- "the plain entry has it off"
+unfoldable pub plainCall : List ℕ → Outcome
+plainCall b = decodeCall false b

@@ -8,10 +8,9 @@ use crate::commands::read_fields;
 use crate::table::listed;
 use fields::byte;
 ghost use mathlib.Core.Path.{_≡_};
-ghost use mathlib.Core.Bool.{false};
 ghost use Prim.Native.Nat.{_≤_};
 ghost use lib.ListN.{length};
-ghost use Rattle.scsi.specs.Decoding.{told, decodeCall, decoded};
+ghost use Rattle.scsi.specs.Decoding.{told, decodeCall, plainCall, decoded};
 
 pub enum PageControl {
     CurrentValues,
@@ -96,7 +95,7 @@ pub fn decode_told(block: &[u8], extended: bool) -> Decoded
 
 // The plain entry: extended addressing is off.
 pub fn decode(block: &[u8]) -> Decoded
-    ensures { λ r. ⌜ told r ≡ decodeCall false (now (block .entry)) ⌝ }
+    ensures { λ r. ⌜ told r ≡ plainCall (now (block .entry)) ⌝ }
 {
     decode_told(block, false)
 }

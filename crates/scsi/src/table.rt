@@ -2,60 +2,22 @@
 ghost use mathlib.Core.Path.{_≡_};
 ghost use Rattle.scsi.specs.Decoding.{rows, lists, counts, isListed};
 
-pub(crate) struct Row {
-    opcode: u8,
-    shortest: u8,
-}
+// An opcode, and its shortest block.
+pub(crate) struct Row(u8, u8);
 
 const ROWS: [Row; 12] = [
-    Row {
-        opcode: 0x00,
-        shortest: 1,
-    },
-    Row {
-        opcode: 0x03,
-        shortest: 5,
-    },
-    Row {
-        opcode: 0x12,
-        shortest: 5,
-    },
-    Row {
-        opcode: 0x1A,
-        shortest: 5,
-    },
-    Row {
-        opcode: 0x23,
-        shortest: 9,
-    },
-    Row {
-        opcode: 0x25,
-        shortest: 1,
-    },
-    Row {
-        opcode: 0x28,
-        shortest: 9,
-    },
-    Row {
-        opcode: 0x2A,
-        shortest: 9,
-    },
-    Row {
-        opcode: 0x5A,
-        shortest: 9,
-    },
-    Row {
-        opcode: 0x88,
-        shortest: 14,
-    },
-    Row {
-        opcode: 0x8A,
-        shortest: 14,
-    },
-    Row {
-        opcode: 0x9E,
-        shortest: 14,
-    },
+    Row(0x00, 1),
+    Row(0x03, 5),
+    Row(0x12, 5),
+    Row(0x1A, 5),
+    Row(0x23, 9),
+    Row(0x25, 1),
+    Row(0x28, 9),
+    Row(0x2A, 9),
+    Row(0x5A, 9),
+    Row(0x88, 14),
+    Row(0x8A, 14),
+    Row(0x9E, 14),
 ];
 
 // Whether a row has the opcode, and a block of n bytes is not shorter than it says.
@@ -65,8 +27,8 @@ fn in_table(opcode: u8, n: usize) -> bool
     let mut i: usize = 0;
     while i < 12 {
         let row = ROWS[i];
-        if row.opcode == opcode {
-            return row.shortest as usize <= n;
+        if row.0 == opcode {
+            return row.1 as usize <= n;
         }
         i += 1;
     }

@@ -12,6 +12,9 @@ ghost use lib.ListN.{length};
 ghost use Rattle.fields.specs.Field.{bytesAt};
 ghost use Rattle.wrapper.specs.Wrapper.{CBWCB, isSigned, isBlockLength, isValid, directionOf, wrapperOf, blank, parsed};
 
+// 55 53 42 43, little-endian.
+const SIGNATURE: u32 = 0x43425355;
+
 pub enum DataDirection {
     Out,
     In,
@@ -38,7 +41,7 @@ pub(crate) fn signed(message: &[u8]) -> bool
     ensures { λ r. ⌜ r ≡ isSigned (now (message .entry)) ⌝ }
 {
     if message.len() == 31 {
-        return le32(message, 0) == 0x43425355;
+        return le32(message, 0) == SIGNATURE;
     }
     false
 }

@@ -4,6 +4,9 @@ use fields::put_le32;
 ghost use mathlib.Core.Path.{_≡_};
 ghost use Rattle.wrapper.specs.Status.{told, statusCall, statusNumber, statusBytes};
 
+// 55 53 42 53, little-endian.
+const SIGNATURE: u32 = 0x53425355;
+
 pub enum CommandStatus {
     Passed,
     Failed,
@@ -42,7 +45,7 @@ pub fn status_bytes(tag: u32, residue: Residue, status: CommandStatus) -> [u8; 1
     ensures { λ r. ⌜ r ≡ statusBytes tag residue (statusNumber status) ⌝ }
 {
     let mut m = [0u8; 13];
-    put_le32(&mut m, 0, 0x53425355);
+    put_le32(&mut m, 0, SIGNATURE);
     put_le32(&mut m, 4, tag);
     put_le32(&mut m, 8, residue.0);
     m[12] = status_number(status);

@@ -1,0 +1,15 @@
+-- `scsi::decode` meets its contract: the entry that is told, told off. Assumes nothing.
+use borrow.Author.Needs.{needs}
+use Rattle.scsi.specs.Decoding.{plainCall}
+use Rattle.scsi.proofs.decode.Statement.{statement}
+use Rattle.scsi.proofs.decode.Tie as tie
+
+decode-told-requires : tie.Need-decode-told-requires
+decode-told-requires c κs = search needs
+
+returns : tie.Need-returns
+unfolding plainCall
+returns c = search needs
+
+pub decode-spec : {M : Type 1} → statement M
+decode-spec = tie.close (tie.spec decode-told-requires returns)
