@@ -750,6 +750,13 @@ fn differences() -> Vec<Named> {
                 .command(),
         ),
         named(
+            "diff-a-reserved-bit-counts-as-block-length",
+            create(64, 0, 64).wrapper(Wrapper {
+                block_length: 0x26,
+                ..ready(1)
+            }),
+        ),
+        named(
             "diff-over-long-write-sends-more-than-l",
             create(64, 0, 64)
                 .wrapper(reading(1))

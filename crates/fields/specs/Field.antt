@@ -40,7 +40,7 @@ unfoldable pub digits : ℕ → ℕ → List ℕ
 digits zero n = []
 digits (suc w) n = n % 256 ∷ digits w (n / 256)
 
--- bytes in this order, the least significant first, and the other way: most significant first is the same from the other end
+-- bytes in an order, turned so that the least significant comes first; and, since it is the same turn, turned back
 unfoldable pub ordered : Order → List ℕ → List ℕ
 ordered little bs = bs
 ordered big bs = reverse bs
