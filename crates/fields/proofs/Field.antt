@@ -84,10 +84,11 @@ little-doubled m at w h el eh =
 pub big-doubled : (m : List ℕ) (at w : ℕ) {low high : ℕ} → at + (w + w) ≤ length m
     → high ≡ get (bigEndian at w) m → low ≡ get (bigEndian (at + w) w) m → 256 ^ w * high + low ≡ get (bigEndian at (w + w)) m
 unfolding get bytesAt ordered
-big-doubled m at w h eh el =
+big-doubled m at w {low} {high} h eh el =
     let first : List ℕ = take w (drop at m) in
     let second : List ℕ = take w (drop (at + w) m) in
-    rw (el, eh, halves m at w, reverse-append first second, counted-append (reverse second) (reverse first), length-reverse second, half-length m (at + w) w (omega arith), add-comm)
+    add-comm (256 ^ w * high) low
+    ∙ rw (el, eh, halves m at w, reverse-append first second, counted-append (reverse second) (reverse first), length-reverse second, half-length m (at + w) w (omega arith))
 
 -- ---- writing
 

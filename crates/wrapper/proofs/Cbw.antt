@@ -18,11 +18,11 @@ use Rattle.wrapper.specs.declared.DataDirection.{DataDirection}
 use Rattle.wrapper.specs.declared.DataDirection.the-variants.{Out, In, NotExpected}
 use Rattle.wrapper.specs.declared.Wrapper.{Wrapper}
 use Rattle.wrapper.specs.declared.Parsed.{Parsed}
-use Rattle.wrapper.specs.Wrapper.{dCBWSignature, dCBWTag, dCBWDataTransferLength, direction, bCBWLUN, bCBWCBLength, CBWCB, Valid, isSigned, isBlockLength, isValid, directionOf, wrapperOf, blank, taken, parsed}
+use Rattle.wrapper.specs.Wrapper.{wrapperSignature, dCBWSignature, dCBWTag, dCBWDataTransferLength, direction, bCBWLUN, bCBWCBLength, CBWCB, Valid, isSigned, isBlockLength, isValid, directionOf, wrapperOf, blank, taken, parsed}
 
 -- ---- the tests
 
-pub signed-by : (m : List ℕ) {x : ℕ} → length m ≡ 31 → x ≡ get dCBWSignature m → eqb x 0x43425355 ≡ isSigned m
+pub signed-by : (m : List ℕ) {x : ℕ} → length m ≡ 31 → x ≡ get dCBWSignature m → eqb x wrapperSignature ≡ isSigned m
 unfolding isSigned
 signed-by m h e = rw (eq-eqb _ _ h, e)
 
@@ -32,11 +32,11 @@ unsigned m n = rw (ne-eqb _ _ n)
 
 pub signed-whole : (m : List ℕ) {s : Bool} → s ≡ isSigned m → s ≡ true → length m ≡ 31
 unfolding isSigned
-signed-whole m es e = eqb-true _ _ (and-left (eqb (length m) 31) (eqb (get dCBWSignature m) 0x43425355) (sym es ∙ e))
+signed-whole m es e = eqb-true _ _ (and-left (eqb (length m) 31) (eqb (get dCBWSignature m) wrapperSignature) (sym es ∙ e))
 
-signed-signature : (m : List ℕ) → isSigned m ≡ true → get dCBWSignature m ≡ 0x43425355
+signed-signature : (m : List ℕ) → isSigned m ≡ true → get dCBWSignature m ≡ wrapperSignature
 unfolding isSigned
-signed-signature m e = eqb-true _ _ (and-right (eqb (length m) 31) (eqb (get dCBWSignature m) 0x43425355) e)
+signed-signature m e = eqb-true _ _ (and-right (eqb (length m) 31) (eqb (get dCBWSignature m) wrapperSignature) e)
 
 -- every byte of a wrapper may be looked at
 pub reaches : (m : List ℕ) (i : ℕ) {s : Bool} → s ≡ isSigned m → s ≡ true → i < 31 → i < length m

@@ -18,7 +18,7 @@ use Rattle.wrapper.specs.declared.status.CommandStatus.{CommandStatus}
 use Rattle.wrapper.specs.declared.status.CommandStatus.the-variants.{Passed, Failed, PhaseError}
 use Rattle.wrapper.specs.declared.status.StatusByte.the-variants.{Known, Refused}
 use Rattle.wrapper.specs.declared.counters.Residue.{Residue}
-use Rattle.wrapper.specs.Status.{dCSWSignature, dCSWTag, dCSWDataResidue, bCSWStatus, statusNumber, statusBytes, Taken, told, statusCall}
+use Rattle.wrapper.specs.Status.{statusSignature, dCSWSignature, dCSWTag, dCSWDataResidue, bCSWStatus, statusNumber, statusBytes, Taken, told, statusCall}
 
 -- ---- the status byte
 
@@ -53,7 +53,7 @@ blank : List ℕ
 blank = replicate 13 0
 
 signed : List ℕ
-signed = put dCSWSignature 0x53425355 blank
+signed = put dCSWSignature statusSignature blank
 
 tagged : ℕ → List ℕ
 tagged tag = put dCSWTag tag signed
@@ -63,7 +63,7 @@ counted tag r = put dCSWDataResidue (r .0) (tagged tag)
 
 length-signed : length signed ≡ 13
 unfolding signed blank
-length-signed = length-put dCSWSignature 0x53425355 blank (lit≤ tt)
+length-signed = length-put dCSWSignature statusSignature blank (lit≤ tt)
 
 length-tagged : (tag : ℕ) → length (tagged tag) ≡ 13
 unfolding tagged
@@ -83,7 +83,7 @@ number-small Failed = lit< tt
 number-small PhaseError = lit< tt
 
 pub status-laid : (tag : ℕ) (r : Residue) (s : CommandStatus) (a b c : List ℕ) (n : ℕ)
-    → a ≡ put dCSWSignature 0x53425355 (replicate 13 0) → b ≡ put dCSWTag tag a → c ≡ put dCSWDataResidue (r .0) b → n ≡ statusNumber s
+    → a ≡ put dCSWSignature statusSignature (replicate 13 0) → b ≡ put dCSWTag tag a → c ≡ put dCSWDataResidue (r .0) b → n ≡ statusNumber s
     → set c 12 n ≡ statusBytes tag r (statusNumber s)
 unfolding statusBytes blank signed tagged counted
 status-laid tag r s a b c n ea eb ec en =
@@ -93,13 +93,13 @@ status-laid tag r s a b c n ea eb ec en =
 -- ---- what a host reads
 
 module _ (tag : ℕ) (r : Residue) (status : ℕ) where
-  pub signature-read : get dCSWSignature (statusBytes tag r status) ≡ 0x53425355
+  pub signature-read : get dCSWSignature (statusBytes tag r status) ≡ statusSignature
   unfolding statusBytes blank signed tagged counted
   signature-read =
       get-before bCSWStatus status (counted tag r) (omega (arith, length-counted tag r)) dCSWSignature (lit≤ tt)
       ∙ get-before dCSWDataResidue (r .0) (tagged tag) (omega (arith, length-tagged tag)) dCSWSignature (lit≤ tt)
       ∙ get-before dCSWTag tag signed (omega (arith, length-signed)) dCSWSignature (lit≤ tt)
-      ∙ get-put dCSWSignature 0x53425355 blank (lit≤ tt) (lit< tt)
+      ∙ get-put dCSWSignature statusSignature blank (lit≤ tt) (lit< tt)
 
   pub tag-read : tag < 2 ^ 32 → get dCSWTag (statusBytes tag r status) ≡ tag
   unfolding statusBytes blank signed tagged counted

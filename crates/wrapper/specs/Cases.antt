@@ -11,8 +11,8 @@ use Rattle.wrapper.specs.declared.DataDirection.the-variants.{Out, In, N
 use Rattle.wrapper.specs.declared.status.CommandStatus.the-variants.{Failed}
 use Rattle.wrapper.specs.declared.verdict.Verdict.the-variants.{Invalid, ValidOnly, Meaningful}
 use Rattle.wrapper.specs.Counters.{fallen, residueOf}
-use Rattle.wrapper.specs.Status.{statusTable, statusNumber, statusBytes, statusCall}
-use Rattle.wrapper.specs.Wrapper.{wrapperTable, isSigned, isBlockLength, isValid, directionOf, wrapperOf, blank, parsed}
+use Rattle.wrapper.specs.Status.{statusTable, statusSignature, statusNumber, statusBytes, statusCall}
+use Rattle.wrapper.specs.Wrapper.{wrapperTable, wrapperSignature, isSigned, isBlockLength, isValid, directionOf, wrapperOf, blank, parsed}
 use Rattle.wrapper.specs.Verdict.{isMeaningful, verdictOf}
 
 -- a wrapper with tag 01020304, L = 512, and these bytes for flags, LUN and block length
@@ -58,6 +58,9 @@ ours =
     -- BOT's tables have no gap and end where the messages end
     ∷ case (tile 0 wrapperTable 31) true
     ∷ case (tile 0 statusTable 13) true
+    -- the two signatures, byte by byte
+    ∷ case (digits 4 wrapperSignature) (0x55 ∷ 0x53 ∷ 0x42 ∷ 0x43 ∷ [])
+    ∷ case (digits 4 statusSignature) (0x55 ∷ 0x53 ∷ 0x42 ∷ 0x53 ∷ [])
     ∷ []
 
 pub starred-hold : AllHold starred

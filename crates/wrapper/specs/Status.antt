@@ -33,13 +33,17 @@ statusNumber Passed = 0
 statusNumber Failed = 1
 statusNumber PhaseError = 2
 
+-- 55 53 42 53, as a little-endian number: BOT's 53425355h
+abbrev pub statusSignature : ℕ
+statusSignature = 0x53425355
+
 -- "Status: 55 53 42 53, tag, residue, status byte."
 unfoldable pub statusBytes : ℕ → Residue → ℕ → List ℕ
 statusBytes tag residue status =
     put bCSWStatus status
     (put dCSWDataResidue (residue .0)
     (put dCSWTag tag
-    (put dCSWSignature 0x53425355
+    (put dCSWSignature statusSignature
     (replicate 13 0))))
 
 -- 01's number for what becomes of a status byte, and the status that it stands for, by its number

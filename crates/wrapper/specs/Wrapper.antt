@@ -42,9 +42,13 @@ CBWCB = littleEndian 15 16
 abbrev pub wrapperTable : List Field
 wrapperTable = dCBWSignature ∷ dCBWTag ∷ dCBWDataTransferLength ∷ bmCBWFlags ∷ oneByte 13 ∷ bCBWCBLength ∷ CBWCB ∷ []
 
--- 31 bytes with the signature 55 53 42 43
+-- "0 to 3 are 55 53 42 43": as a little-endian number, BOT's 43425355h
+abbrev pub wrapperSignature : ℕ
+wrapperSignature = 0x43425355
+
+-- 31 bytes with the signature
 unfoldable pub isSigned : List ℕ → Bool
-isSigned m = eqb (length m) 31 && eqb (get dCBWSignature m) 0x43425355
+isSigned m = eqb (length m) 31 && eqb (get dCBWSignature m) wrapperSignature
 
 -- "14 block length, 1 to 16"
 unfoldable pub isBlockLength : ℕ → Bool
@@ -53,7 +57,7 @@ isBlockLength n = leb 1 n && leb n 16
 -- "A wrong signature or block length is invalid, all else valid; the demands mean this sense." As a fact, and as a test.
 pub record Valid (m : List ℕ) : Type 0 where
   pub whole : length m ≡ 31
-  pub signature : get dCBWSignature m ≡ 0x43425355
+  pub signature : get dCBWSignature m ≡ wrapperSignature
   pub least : 1 ≤ get bCBWCBLength m
   pub most : get bCBWCBLength m ≤ 16
 
