@@ -129,6 +129,7 @@ fn report(lent: &mut [u64], d: Decoded) -> u32
     }
 }
 
+// The plain entry. 0: the command stands in the six numbers; 13: the block is empty; 10: not six numbers were lent.
 #[no_mangle]
 pub extern "C" fn scsi_decode(block: &[u8], command: &mut [u64]) -> u32
     ensures { λ r. ⌜ shown r (now (command .exit)) ≡ shownDecode (now (block .entry)) (now (command .entry)) ⌝ }
@@ -137,7 +138,7 @@ pub extern "C" fn scsi_decode(block: &[u8], command: &mut [u64]) -> u32
     report(command, d)
 }
 
-// extended: 0 off, 1 on.
+// The entry that is told: extended addressing is off (0) or on (1), any other number is 10.
 #[no_mangle]
 pub extern "C" fn scsi_decode_told(block: &[u8], extended: u32, command: &mut [u64]) -> u32
     ensures { λ r. ⌜ shown r (now (command .exit)) ≡ shownTold extended (now (block .entry)) (now (command .entry)) ⌝ }

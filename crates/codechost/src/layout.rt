@@ -32,7 +32,7 @@ fn put_fields(fields: &mut [u32], w: Wrapper)
     fields[4] = w.blocklength as u32;
 }
 
-// Whether a message is a valid wrapper: 1, with its fields and its block, or 0.
+// Whether a message is a valid wrapper: 1, with its five fields and the 16 bytes of its block, or 0; 10: other lengths were lent.
 #[no_mangle]
 pub extern "C" fn wrapper_parse(message: &[u8], fields: &mut [u32], block: &mut [u8]) -> u32
     ensures { λ r. ⌜ parse r (now (fields .exit)) (now (block .exit)) ≡ shownParse (now (message .entry)) (now (fields .entry)) (now (block .entry)) ⌝ }
@@ -54,7 +54,8 @@ pub extern "C" fn wrapper_parse(message: &[u8], fields: &mut [u32], block: &mut 
     0
 }
 
-// The status of a wrapper with this tag and length, for the firmware's figure and status byte.
+// The status of a wrapper with this tag and length, for the firmware's figure and status byte. 0: it stands in the 13 bytes; 12: the
+// status byte is above 2; 10: not 13 bytes were lent.
 #[no_mangle]
 pub extern "C" fn wrapper_status(
     tag: u32,

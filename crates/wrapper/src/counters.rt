@@ -9,6 +9,7 @@ pub struct Left(pub u32);
 // How many bytes of L the firmware did not deal with, by its own figure.
 pub struct Residue(pub u32);
 
+// Left falls by the bytes moved, never below 0.
 pub fn left_after(left: Left, moved: u32) -> Left
     ensures { λ r. ⌜ r ≡ fallen left moved ⌝ }
 {
@@ -16,6 +17,7 @@ pub fn left_after(left: Left, moved: u32) -> Left
     if moved < n { Left(n - moved) } else { Left(0) }
 }
 
+// L less the firmware's figure, never below 0.
 pub fn residue_of(length: u32, figure: u32) -> Residue
     ensures { λ r. ⌜ r ≡ residueOf length figure ⌝ }
 {

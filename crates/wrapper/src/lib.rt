@@ -46,6 +46,7 @@ pub(crate) fn signed(message: &[u8]) -> bool
     false
 }
 
+// Whether a command block can have so many bytes.
 pub(crate) fn block_fits(blocklength: u8) -> bool
     ensures { λ r. ⌜ r ≡ isBlockLength blocklength ⌝ }
 {
@@ -65,6 +66,7 @@ pub fn valid(message: &[u8]) -> bool
     false
 }
 
+// Where the data goes: nowhere if there is none, whatever the flag says.
 fn direction_of(length: u32, tohost: u8) -> DataDirection
     ensures { λ r. ⌜ r ≡ directionOf length tohost ⌝ }
 {
@@ -136,6 +138,7 @@ pub fn no_wrapper() -> Wrapper
     }
 }
 
+// A received message as a wrapper.
 pub fn parse(message: &[u8]) -> Parsed
     ensures { λ r. ⌜ r ≡ parsed (now (message .entry)) ⌝ }
 {

@@ -19,6 +19,7 @@ pub enum StatusByte {
     Refused,
 }
 
+// Bytes above 2 are refused.
 pub fn status_of(byte: u8) -> StatusByte
     ensures { λ r. ⌜ told r ≡ statusCall byte ⌝ }
 {
@@ -30,6 +31,7 @@ pub fn status_of(byte: u8) -> StatusByte
     }
 }
 
+// The byte that stands for a status.
 pub fn status_number(status: CommandStatus) -> u8
     ensures { λ r. ⌜ r ≡ statusNumber status ⌝ }
 {
