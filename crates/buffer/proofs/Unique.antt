@@ -141,7 +141,7 @@ marked-fill-only κs a x y s t p q = taken-once (p .0) (p .1) (q .0) (q .1)
 pub marked-write-all-only : Only 2 marked-write-all-kinds.ps marked-write-all-kinds.r marked-write-all.Post (λ κs s. now (s .0))
 marked-write-all-only κs a x y s t p q = wrote-once (p .0) (p .1) (q .0) (q .1)
 
-pub marked-read-only : Only 2 marked-read-kinds.ps marked-read-kinds.r marked-read.Post (λ κs s. now (s .1 .1 .0))
+pub marked-read-only : Only 2 marked-read-kinds.ps marked-read-kinds.r marked-read.Post (λ κs s. now (s .1 .1 .1 .0))
 marked-read-only κs a x y s t p q = (taken-once (p .0) (p .1) (q .0) (q .1) .0, p .2 ∙ sym (q .2))
 
 pub put-only : Only 2 put-kinds.ps put-kinds.r put.Post (λ κs s. now (s .0))

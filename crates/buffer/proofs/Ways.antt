@@ -80,15 +80,15 @@ module _ (want : ℕ) (ys : List ℕ) (n : ℕ) (s t : Buffer) (g : Sound s) (en
   unfolding writtenAll appended
   takes-all h b e = (rw (has h), leaves (rw (has h, ← en, ← et .same, e)) (sound-writtenAll want ys s g))
 
--- k bytes are read off into d, which ends as e
-pub reads : (d : List ℕ) (k : ℕ) (s : Buffer) → Sound s → k ≡ min (unread s) (length d) → (e : List ℕ)
+-- k bytes, at most n, are read off into d, which ends as e
+pub reads : (d : List ℕ) (n k : ℕ) (s : Buffer) → Sound s → k ≡ min (unread s) n → (e : List ℕ)
     → e ≡ overlay d 0 (take (s .marks .read + k - s .marks .read) (drop (s .marks .read) (s .bytes)))
-    → (k ≡ ready (length d) s) × Leaves (buffer (s .bytes) (at (s .marks .read + k) (s .marks .write))) (readOff (length d) s) × (e ≡ overlay d 0 (given (length d) s))
+    → (k ≡ ready n s) × Leaves (buffer (s .bytes) (at (s .marks .read + k) (s .marks .write))) (readOff n s) × (e ≡ overlay d 0 (given n s))
 unfolding given ready readOff unreadBytes
-reads d k s g ek e ee =
-    let n : s .marks .read + k - s .marks .read ≡ k = omega arith in
-    let first = take-take k (unread s) (drop (s .marks .read) (s .bytes)) (omega (arith, min-le-left (unread s) (length d))) in
-    (ek, leaves (rw ek) (sound-readOff (length d) s g), rw (n, ← first, ek) at ee)
+reads d n k s g ek e ee =
+    let same : s .marks .read + k - s .marks .read ≡ k = omega arith in
+    let first = take-take k (unread s) (drop (s .marks .read) (s .bytes)) (omega (arith, min-le-left (unread s) n)) in
+    (ek, leaves (rw ek) (sound-readOff n s g), rw (same, ← first, ek) at ee)
 
 -- ---- the public calls: x is what `sound` answered
 

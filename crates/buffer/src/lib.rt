@@ -111,7 +111,7 @@ pub fn read(io: &[u8], m: Marks, dst: &mut [u8]) -> Answer
         × (now (dst .exit) ≡ readInto (now (dst .entry)) (buffer (now (io .entry)) m)) ⌝ }
 {
     if sound(io.len(), m) {
-        let g = marked::read(io, m, dst);
+        let g = marked::read(io, m, dst.len(), dst);
         let t = g.marks;
         return Answer::Done(g.count, t);
     }

@@ -6,7 +6,7 @@ use crate::span::move_front;
 use crate::span::put;
 ghost use mathlib.Core.Path.{_≡_};
 ghost use mathlib.Core.Bool.{not};
-ghost use Prim.Native.Nat.{_+_, _-_, min, max};
+ghost use Prim.Native.Nat.{_+_, _-_, _≤_, min, max};
 ghost use lib.ListN.{length};
 ghost use Rattle.buffer.specs.Buffer.{Sound, Leaves, buffer, at, moved, withRoom, fitting, written, filled, lacksRoom, writtenAll, ready, given, readOff};
 ghost use Rattle.fields.specs.Overlay.{overlay};
@@ -127,15 +127,15 @@ pub fn fill_up_to(io: &mut [u8], m: Marks, v: u8, n: usize) -> Taken
     }
 }
 
-// The first unread bytes, as many as dst holds, go to dst's front and count as read.
-pub fn read(io: &[u8], m: Marks, dst: &mut [u8]) -> Taken
-    requires { ⌜ Sound (buffer (now io) m) ⌝ }
-    ensures { λ r. ⌜ (r .count ≡ ready (length (now (dst .entry))) (buffer (now (io .entry)) m))
-        × Leaves (buffer (now (io .entry)) (r .marks)) (readOff (length (now (dst .entry))) (buffer (now (io .entry)) m))
-        × (now (dst .exit) ≡ overlay (now (dst .entry)) 0 (given (length (now (dst .entry))) (buffer (now (io .entry)) m))) ⌝ }
+// The first unread bytes, at most `most`, go to dst's front and count as read.
+pub fn read(io: &[u8], m: Marks, most: usize, dst: &mut [u8]) -> Taken
+    requires { ⌜ Sound (buffer (now io) m) × (most ≤ length (now dst)) ⌝ }
+    ensures { λ r. ⌜ (r .count ≡ ready most (buffer (now (io .entry)) m))
+        × Leaves (buffer (now (io .entry)) (r .marks)) (readOff most (buffer (now (io .entry)) m))
+        × (now (dst .exit) ≡ overlay (now (dst .entry)) 0 (given most (buffer (now (io .entry)) m))) ⌝ }
 {
     let from = m.read;
-    let n = least(m.write - m.read, dst.len());
+    let n = least(m.write - m.read, most);
     let end = from + n;
     put(dst, 0, &io[from..end]);
     Taken {

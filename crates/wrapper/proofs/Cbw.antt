@@ -17,8 +17,9 @@ use Rattle.fields.proofs.Seq.{length-part, listed, part-listed}
 use Rattle.wrapper.specs.declared.DataDirection.{DataDirection}
 use Rattle.wrapper.specs.declared.DataDirection.the-variants.{Out, In, NotExpected}
 use Rattle.wrapper.specs.declared.Wrapper.{Wrapper}
+use Rattle.wrapper.specs.declared.Head.{Head}
 use Rattle.wrapper.specs.declared.Parsed.{Parsed}
-use Rattle.wrapper.specs.Wrapper.{wrapperSignature, dCBWSignature, dCBWTag, dCBWDataTransferLength, direction, bCBWLUN, bCBWCBLength, CBWCB, Valid, isSigned, isBlockLength, isValid, directionOf, wrapperOf, blank, taken, parsed}
+use Rattle.wrapper.specs.Wrapper.{wrapperSignature, dCBWSignature, dCBWTag, dCBWDataTransferLength, direction, bCBWLUN, bCBWCBLength, CBWCB, Valid, isSigned, isBlockLength, isValid, directionOf, wrapperOf, headOf, blank, taken, parsed}
 
 -- ---- the tests
 
@@ -116,11 +117,16 @@ pub block-listed : (m : List ℕ) → length m ≡ 31 → listed m 15 16 ≡ byt
 unfolding bytesAt
 block-listed m h = sym (part-listed m 15 16 (omega arith))
 
-pub reads : (m : List ℕ) {t l x u b : ℕ} {d : DataDirection} {k : List ℕ}
-    → t ≡ get dCBWTag m → l ≡ get dCBWDataTransferLength m → x ≡ getBits direction m → d ≡ directionOf l x → u ≡ getBits bCBWLUN m → b ≡ get bCBWCBLength m → k ≡ bytesAt CBWCB m
-    → _≡_ {A = Wrapper} (record { tag = t; length = l; direction = d; lun = u; blocklength = b; block = k }) (wrapperOf m)
+pub heads : (m : List ℕ) {t l x u b : ℕ} {d : DataDirection}
+    → t ≡ get dCBWTag m → l ≡ get dCBWDataTransferLength m → x ≡ getBits direction m → d ≡ directionOf l x → u ≡ getBits bCBWLUN m → b ≡ get bCBWCBLength m
+    → _≡_ {A = Head} (record { tag = t; length = l; direction = d; lun = u; blocklength = b }) (headOf (wrapperOf m))
 unfolding wrapperOf
-reads m et el ex ed eu eb ek = rw (ed, ex, et, el, eu, eb, ek)
+heads m et el ex ed eu eb = rw (ed, ex, et, el, eu, eb)
+
+pub reads : (m : List ℕ) {h : Head} {k : List ℕ} → h ≡ headOf (wrapperOf m) → k ≡ bytesAt CBWCB m
+    → _≡_ {A = Wrapper} (record { tag = h .tag; length = h .length; direction = h .direction; lun = h .lun; blocklength = h .blocklength; block = k }) (wrapperOf m)
+unfolding wrapperOf
+reads m eh ek = rw (eh, ek)
 
 pub parses : (m : List ℕ) {r : Bool} {w : Wrapper} → r ≡ isValid m → r ≡ true → w ≡ wrapperOf m
     → _≡_ {A = Parsed} (record { valid = true; wrapper = w }) (parsed m)
@@ -132,4 +138,4 @@ pub parses-not : (m : List ℕ) {r : Bool} {w : Wrapper} → r ≡ isValid m →
 unfolding parsed
 parses-not m er e ew = rw (sym er ∙ e, ew)
 
-pub ruleset ways = (signed-by, unsigned, signed-whole, reaches, fits-by, fits-not, valid-by, invalid-by, valid-whole, no-data, to-host, from-host, block-listed, reads, parses, parses-not)
+pub ruleset ways = (signed-by, unsigned, signed-whole, reaches, fits-by, fits-not, valid-by, invalid-by, valid-whole, no-data, to-host, from-host, block-listed, heads, reads, parses, parses-not)

@@ -10,11 +10,15 @@ pub struct Left(pub u32);
 pub struct Residue(pub u32);
 
 // Left falls by the bytes moved, never below 0.
-pub fn left_after(left: Left, moved: u32) -> Left
+pub fn left_after(left: Left, moved: usize) -> Left
     ensures { λ r. ⌜ r ≡ fallen left moved ⌝ }
 {
     let n = left.0;
-    if moved < n { Left(n - moved) } else { Left(0) }
+    if moved < n as usize {
+        Left(n - moved as u32)
+    } else {
+        Left(0)
+    }
 }
 
 // L less the firmware's figure, never below 0.

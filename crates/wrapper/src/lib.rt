@@ -10,7 +10,7 @@ use fields::le32;
 ghost use mathlib.Core.Path.{_≡_};
 ghost use lib.ListN.{length};
 ghost use Rattle.fields.specs.Field.{bytesAt};
-ghost use Rattle.wrapper.specs.Wrapper.{CBWCB, isSigned, isBlockLength, isValid, directionOf, wrapperOf, blank, parsed};
+ghost use Rattle.wrapper.specs.Wrapper.{CBWCB, isSigned, isBlockLength, isValid, directionOf, wrapperOf, headOf, blank, parsed};
 
 // 55 53 42 43, little-endian.
 const SIGNATURE: u32 = 0x43425355;
@@ -28,6 +28,15 @@ pub struct Wrapper {
     pub lun: u8,
     pub blocklength: u8,
     pub block: [u8; 16],
+}
+
+// A wrapper without its command block: what a poll decides by.
+pub struct Head {
+    pub tag: u32,
+    pub length: u32,
+    pub direction: DataDirection,
+    pub lun: u8,
+    pub blocklength: u8,
 }
 
 // A message, parsed: valid with all its fields, or invalid and all fields blank.
@@ -104,20 +113,36 @@ fn block_of(m: &[u8]) -> [u8; 16]
     ]
 }
 
-// What a wrapper of 31 bytes says.
-fn read_wrapper(m: &[u8]) -> Wrapper
+// What a wrapper of 31 bytes says before its block.
+pub fn head_of(m: &[u8]) -> Head
     requires { ⌜ length (now m) ≡ 31 ⌝ }
-    ensures { λ r. ⌜ r ≡ wrapperOf (now (m .entry)) ⌝ }
+    ensures { λ r. ⌜ r ≡ headOf (wrapperOf (now (m .entry))) ⌝ }
 {
     let length = le32(m, 8);
     let direction = direction_of(length, bits_of(m, 12, 7, 1));
-    let block = block_of(m);
-    Wrapper {
+    Head {
         tag: le32(m, 4),
         length: length,
         direction: direction,
         lun: bits_of(m, 13, 0, 4),
         blocklength: byte(m, 14),
+    }
+}
+
+// What a wrapper of 31 bytes says.
+fn read_wrapper(m: &[u8]) -> Wrapper
+    requires { ⌜ length (now m) ≡ 31 ⌝ }
+    ensures { λ r. ⌜ r ≡ wrapperOf (now (m .entry)) ⌝ }
+{
+    let head = head_of(m);
+    let direction = head.direction;
+    let block = block_of(m);
+    Wrapper {
+        tag: head.tag,
+        length: head.length,
+        direction: direction,
+        lun: head.lun,
+        blocklength: head.blocklength,
         block: block,
     }
 }

@@ -9,7 +9,7 @@ sound-requires : tie.Need-sound-requires
 sound-requires c κs = search needs
 
 read-requires : tie.Need-read-requires
-read-requires c κs = tested _ (c .before .before .sound .ensures) (c .before .if1 .taken)
+read-requires c κs = (tested _ (c .before .before .sound .ensures) (c .before .if1 .taken), search needs)
 
 same-length : tie.Need-same-length
 same-length c = search needs

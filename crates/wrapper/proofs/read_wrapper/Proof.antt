@@ -1,32 +1,17 @@
--- `wrapper::read_wrapper` meets its contract: each field by BOT's table. Assumes nothing.
+-- `wrapper::read_wrapper` meets its contract: the head, and the block behind it. Assumes nothing.
 use borrow.Author.Needs.{needs}
 use Rattle.wrapper.proofs.Cbw.{ways}
 use Rattle.wrapper.proofs.read_wrapper.Statement.{statement}
 use Rattle.wrapper.proofs.read_wrapper.Tie as tie
 
-le32-requires : tie.Need-le32-requires
-le32-requires c κs = search needs
-
-bits-of-requires : tie.Need-bits-of-requires
-bits-of-requires c κs = search needs
-
-direction-of-requires : tie.Need-direction-of-requires
-direction-of-requires c κs = search needs
+head-of-requires : tie.Need-head-of-requires
+head-of-requires c κs = search needs
 
 block-of-requires : tie.Need-block-of-requires
 block-of-requires c κs = search needs
-
-le32-requires-2 : tie.Need-le32-requires-2
-le32-requires-2 c κs = search needs
-
-bits-of-requires-2 : tie.Need-bits-of-requires-2
-bits-of-requires-2 c κs = search needs
-
-byte-requires : tie.Need-byte-requires
-byte-requires c κs = search needs
 
 returns : tie.Need-returns
 returns c = search (ways, needs)
 
 pub read-wrapper-spec : {M : Type 1} → statement M
-read-wrapper-spec = tie.close (tie.spec le32-requires bits-of-requires direction-of-requires block-of-requires le32-requires-2 bits-of-requires-2 byte-requires returns)
+read-wrapper-spec = tie.close (tie.spec head-of-requires block-of-requires returns)

@@ -33,7 +33,7 @@ returns c =
     let put = c .before .before in
     let fit = put .before .before .before in
     let start = fit .before .before .before .before in
-    reads _ _ _ (start .pre) (fit .least .ensures) _ (put .put .ensures)
+    reads _ _ _ _ (start .pre .0) (fit .least .ensures) _ (put .put .ensures)
 
 pub read-spec : {M : Type 1} → statement M
 read-spec = tie.close (tie.spec sub-least least-requires add-end sub-put part-put-start part-put-end put-requires same-length returns)

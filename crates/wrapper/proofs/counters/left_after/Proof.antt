@@ -7,8 +7,14 @@ use Rattle.wrapper.specs.Counters.{fallen}
 use Rattle.wrapper.proofs.counters.left_after.Statement.{statement}
 use Rattle.wrapper.proofs.counters.left_after.Tie as tie
 
-sub-t6 : tie.Need-sub-t6
-sub-t6 c = search needs
+cast-if1 : tie.Need-cast-if1
+cast-if1 c = search needs
+
+cast-t7 : tie.Need-cast-t7
+cast-t7 c = search needs
+
+sub-t8 : tie.Need-sub-t8
+sub-t8 c = search needs
 
 returns : tie.Need-returns
 unfolding fallen
@@ -19,4 +25,4 @@ unfolding fallen
 returns-2 c = ap (λ (k : ℕ). record { 0 = k }) (omega arith)
 
 pub left-after-spec : {M : Type 1} → statement M
-left-after-spec = tie.close (tie.spec sub-t6 returns returns-2)
+left-after-spec = tie.close (tie.spec cast-if1 cast-t7 sub-t8 returns returns-2)

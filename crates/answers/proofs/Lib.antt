@@ -1,0 +1,2 @@
+-- proofs.Laws   what the way with a payload owes
+pub mod Laws

@@ -1,0 +1,2 @@
+-- specs.Answers   document 01's numbers for what endpoints and calls answer
+pub mod Answers

@@ -1,0 +1,97 @@
+// One packet: read into the IO buffer or sent from it, and what is written into the buffer before it is sent.
+use answers::Answer;
+use answers::Endpoint;
+use buffer::Marks;
+use buffer::marked;
+use wrapper::counters::Left;
+use wrapper::counters::Residue;
+use wrapper::status::CommandStatus;
+
+// After a packet was asked of OUT: the answer, whether a packet was taken, of how many bytes, and the marks.
+pub struct Received {
+    pub answer: Answer,
+    pub taken: bool,
+    pub count: usize,
+    pub marks: Marks,
+}
+
+// After a packet was offered to IN: the answer, how many bytes it took, and the marks.
+pub struct Sent {
+    pub answer: Answer,
+    pub count: usize,
+    pub marks: Marks,
+}
+
+fn least(a: usize, b: usize) -> usize {
+    if a < b { a } else { b }
+}
+
+// How far `have` falls short of `want`.
+fn lacking(want: usize, have: usize) -> usize {
+    if have < want { want - have } else { 0 }
+}
+
+// All of n where the endpoint does its part, otherwise none.
+fn moved(e: Endpoint, n: usize) -> usize {
+    if answers::served(e) { n } else { 0 }
+}
+
+// Room for p bytes is asked for first; then the endpoint.
+pub fn read_packet(io: &mut [u8], m: Marks, p: usize, out: Endpoint, packet: &[u8]) -> Received {
+    let n = moved(out, packet.len());
+    let t = marked::write_all(io, m, p, &packet[..n]);
+    let marks = t.marks;
+    if t.done {
+        return Received {
+            answer: answers::answered(out),
+            taken: answers::served(out),
+            count: n,
+            marks: marks,
+        };
+    }
+    Received {
+        answer: Answer::IoBufferOverflow,
+        taken: false,
+        count: 0,
+        marks: marks,
+    }
+}
+
+// With nothing unread the endpoint is not asked.
+fn send_answer(unread: usize, into: Endpoint) -> Answer {
+    if unread == 0 {
+        return Answer::Done;
+    }
+    answers::answered(into)
+}
+
+// At most p unread bytes go to the packet buffer's front.
+pub fn send_packet(io: &[u8], m: Marks, p: usize, into: Endpoint, packet: &mut [u8]) -> Sent {
+    let answer = send_answer(m.write - m.read, into);
+    let t = marked::read(io, m, moved(into, p), packet);
+    let marks = t.marks;
+    Sent {
+        answer: answer,
+        count: t.count,
+        marks: marks,
+    }
+}
+
+// 0xFF up to min(left, p) unread bytes.
+pub fn fill(io: &mut [u8], m: Marks, p: usize, left: Left) -> Marks {
+    let want = least(left.0 as usize, p);
+    let t = marked::fill_up_to(io, m, 0xFF, lacking(want, m.write - m.read));
+    t.marks
+}
+
+// The buffer is emptied and the status written into it.
+pub fn put_status(io: &mut [u8], tag: u32, residue: Residue, status: CommandStatus) -> Marks {
+    let bytes = wrapper::status::status_bytes(tag, residue, status);
+    let t = marked::write(io, marked::clean(), &bytes);
+    t.marks
+}
+
+// The command block of a wrapper's 31 bytes, into a lent one.
+pub fn put_block(block: &mut [u8], m: &[u8]) {
+    buffer::span::put(block, 0, &m[15..31]);
+}

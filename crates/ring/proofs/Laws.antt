@@ -1,0 +1,180 @@
+-- Laws of the ring.
+--     ways     what each way through a handler owes
+--     calls    that the number of chained handlers falls, and suffices
+-- Assumes nothing.
+use mathlib.Core.Path.{_≡_, refl}
+use mathlib.Core.Bool.{Bool, true, false}
+use Prim.Native.Nat.{ℕ, _+_, _-_, _≤_, _<_}
+use native.Mathlib.Omega.{arith}
+use borrow.Author.Tests.{eq-eqb, ne-eqb}
+use Rattle.wrapper.specs.declared.DataDirection.{DataDirection}
+use Rattle.wrapper.specs.declared.DataDirection.the-variants.{Out, In, NotExpected}
+use Rattle.ring.specs.declared.State.{State}
+use Rattle.ring.specs.declared.Found.{Found}
+use Rattle.ring.specs.declared.Found.the-variants.{Nothing, Invalid, Valid}
+use Rattle.ring.specs.declared.Act.{Act}
+use Rattle.ring.specs.declared.Act.the-variants.{Stay, Stall, Next, Enter, Send, Wait, Fill, Take, Drop}
+use Rattle.ring.specs.declared.Row.{Row}
+use Rattle.ring.specs.States.{rowOf}
+use Rattle.ring.specs.Ring.{extra, whole, readCbwAct, startAct, noDataAct, statusTransferAct, toHostAct, statusAwaitAct, toHostEndingAct, fromHostAct, fromHostEndingAct, settled}
+
+-- ---- the table of acts
+
+pub rows : (a b : Act) {r : Row} → a ≡ b → r ≡ rowOf b → r ≡ rowOf a
+rows a b p k = rw p k
+
+-- ---- the handlers
+
+module _ (present : Bool) (found : Found) (direction : DataDirection) (length : ℕ) where
+  pub read-nothing : found ≡ Nothing → Stay ≡ readCbwAct present found direction length
+  unfolding readCbwAct
+  read-nothing p = rw p
+
+  pub read-invalid : found ≡ Invalid → Stall ≡ readCbwAct present found direction length
+  unfolding readCbwAct
+  read-invalid p = rw p
+
+  pub read-valid : {r : Act} → found ≡ Valid → r ≡ startAct present direction length → r ≡ readCbwAct present found direction length
+  unfolding readCbwAct
+  read-valid p k = rw p k
+
+module _ (present : Bool) (direction : DataDirection) (length : ℕ) {r : Act} where
+  pub start-out : direction ≡ Out → r ≡ fromHostAct length present → r ≡ startAct present direction length
+  unfolding startAct
+  start-out p k = rw p k
+
+  pub start-in : direction ≡ In → r ≡ toHostAct length present → r ≡ startAct present direction length
+  unfolding startAct
+  start-in p k = rw p k
+
+  pub start-none : direction ≡ NotExpected → r ≡ noDataAct present → r ≡ startAct present direction length
+  unfolding startAct
+  start-none p k = rw p k
+
+pub no-data : (present : Bool) {r : Act} → r ≡ statusAwaitAct present → r ≡ noDataAct present
+unfolding noDataAct
+no-data present k = k
+
+module _ (empty entered : Bool) (found : Found) (direction : DataDirection) (length : ℕ) where
+  pub status-empty : {r : Act} → empty ≡ true → r ≡ readCbwAct false found direction length → r ≡ statusTransferAct empty entered found direction length
+  unfolding statusTransferAct
+  status-empty p k = rw p k
+
+  pub status-enters : empty ≡ false → entered ≡ true → Enter ≡ statusTransferAct empty entered found direction length
+  unfolding statusTransferAct
+  status-enters p q = rw (p, q)
+
+  pub status-next : empty ≡ false → entered ≡ false → Next ≡ statusTransferAct empty entered found direction length
+  unfolding statusTransferAct
+  status-next p q = rw (p, q)
+
+-- 3 is entered from 5, 6 and 8, with what the wrapper was of no account
+module _ (found : Found) (direction : DataDirection) (length : ℕ) {r : Act} (k : r ≡ statusTransferAct false true found direction length) where
+  entered : r ≡ Enter
+  unfolding statusTransferAct
+  entered = k
+
+  pub await-present : (present : Bool) → present ≡ true → r ≡ statusAwaitAct present
+  unfolding statusAwaitAct
+  await-present present p = rw p entered
+
+  pub to-ending-done : (left : ℕ) → left ≡ 0 → r ≡ toHostEndingAct left
+  unfolding toHostEndingAct
+  to-ending-done left p = rw (eq-eqb _ _ p) entered
+
+  pub from-ending-done : (left : ℕ) → left ≡ 0 → r ≡ fromHostEndingAct left
+  unfolding fromHostEndingAct
+  from-ending-done left p = rw (eq-eqb _ _ p) entered
+
+pub await-absent : (present : Bool) → present ≡ false → Wait ≡ statusAwaitAct present
+unfolding statusAwaitAct
+await-absent present p = rw p
+
+module _ (left : ℕ) (n : left ≡ 0 → ⊥) where
+  pub to-ending-fills : Fill ≡ toHostEndingAct left
+  unfolding toHostEndingAct
+  to-ending-fills = rw (ne-eqb _ _ n)
+
+  pub from-ending-drops : Drop ≡ fromHostEndingAct left
+  unfolding fromHostEndingAct
+  from-ending-drops = rw (ne-eqb _ _ n)
+
+module _ (left : ℕ) (present : Bool) {r : Act} where
+  pub to-host-done : left ≡ 0 → r ≡ statusAwaitAct present → r ≡ toHostAct left present
+  unfolding toHostAct
+  to-host-done p k = rw (eq-eqb _ _ p) k
+
+  pub to-host-ends : (left ≡ 0 → ⊥) → present ≡ true → r ≡ toHostEndingAct left → r ≡ toHostAct left present
+  unfolding toHostAct
+  to-host-ends n p k = rw (ne-eqb _ _ n, p) k
+
+  pub from-host-done : left ≡ 0 → r ≡ statusAwaitAct present → r ≡ fromHostAct left present
+  unfolding fromHostAct
+  from-host-done p k = rw (eq-eqb _ _ p) k
+
+  pub from-host-ends : (left ≡ 0 → ⊥) → present ≡ true → r ≡ fromHostEndingAct left → r ≡ fromHostAct left present
+  unfolding fromHostAct
+  from-host-ends n p k = rw (ne-eqb _ _ n, p) k
+
+module _ (left : ℕ) (present : Bool) (n : left ≡ 0 → ⊥) (p : present ≡ false) where
+  pub to-host-sends : Send ≡ toHostAct left present
+  unfolding toHostAct
+  to-host-sends = rw (ne-eqb _ _ n, p)
+
+  pub from-host-takes : Take ≡ fromHostAct left present
+  unfolding fromHostAct
+  from-host-takes = rw (ne-eqb _ _ n, p)
+
+pub ruleset ways = (read-nothing, read-invalid, read-valid, start-out, start-in, start-none, no-data, status-empty, status-enters, status-next, await-present, await-absent, to-ending-done, to-ending-fills, from-ending-done, from-ending-drops, to-host-done, to-host-ends, to-host-sends, from-host-done, from-host-ends, from-host-takes)
+
+-- ---- a poll, by the state in which it starts
+
+pub starts : (s t : State) (left : ℕ) (present empty : Bool) (found : Found) (direction : DataDirection) (length : ℕ) {r : Act}
+    → s ≡ t → r ≡ settled t left present empty found direction length → r ≡ settled s left present empty found direction length
+starts s t left present empty found direction length p k = rw p k
+
+-- ---- the number
+
+-- a handler that goes on since a status is present may, and the number falls
+module _ (present : Bool) {n : ℕ} (h : extra present ≤ n) (p : present ≡ true) where
+  pub present-one : 1 ≤ n
+  present-one = rw p at h
+
+  pub present-falls : {t : ℕ} → n ≡ t → n - 1 < t
+  present-falls e = omega (arith, present-one)
+
+pub present-two : (present : Bool) {n : ℕ} → 1 + extra present ≤ n → present ≡ true → 1 ≤ n - 1
+present-two present h p = let k = rw p at h in omega arith
+
+-- and one that goes on since nothing is unread
+module _ (empty : Bool) {n : ℕ} (h : whole empty ≤ n) (p : empty ≡ true) where
+  empty-four : 4 ≤ n
+  empty-four = rw p at h
+
+  pub empty-one : 1 ≤ n
+  empty-one = omega (arith, empty-four)
+
+  pub empty-three : 3 ≤ n - 1
+  empty-three = omega (arith, empty-four)
+
+  pub empty-falls : {t : ℕ} → n ≡ t → n - 1 < t
+  empty-falls e = omega (arith, empty-four)
+
+extra-most : (present : Bool) → extra present ≤ 1
+extra-most true = omega arith
+extra-most false = omega arith
+
+-- the number of a poll suffices from any state
+pub present-enough : (k : ℕ) (present : Bool) → k ≤ 3 → k + extra present ≤ 4
+present-enough k present h = omega (arith, extra-most present)
+
+pub await-enough : (present : Bool) → extra present ≤ 4
+await-enough present = omega (arith, extra-most present)
+
+pub status-enough : (empty : Bool) → whole empty ≤ 4
+status-enough true = omega arith
+status-enough false = omega arith
+
+pub ruleset calls = (present-one, present-falls, present-two, empty-one, empty-three, empty-falls)
+
+pub ruleset enough = (present-enough, await-enough, status-enough)

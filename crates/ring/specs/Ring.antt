@@ -1,0 +1,81 @@
+-- To what act a poll comes: one definition for each handler. Assumes nothing: these are definitions.
+use Prim.Native.Nat.{ℕ}
+use mathlib.Core.Bool.{Bool, true, false, cond}
+use lib.Dec.{eqb}
+use Rattle.wrapper.specs.declared.DataDirection.{DataDirection}
+use Rattle.wrapper.specs.declared.DataDirection.the-variants.{Out, In, NotExpected}
+use Rattle.ring.specs.declared.State.{State}
+use Rattle.ring.specs.declared.State.the-variants.{CommandTransfer, CommandTransferInvalid, DataTransferNoData, StatusTransfer, DataTransferToHost, DataTransferToHostStatusAwait, DataTransferToHostEnding, DataTransferFromHost, DataTransferFromHostEnding}
+use Rattle.ring.specs.declared.Found.{Found}
+use Rattle.ring.specs.declared.Found.the-variants.{Nothing, Invalid, Valid}
+use Rattle.ring.specs.declared.Act.{Act}
+use Rattle.ring.specs.declared.Act.the-variants.{Stay, Stall, Next, Enter, Send, Wait, Fill, Take, Drop}
+
+-- "5: status present goes to 3." "Entering 3 .. sends at once."
+unfoldable pub statusAwaitAct : Bool → Act
+statusAwaitAct present = cond present Enter Wait
+
+-- 2 goes on to 5.
+unfoldable pub noDataAct : Bool → Act
+noDataAct present = statusAwaitAct present
+
+-- "6: left 0 goes to 3. Otherwise .. fill .. send"
+unfoldable pub toHostEndingAct : ℕ → Act
+toHostEndingAct left = cond (eqb left 0) Enter Fill
+
+-- "4: left 0 goes to 5; status present goes to 6; otherwise send one packet."
+unfoldable pub toHostAct : ℕ → Bool → Act
+toHostAct left present = cond (eqb left 0) (statusAwaitAct present) (cond present (toHostEndingAct left) Send)
+
+-- "8: left 0 goes to 3; otherwise empty the buffer and read."
+unfoldable pub fromHostEndingAct : ℕ → Act
+fromHostEndingAct left = cond (eqb left 0) Enter Drop
+
+-- "7: left 0 goes to 5; status present goes to 8; otherwise read a packet."
+unfoldable pub fromHostAct : ℕ → Bool → Act
+fromHostAct left present = cond (eqb left 0) (statusAwaitAct present) (cond present (fromHostEndingAct left) Take)
+
+abbrev byDirection : {A : Type 0} → DataDirection → A → A → A → A
+byDirection Out out to none = out
+byDirection In out to none = to
+byDirection NotExpected out to none = none
+
+-- "Valid goes on to 7, 4 or, through 2, to 5."
+unfoldable pub startAct : Bool → DataDirection → ℕ → Act
+startAct present direction length = byDirection direction (fromHostAct length present) (toHostAct length present) (noDataAct present)
+
+abbrev byFound : {A : Type 0} → Found → A → A → A → A
+byFound Nothing none bad good = none
+byFound Invalid none bad good = bad
+byFound Valid none bad good = good
+
+-- "0: read one packet; with 31 or more unread parse. Invalid goes to 1, both endpoints stalled."
+unfoldable pub readCbwAct : Bool → Found → DataDirection → ℕ → Act
+readCbwAct present found direction length = byFound found Stay Stall (startAct present direction length)
+
+-- "Later polls in 3 send the next packet; with nothing unread, enter 0 and read." "Entering 0 clears status".
+unfoldable pub statusTransferAct : Bool → Bool → Found → DataDirection → ℕ → Act
+statusTransferAct empty entered found direction length =
+    cond empty (readCbwAct false found direction length) (cond entered Enter Next)
+
+-- A poll, by the state in which it starts. "1: stall both again".
+abbrev pub settled : State → ℕ → Bool → Bool → Found → DataDirection → ℕ → Act
+settled CommandTransfer left present empty found direction length = readCbwAct present found direction length
+settled CommandTransferInvalid left present empty found direction length = Stall
+settled DataTransferNoData left present empty found direction length = noDataAct present
+settled StatusTransfer left present empty found direction length = statusTransferAct empty false found direction length
+settled DataTransferToHost left present empty found direction length = toHostAct left present
+settled DataTransferToHostStatusAwait left present empty found direction length = statusAwaitAct present
+settled DataTransferToHostEnding left present empty found direction length = toHostEndingAct left
+settled DataTransferFromHost left present empty found direction length = fromHostAct left present
+settled DataTransferFromHostEnding left present empty found direction length = fromHostEndingAct left
+
+-- How many handlers a handler may still call on: one more where a status is present, since 5, 6 and 8 then go on to 3.
+abbrev pub extra : Bool → ℕ
+extra true = 1
+extra false = 0
+
+-- From 3 with nothing unread the chain runs round the whole ring.
+abbrev pub whole : Bool → ℕ
+whole true = 4
+whole false = 0
