@@ -52,6 +52,10 @@ fn command(words: &[&str], flags: &[&str]) -> io::Result<ExitCode> {
     match (words, flags) {
         (["run", file @ ..], []) if file.len() < 2 => run(file.first(), Detail::Lines)?,
         (["run", file @ ..], ["--show"]) if file.len() < 2 => run(file.first(), Detail::Show)?,
+        (["run", files @ ..], ["--each"]) => run_each(files, Detail::Lines)?,
+        (["run", files @ ..], ["--each", "--show"] | ["--show", "--each"]) => {
+            run_each(files, Detail::Show)?;
+        }
         (["run"], ["--decode"]) => by_line(decode::answer)?,
         (["run"], ["--parse"]) => by_line(codecs::parse)?,
         (["run"], ["--status"]) => by_line(codecs::status)?,
@@ -76,6 +80,16 @@ fn run(file: Option<&&str>, detail: Detail) -> io::Result<()> {
     };
     let text = lines::of_file(&bytes, detail, &mut |_| {});
     io::stdout().lock().write_all(text.as_bytes())
+}
+
+/// The same for many files in one process, each behind a line with its name.
+fn run_each(files: &[&str], detail: Detail) -> io::Result<()> {
+    let mut output = io::BufWriter::new(io::stdout().lock());
+    for path in files {
+        let text = lines::of_file(&std::fs::read(path)?, detail, &mut |_| {});
+        write!(output, "== {path}\n{text}")?;
+    }
+    output.flush()
 }
 
 /// One line of standard output for each line of standard input.

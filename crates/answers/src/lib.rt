@@ -18,7 +18,7 @@ pub enum Answer {
     FullPacketExpected,
     BufferTooSmall,
     WouldBlock,
-    EndpointError(u8),
+    EndpointError,
     PacketSizeRefused,
     BufferTooLarge,
     BrokenRecord,
@@ -33,6 +33,15 @@ pub enum Stalls {
     Stalled,
     Unstalled,
     UnstalledStalled,
+}
+
+// What a byte of an endpoint stands for: 0 does its part, 1 busy, others errors.
+pub fn endpoint_of(byte: u8) -> Endpoint {
+    match byte {
+        0 => Endpoint::Served,
+        1 => Endpoint::Busy,
+        _ => Endpoint::Failed(byte),
+    }
 }
 
 // Whether an endpoint does its part.
@@ -53,7 +62,16 @@ pub fn answered(e: Endpoint) -> Answer
     match e {
         Endpoint::Served => Answer::Done,
         Endpoint::Busy => Answer::WouldBlock,
-        Endpoint::Failed(number) => Answer::EndpointError(number),
+        Endpoint::Failed(_) => Answer::EndpointError,
+    }
+}
+
+// The number that this answer carries.
+pub fn carried(e: Endpoint) -> u8 {
+    match e {
+        Endpoint::Served => 0,
+        Endpoint::Busy => 0,
+        Endpoint::Failed(number) => number,
     }
 }
 

@@ -2,7 +2,6 @@
 use buffer::Marks;
 use ring::State;
 use ring::state_number;
-use wrapper::Head;
 use wrapper::Wrapper;
 use wrapper::counters::Left;
 use wrapper::counters::Residue;
@@ -25,14 +24,16 @@ pub struct Device {
     pub left: Left,
 }
 
-// The record without the command block: all that a poll decides by.
+// Of the record what a poll decides by.
 pub struct Numbers {
     pub packetsize: usize,
     pub maxlun: u8,
     pub size: usize,
     pub state: State,
     pub marks: Marks,
-    pub head: Head,
+    pub tag: u32,
+    pub lun: u8,
+    pub blocklength: u8,
     pub status: Status,
     pub left: Left,
 }
@@ -48,7 +49,6 @@ pub fn numbers_of(d: Device) -> Numbers {
     let state = d.state;
     let marks = d.marks;
     let w = d.wrapper;
-    let direction = w.direction;
     let status = d.status;
     let left = d.left;
     Numbers {
@@ -57,13 +57,9 @@ pub fn numbers_of(d: Device) -> Numbers {
         size: d.size,
         state: state,
         marks: marks,
-        head: Head {
-            tag: w.tag,
-            length: w.length,
-            direction: direction,
-            lun: w.lun,
-            blocklength: w.blocklength,
-        },
+        tag: w.tag,
+        lun: w.lun,
+        blocklength: w.blocklength,
         status: status,
         left: left,
     }
@@ -108,11 +104,11 @@ fn status_fits(state: u8, present: bool) -> bool {
     }
 }
 
-fn head_fits(head: Head) -> bool {
-    if 15 < head.lun {
+fn command_fits(lun: u8, blocklength: u8) -> bool {
+    if 15 < lun {
         return false;
     }
-    head.blocklength <= 16
+    blocklength <= 16
 }
 
 fn marks_fit(m: Marks, size: usize) -> bool {
@@ -134,8 +130,7 @@ pub fn whole(n: Numbers, len: usize) -> bool {
     if !marks_fit(marks, n.size) {
         return false;
     }
-    let head = n.head;
-    if !head_fits(head) {
+    if !command_fits(n.lun, n.blocklength) {
         return false;
     }
     let state = n.state;

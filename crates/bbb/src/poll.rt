@@ -6,8 +6,8 @@ use crate::device::numbers_of;
 use crate::device::present;
 use crate::device::whole;
 use answers::Answer;
-use answers::Endpoint;
 use answers::Stalls;
+use answers::endpoint_of;
 use buffer::Marks;
 use packets::Received;
 use ring::Act;
@@ -16,21 +16,25 @@ use ring::Found;
 use ring::Kind;
 use ring::Row;
 use ring::State;
+use ring::row_of;
+use ring::settle;
 use ring::state_number;
-use wrapper::Head;
+use wrapper::DataDirection;
 use wrapper::Wrapper;
 use wrapper::counters::Left;
+use wrapper::counters::left_after;
 
-// The endpoints' answers for this poll: two OUT reads and one IN write.
+// The endpoints' answers for this poll, two OUT reads and one IN write: 0 does its part, 1 busy, others errors.
 pub struct Turn {
-    pub first: Endpoint,
-    pub second: Endpoint,
-    pub write: Endpoint,
+    pub first: u8,
+    pub second: u8,
+    pub write: u8,
 }
 
 // What a poll reports: its answer, OUT packets taken, bytes sent, what was asked of the endpoints.
 pub struct Report {
     pub answer: Answer,
+    pub carried: u8,
     pub taken: u8,
     pub sent: usize,
     pub stalls: Stalls,
@@ -46,8 +50,9 @@ struct Opened {
     found: Found,
     marks: Marks,
     left: Left,
-    head: Head,
+    direction: DataDirection,
     answer: Answer,
+    carried: u8,
     taken: u8,
     cleared: bool,
 }
@@ -58,24 +63,25 @@ struct Did {
     left: Left,
     sent: usize,
     answer: Answer,
+    carried: u8,
     taken: u8,
     stalled: bool,
 }
 
-// What a poll changes of the record besides the block, and what it reports.
+// What a poll changes of the record, and what it reports. Where a wrapper was parsed, its 31 bytes are in the lent ones.
 pub struct Change {
     pub state: State,
     pub marks: Marks,
-    pub head: Head,
     pub left: Left,
     pub cleared: bool,
+    pub parsed: bool,
     pub report: Report,
 }
 
 // Open.
 
 // 31 bytes or more are unread: the first 31 are a wrapper, valid or not, and count as read.
-fn parse(m: Marks, left: Left, head: Head, cleared: bool, io: &[u8], block: &mut [u8]) -> Opened {
+fn parse(m: Marks, left: Left, cleared: bool, io: &[u8], message: &mut [u8]) -> Opened {
     let from = m.read;
     let end = from + 31;
     let marks = Marks {
@@ -84,13 +90,15 @@ fn parse(m: Marks, left: Left, head: Head, cleared: bool, io: &[u8], block: &mut
     };
     if wrapper::valid(&io[from..end]) {
         let h = wrapper::head_of(&io[from..end]);
-        packets::put_block(block, &io[from..end]);
+        let direction = h.direction;
+        buffer::span::put(message, 0, &io[from..end]);
         return Opened {
             found: Found::Valid,
             marks: marks,
             left: Left(h.length),
-            head: h,
+            direction: direction,
             answer: Answer::Done,
+            carried: 0,
             taken: 1,
             cleared: cleared,
         };
@@ -99,8 +107,9 @@ fn parse(m: Marks, left: Left, head: Head, cleared: bool, io: &[u8], block: &mut
         found: Found::Invalid,
         marks: marks,
         left: left,
-        head: head,
+        direction: DataDirection::NotExpected,
         answer: Answer::Done,
+        carried: 0,
         taken: 1,
         cleared: cleared,
     }
@@ -110,26 +119,26 @@ fn read_wrapper(
     p: usize,
     m: Marks,
     left: Left,
-    head: Head,
     cleared: bool,
     io: &mut [u8],
-    block: &mut [u8],
+    message: &mut [u8],
     one: &[u8],
-    first: Endpoint,
+    first: u8,
 ) -> Opened {
-    let r = packets::read_packet(io, m, p, first, one);
+    let r = packets::read_packet(io, m, p, endpoint_of(first), one);
     let marks = r.marks;
     let answer = r.answer;
     if r.taken {
         if 31 <= marks.write - marks.read {
-            return parse(marks, left, head, cleared, io, block);
+            return parse(marks, left, cleared, io, message);
         }
         return Opened {
             found: Found::Nothing,
             marks: marks,
             left: left,
-            head: head,
+            direction: DataDirection::NotExpected,
             answer: Answer::Done,
+            carried: 0,
             taken: 1,
             cleared: cleared,
         };
@@ -138,8 +147,9 @@ fn read_wrapper(
         found: Found::Nothing,
         marks: marks,
         left: left,
-        head: head,
+        direction: DataDirection::NotExpected,
         answer: answer,
+        carried: r.carried,
         taken: 0,
         cleared: cleared,
     }
@@ -162,10 +172,9 @@ fn cleared_left(cleared: bool, left: Left) -> Left {
     left
 }
 
-fn open(n: Numbers, block: &mut [u8], io: &mut [u8], one: &[u8], first: Endpoint) -> Opened {
+fn open(n: Numbers, message: &mut [u8], io: &mut [u8], one: &[u8], first: u8) -> Opened {
     let state = n.state;
     let marks = n.marks;
-    let head = n.head;
     let left = n.left;
     let s = state_number(state);
     if opens(s, marks.read == marks.write) {
@@ -174,10 +183,9 @@ fn open(n: Numbers, block: &mut [u8], io: &mut [u8], one: &[u8], first: Endpoint
             n.packetsize,
             marks,
             cleared_left(cleared, left),
-            head,
             cleared,
             io,
-            block,
+            message,
             one,
             first,
         );
@@ -186,8 +194,9 @@ fn open(n: Numbers, block: &mut [u8], io: &mut [u8], one: &[u8], first: Endpoint
         found: Found::Nothing,
         marks: marks,
         left: left,
-        head: head,
+        direction: DataDirection::NotExpected,
         answer: Answer::Done,
+        carried: 0,
         taken: 0,
         cleared: false,
     }
@@ -204,6 +213,7 @@ fn rest(o: Opened, stalled: bool) -> Did {
         left: left,
         sent: 0,
         answer: answer,
+        carried: o.carried,
         taken: o.taken,
         stalled: stalled,
     }
@@ -220,11 +230,9 @@ fn read_offered(
     turn: Turn,
 ) -> Received {
     if taken == 0 {
-        let first = turn.first;
-        return packets::read_packet(io, m, p, first, one);
+        return packets::read_packet(io, m, p, endpoint_of(turn.first), one);
     }
-    let second = turn.second;
-    packets::read_packet(io, m, p, second, two)
+    packets::read_packet(io, m, p, endpoint_of(turn.second), two)
 }
 
 fn emptied(before: Before, m: Marks) -> Marks {
@@ -257,9 +265,10 @@ fn take(
     let answer = r.answer;
     Did {
         marks: after,
-        left: wrapper::counters::left_after(left, r.count),
+        left: left_after(left, r.count),
         sent: 0,
         answer: answer,
+        carried: r.carried,
         taken: one_more(o.taken, r.taken),
         stalled: false,
     }
@@ -291,22 +300,27 @@ fn put_status(io: &mut [u8], tag: u32, status: Status) -> Marks {
 }
 
 // What is ready to be sent.
-fn ready(before: Before, p: usize, o: Opened, status: Status, io: &mut [u8]) -> Marks {
-    let marks = o.marks;
-    let left = o.left;
-    let head = o.head;
+fn ready(
+    before: Before,
+    p: usize,
+    m: Marks,
+    left: Left,
+    tag: u32,
+    status: Status,
+    io: &mut [u8],
+) -> Marks {
     match before {
-        Before::Nothing => marks,
-        Before::Whole => marks,
-        Before::Fill => packets::fill(io, marks, p, left),
-        Before::Status => put_status(io, head.tag, status),
-        Before::Empty => marks,
+        Before::Nothing => m,
+        Before::Whole => m,
+        Before::Fill => packets::fill(io, m, p, left),
+        Before::Status => put_status(io, tag, status),
+        Before::Empty => m,
     }
 }
 
 fn left_then(counts: bool, left: Left, moved: usize) -> Left {
     if counts {
-        return wrapper::counters::left_after(left, moved);
+        return left_after(left, moved);
     }
     left
 }
@@ -314,13 +328,14 @@ fn left_then(counts: bool, left: Left, moved: usize) -> Left {
 fn send(
     before: Before,
     counts: bool,
-    p: usize,
+    n: Numbers,
     o: Opened,
-    status: Status,
     io: &mut [u8],
     packet: &mut [u8],
-    write: Endpoint,
+    write: u8,
 ) -> Did {
+    let p = n.packetsize;
+    let status = n.status;
     let marks = o.marks;
     let left = o.left;
     if refuses(before, p, left, marks.write - marks.read) {
@@ -329,12 +344,13 @@ fn send(
             left: left,
             sent: 0,
             answer: Answer::FullPacketExpected,
+            carried: 0,
             taken: o.taken,
             stalled: false,
         };
     }
-    let m = ready(before, p, o, status, io);
-    let s = packets::send_packet(io, m, p, write, packet);
+    let m = ready(before, p, marks, left, n.tag, status, io);
+    let s = packets::send_packet(io, m, p, endpoint_of(write), packet);
     let after = s.marks;
     let answer = s.answer;
     Did {
@@ -342,6 +358,7 @@ fn send(
         left: left_then(counts, left, s.count),
         sent: s.count,
         answer: answer,
+        carried: s.carried,
         taken: o.taken,
         stalled: false,
     }
@@ -349,9 +366,8 @@ fn send(
 
 fn act(
     row: Row,
-    p: usize,
+    n: Numbers,
     o: Opened,
-    status: Status,
     io: &mut [u8],
     packet: &mut [u8],
     one: &[u8],
@@ -360,12 +376,19 @@ fn act(
 ) -> Did {
     let kind = row.1;
     let before = row.2;
-    let write = turn.write;
     match kind {
         Kind::Rest => rest(o, false),
         Kind::Stall => rest(o, true),
-        Kind::Read => take(before, p, o, io, one, two, turn),
-        Kind::Send => send(before, row.3, p, o, status, io, packet, write),
+        Kind::Read => take(before, n.packetsize, o, io, one, two, turn),
+        Kind::Send => send(before, row.3, n, o, io, packet, turn.write),
+    }
+}
+
+fn is_valid(found: Found) -> bool {
+    match found {
+        Found::Nothing => false,
+        Found::Invalid => false,
+        Found::Valid => true,
     }
 }
 
@@ -384,18 +407,18 @@ fn go_on(
     let left = n.left;
     let status = n.status;
     let found = o.found;
-    let head = o.head;
-    let direction = head.direction;
-    let row = ring::row_of(ring::settle(
+    let direction = o.direction;
+    let length = o.left;
+    let row = row_of(settle(
         state,
         left.0,
         present(status),
         marks.read == marks.write,
         found,
         direction,
-        head.length,
+        length.0,
     ));
-    let did = act(row, n.packetsize, o, status, io, packet, one, two, turn);
+    let did = act(row, n, o, io, packet, one, two, turn);
     let reached = row.0;
     let after = did.marks;
     let falls = did.left;
@@ -403,11 +426,12 @@ fn go_on(
     Change {
         state: reached,
         marks: after,
-        head: head,
         left: falls,
         cleared: o.cleared,
+        parsed: is_valid(found),
         report: Report {
             answer: answer,
+            carried: did.carried,
             taken: did.taken,
             sent: did.sent,
             stalls: answers::asked(o.cleared, did.stalled),
@@ -417,27 +441,8 @@ fn go_on(
 
 // Check.
 
-fn refusal(n: Numbers, answer: Answer) -> Change {
-    let state = n.state;
-    let marks = n.marks;
-    let head = n.head;
-    let left = n.left;
-    Change {
-        state: state,
-        marks: marks,
-        head: head,
-        left: left,
-        cleared: false,
-        report: Report {
-            answer: answer,
-            taken: 0,
-            sent: 0,
-            stalls: Stalls::Kept,
-        },
-    }
-}
-
-fn fits(p: usize, packet: usize, one: usize, two: usize) -> bool {
+// Whether the offered packets and the packet buffer suit the packet size.
+pub fn fits(p: usize, packet: usize, one: usize, two: usize) -> bool {
     if p < one {
         return false;
     }
@@ -447,24 +452,17 @@ fn fits(p: usize, packet: usize, one: usize, two: usize) -> bool {
     p <= packet
 }
 
-// The poll of a record whose command block is lent beside it.
-pub fn step(
+// The poll of a record that is whole, with offers that fit.
+pub fn run(
     n: Numbers,
-    block: &mut [u8],
+    message: &mut [u8],
     io: &mut [u8],
     packet: &mut [u8],
     one: &[u8],
     two: &[u8],
     turn: Turn,
 ) -> Change {
-    if !whole(n, io.len()) {
-        return refusal(n, Answer::BrokenRecord);
-    }
-    if !fits(n.packetsize, packet.len(), one.len(), two.len()) {
-        return refusal(n, Answer::PacketRefused);
-    }
-    let first = turn.first;
-    let o = open(n, block, io, one, first);
+    let o = open(n, message, io, one, turn.first);
     go_on(n, o, io, packet, one, two, turn)
 }
 
@@ -475,31 +473,43 @@ fn status_then(cleared: bool, status: Status) -> Status {
     status
 }
 
+// The wrapper in the record: the parsed one, or the one before.
+fn wrapper_then(parsed: bool, w: Wrapper, message: &[u8]) -> Wrapper {
+    if parsed {
+        return wrapper::read_wrapper(message);
+    }
+    w
+}
+
 // The record with what changed.
-fn changed(d: Device, c: Change, block: [u8; 16]) -> Device {
+fn changed(d: Device, c: Change, message: &[u8]) -> Device {
     let state = c.state;
     let marks = c.marks;
-    let head = c.head;
-    let direction = head.direction;
-    let old = d.status;
-    let status = status_then(c.cleared, old);
     let left = c.left;
+    let old = d.wrapper;
+    let was = d.status;
     Device {
         packetsize: d.packetsize,
         maxlun: d.maxlun,
         size: d.size,
         state: state,
         marks: marks,
-        wrapper: Wrapper {
-            tag: head.tag,
-            length: head.length,
-            direction: direction,
-            lun: head.lun,
-            blocklength: head.blocklength,
-            block: block,
-        },
-        status: status,
+        wrapper: wrapper_then(c.parsed, old, message),
+        status: status_then(c.cleared, was),
         left: left,
+    }
+}
+
+fn refused(device: Device, answer: Answer) -> Polled {
+    Polled {
+        device: device,
+        report: Report {
+            answer: answer,
+            carried: 0,
+            taken: 0,
+            sent: 0,
+            stalls: Stalls::Kept,
+        },
     }
 }
 
@@ -511,14 +521,18 @@ pub fn poll(
     two: &[u8],
     turn: Turn,
 ) -> Polled {
-    let w = device.wrapper;
-    let mut block = w.block;
     let n = numbers_of(device);
-    let c = step(n, &mut block, io, packet, one, two, turn);
+    if !whole(n, io.len()) {
+        return refused(device, Answer::BrokenRecord);
+    }
+    if !fits(n.packetsize, packet.len(), one.len(), two.len()) {
+        return refused(device, Answer::PacketRefused);
+    }
+    let mut message = [0u8; 31];
+    let c = run(n, &mut message, io, packet, one, two, turn);
     let report = c.report;
-    let d = changed(device, c, block);
     Polled {
-        device: d,
+        device: changed(device, c, &message),
         report: report,
     }
 }

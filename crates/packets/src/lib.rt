@@ -6,10 +6,20 @@ use buffer::marked;
 use wrapper::counters::Left;
 use wrapper::counters::Residue;
 use wrapper::status::CommandStatus;
+ghost use mathlib.Core.Path.{_≡_};
+ghost use Prim.Native.Nat.{_-_, _≤_, min};
+ghost use lib.ListN.{length};
+ghost use Rattle.fields.specs.Field.{bytesAt};
+ghost use Rattle.buffer.specs.Buffer.{Sound, Leaves, buffer, at, unread};
+ghost use Rattle.answers.specs.Answers.{told};
+ghost use Rattle.wrapper.specs.Wrapper.{CBWCB};
+ghost use Rattle.wrapper.specs.Status.{statusNumber};
+ghost use Rattle.packets.specs.Packets.{accepted, Reads, Sends, sendTold, filledUp, withStatus};
 
 // After a packet was asked of OUT: the answer, whether a packet was taken, of how many bytes, and the marks.
 pub struct Received {
     pub answer: Answer,
+    pub carried: u8,
     pub taken: bool,
     pub count: usize,
     pub marks: Marks,
@@ -18,32 +28,43 @@ pub struct Received {
 // After a packet was offered to IN: the answer, how many bytes it took, and the marks.
 pub struct Sent {
     pub answer: Answer,
+    pub carried: u8,
     pub count: usize,
     pub marks: Marks,
 }
 
-fn least(a: usize, b: usize) -> usize {
+fn least(a: usize, b: usize) -> usize
+    ensures { λ r. ⌜ r ≡ min a b ⌝ }
+{
     if a < b { a } else { b }
 }
 
 // How far `have` falls short of `want`.
-fn lacking(want: usize, have: usize) -> usize {
+fn lacking(want: usize, have: usize) -> usize
+    ensures { λ r. ⌜ r ≡ want - have ⌝ }
+{
     if have < want { want - have } else { 0 }
 }
 
 // All of n where the endpoint does its part, otherwise none.
-fn moved(e: Endpoint, n: usize) -> usize {
+fn moved(e: Endpoint, n: usize) -> usize
+    ensures { λ r. ⌜ r ≡ accepted e n ⌝ }
+{
     if answers::served(e) { n } else { 0 }
 }
 
 // Room for p bytes is asked for first; then the endpoint.
-pub fn read_packet(io: &mut [u8], m: Marks, p: usize, out: Endpoint, packet: &[u8]) -> Received {
+pub fn read_packet(io: &mut [u8], m: Marks, p: usize, out: Endpoint, packet: &[u8]) -> Received
+    requires { ⌜ Sound (buffer (now io) m) × (length (now packet) ≤ p) ⌝ }
+    ensures { λ r. ⌜ Reads p out (now (packet .entry)) (buffer (now (io .entry)) m) r (now (io .exit)) ⌝ }
+{
     let n = moved(out, packet.len());
     let t = marked::write_all(io, m, p, &packet[..n]);
     let marks = t.marks;
     if t.done {
         return Received {
             answer: answers::answered(out),
+            carried: answers::carried(out),
             taken: answers::served(out),
             count: n,
             marks: marks,
@@ -51,6 +72,7 @@ pub fn read_packet(io: &mut [u8], m: Marks, p: usize, out: Endpoint, packet: &[u
     }
     Received {
         answer: Answer::IoBufferOverflow,
+        carried: 0,
         taken: false,
         count: 0,
         marks: marks,
@@ -58,40 +80,60 @@ pub fn read_packet(io: &mut [u8], m: Marks, p: usize, out: Endpoint, packet: &[u
 }
 
 // With nothing unread the endpoint is not asked.
-fn send_answer(unread: usize, into: Endpoint) -> Answer {
-    if unread == 0 {
+fn send_carried(n: usize, into: Endpoint) -> u8 {
+    if n == 0 {
+        return 0;
+    }
+    answers::carried(into)
+}
+
+fn send_answer(n: usize, into: Endpoint) -> Answer {
+    if n == 0 {
         return Answer::Done;
     }
     answers::answered(into)
 }
 
 // At most p unread bytes go to the packet buffer's front.
-pub fn send_packet(io: &[u8], m: Marks, p: usize, into: Endpoint, packet: &mut [u8]) -> Sent {
+pub fn send_packet(io: &[u8], m: Marks, p: usize, into: Endpoint, packet: &mut [u8]) -> Sent
+    requires { ⌜ Sound (buffer (now io) m) × (p ≤ length (now packet)) ⌝ }
+    ensures { λ r. ⌜ Sends p into (buffer (now (io .entry)) m) (now (packet .entry)) r (now (packet .exit)) ⌝ }
+{
     let answer = send_answer(m.write - m.read, into);
+    let carried = send_carried(m.write - m.read, into);
     let t = marked::read(io, m, moved(into, p), packet);
     let marks = t.marks;
     Sent {
         answer: answer,
+        carried: carried,
         count: t.count,
         marks: marks,
     }
 }
 
 // 0xFF up to min(left, p) unread bytes.
-pub fn fill(io: &mut [u8], m: Marks, p: usize, left: Left) -> Marks {
+pub fn fill(io: &mut [u8], m: Marks, p: usize, left: Left) -> Marks
+    requires { ⌜ Sound (buffer (now io) m) ⌝ }
+    ensures { λ r. ⌜ Leaves (buffer (now (io .exit)) r) (filledUp p left (buffer (now (io .entry)) m)) ⌝ }
+{
     let want = least(left.0 as usize, p);
     let t = marked::fill_up_to(io, m, 0xFF, lacking(want, m.write - m.read));
     t.marks
 }
 
 // The buffer is emptied and the status written into it.
-pub fn put_status(io: &mut [u8], tag: u32, residue: Residue, status: CommandStatus) -> Marks {
+pub fn put_status(io: &mut [u8], tag: u32, residue: Residue, status: CommandStatus) -> Marks
+    ensures { λ r. ⌜ Leaves (buffer (now (io .exit)) r) (withStatus tag residue (statusNumber status) (buffer (now (io .entry)) (at 0 0))) ⌝ }
+{
     let bytes = wrapper::status::status_bytes(tag, residue, status);
     let t = marked::write(io, marked::clean(), &bytes);
     t.marks
 }
 
 // The command block of a wrapper's 31 bytes, into a lent one.
-pub fn put_block(block: &mut [u8], m: &[u8]) {
+pub fn put_block(block: &mut [u8], m: &[u8])
+    requires { ⌜ (length (now block) ≡ 16) × (length (now m) ≡ 31) ⌝ }
+    ensures { λ _. ⌜ now (block .exit) ≡ bytesAt CBWCB (now (m .entry)) ⌝ }
+{
     buffer::span::put(block, 0, &m[15..31]);
 }

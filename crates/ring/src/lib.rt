@@ -120,27 +120,27 @@ pub fn row_of(a: Act) -> Row
     }
 }
 
-// 0
-fn read_cbw(n: u8, present: bool, found: Found, direction: DataDirection, length: u32) -> Act
-    requires { ⌜ 3 + extra present ≤ n ⌝ }
-    ensures { λ r. ⌜ r ≡ readCbwAct present found direction length ⌝ }
+// 0: no status is present in it.
+fn read_cbw(n: u8, found: Found, direction: DataDirection, length: u32) -> Act
+    requires { ⌜ 3 ≤ n ⌝ }
+    ensures { λ r. ⌜ r ≡ readCbwAct found direction length ⌝ }
 {
     match found {
         Found::Nothing => Act::Stay,
         Found::Invalid => Act::Stall,
-        Found::Valid => start(n - 1, present, direction, length),
+        Found::Valid => start(n - 1, direction, length),
     }
 }
 
 // A valid wrapper goes on by its direction, with its length left.
-fn start(n: u8, present: bool, direction: DataDirection, length: u32) -> Act
-    requires { ⌜ 2 + extra present ≤ n ⌝ }
-    ensures { λ r. ⌜ r ≡ startAct present direction length ⌝ }
+fn start(n: u8, direction: DataDirection, length: u32) -> Act
+    requires { ⌜ 2 ≤ n ⌝ }
+    ensures { λ r. ⌜ r ≡ startAct direction length ⌝ }
 {
     match direction {
-        DataDirection::Out => from_host(n - 1, length, present),
-        DataDirection::In => to_host(n - 1, length, present),
-        DataDirection::NotExpected => no_data(n - 1, present),
+        DataDirection::Out => from_host(n - 1, length, false),
+        DataDirection::In => to_host(n - 1, length, false),
+        DataDirection::NotExpected => no_data(n - 1, false),
     }
 }
 
@@ -165,7 +165,7 @@ fn status_transfer(
     ensures { λ r. ⌜ r ≡ statusTransferAct empty entered found direction length ⌝ }
 {
     if empty {
-        return read_cbw(n - 1, false, found, direction, length);
+        return read_cbw(n - 1, found, direction, length);
     }
     if entered {
         return Act::Enter;
@@ -269,7 +269,7 @@ pub fn settle(
     ensures { λ r. ⌜ r ≡ settled s left present empty found direction length ⌝ }
 {
     match s {
-        State::CommandTransfer => read_cbw(CHAIN, present, found, direction, length),
+        State::CommandTransfer => read_cbw(CHAIN, found, direction, length),
         State::CommandTransferInvalid => Act::Stall,
         State::DataTransferNoData => no_data(CHAIN, present),
         State::StatusTransfer => status_transfer(CHAIN, empty, false, found, direction, length),

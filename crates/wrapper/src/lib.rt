@@ -130,7 +130,7 @@ pub fn head_of(m: &[u8]) -> Head
 }
 
 // What a wrapper of 31 bytes says.
-fn read_wrapper(m: &[u8]) -> Wrapper
+pub fn read_wrapper(m: &[u8]) -> Wrapper
     requires { ⌜ length (now m) ≡ 31 ⌝ }
     ensures { λ r. ⌜ r ≡ wrapperOf (now (m .entry)) ⌝ }
 {
