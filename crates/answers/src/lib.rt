@@ -1,6 +1,6 @@
 // What endpoints and calls answer: document 01's numbers, by name.
 ghost use mathlib.Core.Path.{_≡_};
-ghost use Rattle.answers.specs.Answers.{told, serves, answeredBy, stallsOf};
+ghost use Rattle.answers.specs.Answers.{told, plainly, endpointOf, serves, answeredBy, stallsOf};
 
 // What an endpoint does when it is asked: its part, nothing since it is busy, or it fails with a number of its own.
 pub enum Endpoint {
@@ -27,6 +27,12 @@ pub enum Answer {
     EmptyBlock,
 }
 
+// An answer and the number that it carries: the failed endpoint's with EndpointError, else 0.
+pub struct Outcome {
+    pub answer: Answer,
+    pub carried: u8,
+}
+
 // What is asked of both endpoints at once, in this order: to unstall, to stall.
 pub enum Stalls {
     Kept,
@@ -35,13 +41,17 @@ pub enum Stalls {
     UnstalledStalled,
 }
 
-// What a byte of an endpoint stands for: 0 does its part, 1 busy, others errors.
-pub fn endpoint_of(byte: u8) -> Endpoint {
-    match byte {
-        0 => Endpoint::Served,
-        1 => Endpoint::Busy,
-        _ => Endpoint::Failed(byte),
+// What an endpoint's byte stands for: 0 does its part, 1 busy, others errors.
+pub fn endpoint_of(byte: u8) -> Endpoint
+    ensures { λ r. ⌜ r ≡ endpointOf byte ⌝ }
+{
+    if byte == 0 {
+        return Endpoint::Served;
     }
+    if byte == 1 {
+        return Endpoint::Busy;
+    }
+    Endpoint::Failed(byte)
 }
 
 // Whether an endpoint does its part.
@@ -55,23 +65,27 @@ pub fn served(e: Endpoint) -> bool
     }
 }
 
-// What a call answers that asks this endpoint.
-pub fn answered(e: Endpoint) -> Answer
-    ensures { λ r. ⌜ told r ≡ answeredBy e ⌝ }
+// An answer that carries nothing.
+pub fn plain(answer: Answer) -> Outcome
+    ensures { λ r. ⌜ r ≡ plainly answer ⌝ }
 {
-    match e {
-        Endpoint::Served => Answer::Done,
-        Endpoint::Busy => Answer::WouldBlock,
-        Endpoint::Failed(_) => Answer::EndpointError,
+    Outcome {
+        answer: answer,
+        carried: 0,
     }
 }
 
-// The number that this answer carries.
-pub fn carried(e: Endpoint) -> u8 {
+// What a call answers that asks this endpoint.
+pub fn answered(e: Endpoint) -> Outcome
+    ensures { λ r. ⌜ told r ≡ answeredBy e ⌝ }
+{
     match e {
-        Endpoint::Served => 0,
-        Endpoint::Busy => 0,
-        Endpoint::Failed(number) => number,
+        Endpoint::Served => plain(Answer::Done),
+        Endpoint::Busy => plain(Answer::WouldBlock),
+        Endpoint::Failed(number) => Outcome {
+            answer: Answer::EndpointError,
+            carried: number,
+        },
     }
 }
 

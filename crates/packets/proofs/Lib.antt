@@ -1,0 +1,2 @@
+-- proofs.Laws    what each way through a function owes; what callers may use
+pub mod Laws

@@ -34,11 +34,11 @@ brought p e packet s = cond (lacksRoom p s) 0 (length (handed e packet))
 
 -- The buffer then: room was made for P bytes, and what was handed over stands behind the write mark.
 unfoldable pub received : ℕ → Endpoint → List ℕ → Buffer → Buffer
-received p e packet s = cond (lacksRoom p s) (writtenAll p [] s) (writtenAll p (handed e packet) s)
+received p e packet s = writtenAll p (handed e packet) s
 
 -- What a read promises.
 pub record Reads (p : ℕ) (e : Endpoint) (packet : List ℕ) (s : Buffer) (r : Received) (io : List ℕ) : Type 0 where
-  pub answer : told (r .answer) ≡ readTold p e s
+  pub outcome : told (r .outcome) ≡ readTold p e s
   pub taken : r .taken ≡ takesOne p e s
   pub count : r .count ≡ brought p e packet s
   pub leaves : Leaves (buffer io (r .marks)) (received p e packet s)
@@ -50,8 +50,8 @@ unfoldable pub accepted : Endpoint → ℕ → ℕ
 accepted e p = cond (serves e) p 0
 
 -- "nothing unread sends nothing, answer 0"
-unfoldable pub sendTold : Endpoint → Buffer → Told
-sendTold e s = cond (eqb (unread s) 0) (no 0) (answeredBy e)
+unfoldable pub sendTold : Endpoint → ℕ → Told
+sendTold e unread = cond (eqb unread 0) (no 0) (answeredBy e)
 
 -- "send min(P, unread)": so many bytes, and the buffer and the packet buffer then.
 unfoldable pub sentCount : ℕ → Endpoint → Buffer → ℕ
@@ -66,7 +66,7 @@ sentInto p e s packet = overlay packet 0 (given (accepted e p) s)
 
 -- What a send promises.
 pub record Sends (p : ℕ) (e : Endpoint) (s : Buffer) (packet : List ℕ) (r : Sent) (packet′ : List ℕ) : Type 0 where
-  pub answer : told (r .answer) ≡ sendTold e s
+  pub outcome : told (r .outcome) ≡ sendTold e (unread s)
   pub count : r .count ≡ sentCount p e s
   pub leaves : Leaves (buffer (s .bytes) (r .marks)) (sentOff p e s)
   pub into : packet′ ≡ sentInto p e s packet

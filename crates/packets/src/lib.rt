@@ -1,6 +1,10 @@
 // One packet: read into the IO buffer or sent from it, and what is written into the buffer before it is sent.
 use answers::Answer;
 use answers::Endpoint;
+use answers::Outcome;
+use answers::answered;
+use answers::plain;
+use answers::served;
 use buffer::Marks;
 use buffer::marked;
 use wrapper::counters::Left;
@@ -9,17 +13,14 @@ use wrapper::status::CommandStatus;
 ghost use mathlib.Core.Path.{_≡_};
 ghost use Prim.Native.Nat.{_-_, _≤_, min};
 ghost use lib.ListN.{length};
-ghost use Rattle.fields.specs.Field.{bytesAt};
-ghost use Rattle.buffer.specs.Buffer.{Sound, Leaves, buffer, at, unread};
+ghost use Rattle.buffer.specs.Buffer.{Sound, Leaves, buffer, at};
 ghost use Rattle.answers.specs.Answers.{told};
-ghost use Rattle.wrapper.specs.Wrapper.{CBWCB};
 ghost use Rattle.wrapper.specs.Status.{statusNumber};
 ghost use Rattle.packets.specs.Packets.{accepted, Reads, Sends, sendTold, filledUp, withStatus};
 
 // After a packet was asked of OUT: the answer, whether a packet was taken, of how many bytes, and the marks.
 pub struct Received {
-    pub answer: Answer,
-    pub carried: u8,
+    pub outcome: Outcome,
     pub taken: bool,
     pub count: usize,
     pub marks: Marks,
@@ -27,8 +28,7 @@ pub struct Received {
 
 // After a packet was offered to IN: the answer, how many bytes it took, and the marks.
 pub struct Sent {
-    pub answer: Answer,
-    pub carried: u8,
+    pub outcome: Outcome,
     pub count: usize,
     pub marks: Marks,
 }
@@ -50,10 +50,10 @@ fn lacking(want: usize, have: usize) -> usize
 fn moved(e: Endpoint, n: usize) -> usize
     ensures { λ r. ⌜ r ≡ accepted e n ⌝ }
 {
-    if answers::served(e) { n } else { 0 }
+    if served(e) { n } else { 0 }
 }
 
-// Room for p bytes is asked for first; then the endpoint.
+// One packet from OUT. Room for p bytes is asked for first; then the endpoint.
 pub fn read_packet(io: &mut [u8], m: Marks, p: usize, out: Endpoint, packet: &[u8]) -> Received
     requires { ⌜ Sound (buffer (now io) m) × (length (now packet) ≤ p) ⌝ }
     ensures { λ r. ⌜ Reads p out (now (packet .entry)) (buffer (now (io .entry)) m) r (now (io .exit)) ⌝ }
@@ -63,16 +63,14 @@ pub fn read_packet(io: &mut [u8], m: Marks, p: usize, out: Endpoint, packet: &[u
     let marks = t.marks;
     if t.done {
         return Received {
-            answer: answers::answered(out),
-            carried: answers::carried(out),
-            taken: answers::served(out),
+            outcome: answered(out),
+            taken: served(out),
             count: n,
             marks: marks,
         };
     }
     Received {
-        answer: Answer::IoBufferOverflow,
-        carried: 0,
+        outcome: plain(Answer::IoBufferOverflow),
         taken: false,
         count: 0,
         marks: marks,
@@ -80,32 +78,25 @@ pub fn read_packet(io: &mut [u8], m: Marks, p: usize, out: Endpoint, packet: &[u
 }
 
 // With nothing unread the endpoint is not asked.
-fn send_carried(n: usize, into: Endpoint) -> u8 {
-    if n == 0 {
-        return 0;
-    }
-    answers::carried(into)
-}
-
-fn send_answer(n: usize, into: Endpoint) -> Answer {
-    if n == 0 {
-        return Answer::Done;
-    }
-    answers::answered(into)
-}
-
-// At most p unread bytes go to the packet buffer's front.
-pub fn send_packet(io: &[u8], m: Marks, p: usize, into: Endpoint, packet: &mut [u8]) -> Sent
-    requires { ⌜ Sound (buffer (now io) m) × (p ≤ length (now packet)) ⌝ }
-    ensures { λ r. ⌜ Sends p into (buffer (now (io .entry)) m) (now (packet .entry)) r (now (packet .exit)) ⌝ }
+fn send_outcome(unread: usize, e: Endpoint) -> Outcome
+    ensures { λ r. ⌜ told r ≡ sendTold e unread ⌝ }
 {
-    let answer = send_answer(m.write - m.read, into);
-    let carried = send_carried(m.write - m.read, into);
-    let t = marked::read(io, m, moved(into, p), packet);
+    if unread == 0 {
+        return plain(Answer::Done);
+    }
+    answered(e)
+}
+
+// One packet to IN: at most p unread bytes go to the packet buffer's front.
+pub fn send_packet(io: &[u8], m: Marks, p: usize, e: Endpoint, packet: &mut [u8]) -> Sent
+    requires { ⌜ Sound (buffer (now io) m) × (p ≤ length (now packet)) ⌝ }
+    ensures { λ r. ⌜ Sends p e (buffer (now (io .entry)) m) (now (packet .entry)) r (now (packet .exit)) ⌝ }
+{
+    let outcome = send_outcome(m.write - m.read, e);
+    let t = marked::read(io, m, moved(e, p), packet);
     let marks = t.marks;
     Sent {
-        answer: answer,
-        carried: carried,
+        outcome: outcome,
         count: t.count,
         marks: marks,
     }
@@ -128,12 +119,4 @@ pub fn put_status(io: &mut [u8], tag: u32, residue: Residue, status: CommandStat
     let bytes = wrapper::status::status_bytes(tag, residue, status);
     let t = marked::write(io, marked::clean(), &bytes);
     t.marks
-}
-
-// The command block of a wrapper's 31 bytes, into a lent one.
-pub fn put_block(block: &mut [u8], m: &[u8])
-    requires { ⌜ (length (now block) ≡ 16) × (length (now m) ≡ 31) ⌝ }
-    ensures { λ _. ⌜ now (block .exit) ≡ bytesAt CBWCB (now (m .entry)) ⌝ }
-{
-    buffer::span::put(block, 0, &m[15..31]);
 }

@@ -25,29 +25,29 @@ rows a b p k = rw p k
 
 -- ---- the handlers
 
-module _ (present : Bool) (found : Found) (direction : DataDirection) (length : ℕ) where
-  pub read-nothing : found ≡ Nothing → Stay ≡ readCbwAct present found direction length
+module _ (found : Found) (direction : DataDirection) (length : ℕ) where
+  pub read-nothing : found ≡ Nothing → Stay ≡ readCbwAct found direction length
   unfolding readCbwAct
   read-nothing p = rw p
 
-  pub read-invalid : found ≡ Invalid → Stall ≡ readCbwAct present found direction length
+  pub read-invalid : found ≡ Invalid → Stall ≡ readCbwAct found direction length
   unfolding readCbwAct
   read-invalid p = rw p
 
-  pub read-valid : {r : Act} → found ≡ Valid → r ≡ startAct present direction length → r ≡ readCbwAct present found direction length
+  pub read-valid : {r : Act} → found ≡ Valid → r ≡ startAct direction length → r ≡ readCbwAct found direction length
   unfolding readCbwAct
   read-valid p k = rw p k
 
-module _ (present : Bool) (direction : DataDirection) (length : ℕ) {r : Act} where
-  pub start-out : direction ≡ Out → r ≡ fromHostAct length present → r ≡ startAct present direction length
+module _ (direction : DataDirection) (length : ℕ) {r : Act} where
+  pub start-out : direction ≡ Out → r ≡ fromHostAct length false → r ≡ startAct direction length
   unfolding startAct
   start-out p k = rw p k
 
-  pub start-in : direction ≡ In → r ≡ toHostAct length present → r ≡ startAct present direction length
+  pub start-in : direction ≡ In → r ≡ toHostAct length false → r ≡ startAct direction length
   unfolding startAct
   start-in p k = rw p k
 
-  pub start-none : direction ≡ NotExpected → r ≡ noDataAct present → r ≡ startAct present direction length
+  pub start-none : direction ≡ NotExpected → r ≡ noDataAct false → r ≡ startAct direction length
   unfolding startAct
   start-none p k = rw p k
 
@@ -56,7 +56,7 @@ unfolding noDataAct
 no-data present k = k
 
 module _ (empty entered : Bool) (found : Found) (direction : DataDirection) (length : ℕ) where
-  pub status-empty : {r : Act} → empty ≡ true → r ≡ readCbwAct false found direction length → r ≡ statusTransferAct empty entered found direction length
+  pub status-empty : {r : Act} → empty ≡ true → r ≡ readCbwAct found direction length → r ≡ statusTransferAct empty entered found direction length
   unfolding statusTransferAct
   status-empty p k = rw p k
 

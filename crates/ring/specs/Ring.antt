@@ -35,32 +35,32 @@ fromHostEndingAct left = cond (eqb left 0) Enter Drop
 unfoldable pub fromHostAct : ℕ → Bool → Act
 fromHostAct left present = cond (eqb left 0) (statusAwaitAct present) (cond present (fromHostEndingAct left) Take)
 
-abbrev byDirection : {A : Type 0} → DataDirection → A → A → A → A
+abbrev pub byDirection : {A : Type 0} → DataDirection → A → A → A → A
 byDirection Out out to none = out
 byDirection In out to none = to
 byDirection NotExpected out to none = none
 
--- "Valid goes on to 7, 4 or, through 2, to 5."
-unfoldable pub startAct : Bool → DataDirection → ℕ → Act
-startAct present direction length = byDirection direction (fromHostAct length present) (toHostAct length present) (noDataAct present)
+-- "Valid goes on to 7, 4 or, through 2, to 5." In 0 no status is present: a record that has one there is broken.
+unfoldable pub startAct : DataDirection → ℕ → Act
+startAct direction length = byDirection direction (fromHostAct length false) (toHostAct length false) (noDataAct false)
 
-abbrev byFound : {A : Type 0} → Found → A → A → A → A
+abbrev pub byFound : {A : Type 0} → Found → A → A → A → A
 byFound Nothing none bad good = none
 byFound Invalid none bad good = bad
 byFound Valid none bad good = good
 
 -- "0: read one packet; with 31 or more unread parse. Invalid goes to 1, both endpoints stalled."
-unfoldable pub readCbwAct : Bool → Found → DataDirection → ℕ → Act
-readCbwAct present found direction length = byFound found Stay Stall (startAct present direction length)
+unfoldable pub readCbwAct : Found → DataDirection → ℕ → Act
+readCbwAct found direction length = byFound found Stay Stall (startAct direction length)
 
 -- "Later polls in 3 send the next packet; with nothing unread, enter 0 and read." "Entering 0 clears status".
 unfoldable pub statusTransferAct : Bool → Bool → Found → DataDirection → ℕ → Act
 statusTransferAct empty entered found direction length =
-    cond empty (readCbwAct false found direction length) (cond entered Enter Next)
+    cond empty (readCbwAct found direction length) (cond entered Enter Next)
 
 -- A poll, by the state in which it starts. "1: stall both again".
 abbrev pub settled : State → ℕ → Bool → Bool → Found → DataDirection → ℕ → Act
-settled CommandTransfer left present empty found direction length = readCbwAct present found direction length
+settled CommandTransfer left present empty found direction length = readCbwAct found direction length
 settled CommandTransferInvalid left present empty found direction length = Stall
 settled DataTransferNoData left present empty found direction length = noDataAct present
 settled StatusTransfer left present empty found direction length = statusTransferAct empty false found direction length

@@ -1,0 +1,29 @@
+-- `packets::fill` meets its contract. Assumes nothing.
+use borrow.Author.Needs.{needs}
+use Rattle.packets.proofs.Laws.{ways}
+use Rattle.packets.proofs.fill.Statement.{statement}
+use Rattle.packets.proofs.fill.Tie as tie
+
+cast-least : tie.Need-cast-least
+cast-least c = search needs
+
+least-requires : tie.Need-least-requires
+least-requires c κs = search needs
+
+sub-lacking : tie.Need-sub-lacking
+sub-lacking c = search needs
+
+lacking-requires : tie.Need-lacking-requires
+lacking-requires c κs = search needs
+
+fill-up-to-requires : tie.Need-fill-up-to-requires
+fill-up-to-requires c κs = search needs
+
+same-length : tie.Need-same-length
+same-length c = search needs
+
+returns : tie.Need-returns
+returns c = search (ways, needs)
+
+pub fill-spec : {M : Type 1} → statement M
+fill-spec = tie.close (tie.spec cast-least least-requires sub-lacking lacking-requires fill-up-to-requires same-length returns)
