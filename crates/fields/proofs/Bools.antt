@@ -1,6 +1,6 @@
 -- Facts about tests that the library lacks. Assumes nothing.
-use mathlib.Core.Path.{_≡_, refl}
-use mathlib.Core.Bool.{Bool, true, false, cond, _&&_}
+use mathlib.Core.Path.{_≡_, refl, sym}
+use mathlib.Core.Bool.{Bool, true, false, not, cond, _&&_}
 
 pub and-left : (a b : Bool) → a && b ≡ true → a ≡ true
 and-left true b e = refl
@@ -15,3 +15,12 @@ and-right false false e = e
 pub of-picked : {A : Type 0} (P : A → Type 0) (b : Bool) {s t : A} → (b ≡ true → P s) → (b ≡ false → P t) → P (cond b s t)
 of-picked P true p q = p refl
 of-picked P false p q = q refl
+
+-- what a negated test says of the test
+pub not-true : (b : Bool) → not b ≡ true → b ≡ false
+not-true true e = sym e
+not-true false e = refl
+
+pub not-false : (b : Bool) → not b ≡ false → b ≡ true
+not-false true e = refl
+not-false false e = sym e

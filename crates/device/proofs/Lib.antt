@@ -1,0 +1,2 @@
+-- proofs.Laws    what each way through a function owes
+pub mod Laws

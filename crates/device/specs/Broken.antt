@@ -1,0 +1,48 @@
+-- "Broken means: ..", rule by rule. A record that is not broken is whole. Assumes nothing: these are definitions.
+use mathlib.Core.Path.{_≡_}
+use Prim.Native.Nat.{ℕ, _≤_}
+use mathlib.Core.Bool.{Bool, true, false, not, _&&_}
+use lib.Dec.{eqb, leb}
+use Rattle.buffer.specs.Buffer.{isSound}
+use Rattle.ring.specs.declared.State.{State}
+use Rattle.ring.specs.declared.State.the-variants.{CommandTransfer, CommandTransferInvalid, DataTransferNoData, StatusTransfer, DataTransferToHost, DataTransferToHostStatusAwait, DataTransferToHostEnding, DataTransferFromHost, DataTransferFromHostEnding}
+use Rattle.device.specs.declared.Numbers.{Numbers}
+use Rattle.device.specs.Device.{isPresent}
+use Rattle.device.specs.Create.{creation}
+
+-- "block length above 16; LUN above 15"
+unfoldable pub commandFits : ℕ → ℕ → Bool
+commandFits lun blocklength = leb blocklength 16 && leb lun 15
+
+-- "a status present in CommandTransfer or CommandTransferInvalid; none present in StatusTransfer or either Ending state"
+abbrev pub statusFits : State → Bool → Bool
+statusFits CommandTransfer present = not present
+statusFits CommandTransferInvalid present = not present
+statusFits DataTransferNoData present = true
+statusFits StatusTransfer present = present
+statusFits DataTransferToHost present = true
+statusFits DataTransferToHostStatusAwait present = true
+statusFits DataTransferToHostEnding present = present
+statusFits DataTransferFromHost present = true
+statusFits DataTransferFromHostEnding present = present
+
+-- A whole record over a lent IO buffer of len bytes. As a fact, and as a test.
+pub record Whole (n : Numbers) (len : ℕ) : Type 0 where
+  -- "the lent IO buffer's length differs from the recorded one"
+  pub lent : n .size ≡ len
+  -- "a creation rule is violated"
+  pub created : creation (n .packetsize) (n .maxlun) (n .size) ≡ 0
+  -- "read mark above write mark or write mark above the length"
+  pub order : n .marks .read ≤ n .marks .write
+  pub within : n .marks .write ≤ n .size
+  pub block : n .blocklength ≤ 16
+  pub lun : n .lun ≤ 15
+  pub status : statusFits (n .state) (isPresent (n .status)) ≡ true
+
+unfoldable pub isWhole : Numbers → ℕ → Bool
+isWhole n len =
+    eqb (n .size) len
+    && (eqb (creation (n .packetsize) (n .maxlun) (n .size)) 0
+    && (isSound (n .size) (n .marks)
+    && (commandFits (n .lun) (n .blocklength)
+    && statusFits (n .state) (isPresent (n .status)))))
