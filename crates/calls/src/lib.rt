@@ -1,11 +1,14 @@
-// What the firmware and the bus call between polls.
-use crate::device::Device;
-use crate::device::Status;
-use crate::device::numbers_of;
-use crate::device::whole;
+// What the firmware and the bus call between polls, on the record by value. Every call takes any record, any buffers and any
+// numbers, and ends with one of document 01's answers; 10 comes first.
+pub mod command;
+
 use answers::Answer;
 use answers::Stalls;
 use buffer::marked;
+use device::Device;
+use device::Status;
+use device::numbers_of;
+use device::whole;
 use ring::State;
 use ring::state_number;
 use wrapper::counters::Left;
@@ -196,14 +199,6 @@ fn entered(device: Device) -> Device {
     d.status = Status::Absent;
     d.left = Left(0);
     d
-}
-
-fn reset_report() -> Controlled {
-    Controlled {
-        answer: Answer::Done,
-        stalls: Stalls::Unstalled,
-        reply: Reply::Nothing,
-    }
 }
 
 pub fn reset(device: Device, io: &[u8]) -> Reset {

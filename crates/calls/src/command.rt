@@ -1,9 +1,9 @@
 // The command shown to the firmware, and the command step.
-use crate::device::Device;
-use crate::device::numbers_of;
-use crate::device::present;
-use crate::device::whole;
 use answers::Answer;
+use device::Device;
+use device::numbers_of;
+use device::present;
+use device::whole;
 use ring::state_number;
 use scsi::Decoded;
 use scsi::ScsiCommand;
