@@ -1,2 +1,4 @@
--- proofs.Laws    what each way through a function owes
+-- proofs.Laws     what each way through a function owes
+-- proofs.Wholly   what follows for a whole record; the test says whether it is one
 pub mod Laws
+pub mod Wholly
