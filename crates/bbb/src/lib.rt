@@ -1,0 +1,244 @@
+// One poll of the socket's device, after bbb.rs. The record goes in by value and comes back.
+//     check    10, then 11
+//     open     where the chain of handlers reaches the wrapper: a packet is read and its 31 bytes are looked at
+//     decide   the ring of handlers, in a crate of its own
+//     act      in one place: what crosses the wire
+pub mod act;
+pub mod open;
+
+use crate::act::act;
+use crate::open::Opened;
+use crate::open::open;
+use answers::Answer;
+use answers::Outcome;
+use answers::Stalls;
+use answers::plain;
+use buffer::Marks;
+use device::Device;
+use device::Numbers;
+use device::Status;
+use device::numbers_of;
+use device::present;
+use device::whole;
+use ring::Found;
+use ring::State;
+use ring::row_of;
+use ring::settle;
+use wrapper::Wrapper;
+use wrapper::counters::Left;
+ghost use mathlib.Core.Path.{_≡_};
+ghost use mathlib.Core.Bool.{cond};
+ghost use Prim.Native.Nat.{_≤_};
+ghost use lib.ListN.{length};
+ghost use Rattle.buffer.specs.Buffer.{Sound, buffer};
+ghost use Rattle.device.specs.declared.Status.the-variants.{Absent};
+ghost use Rattle.device.specs.Device.{numbersOf};
+ghost use Rattle.device.specs.Broken.{Whole};
+ghost use Rattle.wrapper.specs.Wrapper.{wrapperOf};
+ghost use Rattle.bbb.specs.Poll.{given, Fits, isFitting, refusedBy, pollingOf, pollCall};
+ghost use Rattle.bbb.specs.Phases.{isValidFound, openOf, Runs, endedOf, goneOn, changedBy};
+
+// The endpoints' answers for this poll, two OUT reads and one IN write: 0 does its part, 1 busy, others errors.
+pub struct Turn {
+    pub first: u8,
+    pub second: u8,
+    pub write: u8,
+}
+
+// What a poll reports: its answer, OUT packets taken, bytes sent, what was asked of the endpoints.
+pub struct Report {
+    pub outcome: Outcome,
+    pub taken: u8,
+    pub sent: usize,
+    pub stalls: Stalls,
+}
+
+pub struct Polled {
+    pub device: Device,
+    pub report: Report,
+}
+
+// What a poll changes of the record, and what it reports. Where a wrapper was parsed, its 31 bytes are in the lent ones.
+pub struct Change {
+    pub state: State,
+    pub marks: Marks,
+    pub left: Left,
+    pub cleared: bool,
+    pub parsed: bool,
+    pub report: Report,
+}
+
+fn is_valid(found: Found) -> bool
+    ensures { λ r. ⌜ r ≡ isValidFound found ⌝ }
+{
+    match found {
+        Found::Nothing => false,
+        Found::Invalid => false,
+        Found::Valid => true,
+    }
+}
+
+// Decide and act.
+fn go_on(
+    n: Numbers,
+    o: Opened,
+    io: &mut [u8],
+    packet: &mut [u8],
+    one: &[u8],
+    two: &[u8],
+    turn: Turn,
+) -> Change
+    requires { ⌜ (n .marks .read ≤ n .marks .write) × Sound (buffer (now io) (o .marks)) × (o .taken ≤ 1) × Fits (n .packetsize) (now packet) (now one) (now two) ⌝ }
+    ensures { λ r. ⌜ endedOf r (now (io .exit)) (now (packet .exit)) ≡ goneOn n (openOf o) (now (io .entry)) (given (now (packet .entry)) (now (one .entry)) (now (two .entry)) turn) ⌝ }
+{
+    let state = n.state;
+    let marks = n.marks;
+    let left = n.left;
+    let status = n.status;
+    let found = o.found;
+    let direction = o.direction;
+    let length = o.left;
+    let row = row_of(settle(
+        state,
+        left.0,
+        present(status),
+        marks.write - marks.read == 0,
+        found,
+        direction,
+        length.0,
+    ));
+    let did = act(row, n, o, io, packet, one, two, turn);
+    let reached = row.0;
+    let after = did.marks;
+    let falls = did.left;
+    let outcome = did.outcome;
+    Change {
+        state: reached,
+        marks: after,
+        left: falls,
+        cleared: o.cleared,
+        parsed: is_valid(found),
+        report: Report {
+            outcome: outcome,
+            taken: did.taken,
+            sent: did.sent,
+            stalls: answers::asked(o.cleared, did.stalled),
+        },
+    }
+}
+
+// Whether the offered packets and the packet buffer suit the packet size.
+pub fn fits(p: usize, packet: usize, one: usize, two: usize) -> bool
+    ensures { λ r. ⌜ r ≡ isFitting p packet one two ⌝ }
+{
+    if one <= p {
+        if two <= p {
+            return p <= packet;
+        }
+        return false;
+    }
+    false
+}
+
+// The poll of a record that is whole, with offers that fit. The 31 bytes of a parsed wrapper go into `message`.
+pub fn run(
+    n: Numbers,
+    message: &mut [u8],
+    io: &mut [u8],
+    packet: &mut [u8],
+    one: &[u8],
+    two: &[u8],
+    turn: Turn,
+) -> Change
+    requires { ⌜ Whole n (length (now io)) × (length (now message) ≡ 31) × Fits (n .packetsize) (now packet) (now one) (now two) ⌝ }
+    ensures { λ r. ⌜ Runs n (now (io .entry)) (now (message .entry)) (given (now (packet .entry)) (now (one .entry)) (now (two .entry)) turn) r (now (io .exit)) (now (packet .exit)) (now (message .exit)) ⌝ }
+{
+    let o = open(n, message, io, one, turn.first);
+    go_on(n, o, io, packet, one, two, turn)
+}
+
+fn status_then(cleared: bool, status: Status) -> Status
+    ensures { λ r. ⌜ r ≡ cond cleared Absent status ⌝ }
+{
+    if cleared {
+        return Status::Absent;
+    }
+    status
+}
+
+// The wrapper in the record: the parsed one, or the one before.
+fn wrapper_then(parsed: bool, w: Wrapper, message: &[u8]) -> Wrapper
+    requires { ⌜ length (now message) ≡ 31 ⌝ }
+    ensures { λ r. ⌜ r ≡ cond parsed (wrapperOf (now (message .entry))) w ⌝ }
+{
+    if parsed {
+        return wrapper::read_wrapper(message);
+    }
+    w
+}
+
+// The record with what changed.
+fn changed(d: Device, c: Change, message: &[u8]) -> Device
+    requires { ⌜ length (now message) ≡ 31 ⌝ }
+    ensures { λ r. ⌜ r ≡ changedBy d c (now (message .entry)) ⌝ }
+{
+    let state = c.state;
+    let marks = c.marks;
+    let left = c.left;
+    let old = d.wrapper;
+    let was = d.status;
+    let w = wrapper_then(c.parsed, old, message);
+    let status = status_then(c.cleared, was);
+    Device {
+        packetsize: d.packetsize,
+        maxlun: d.maxlun,
+        size: d.size,
+        state: state,
+        marks: marks,
+        wrapper: w,
+        status: status,
+        left: left,
+    }
+}
+
+fn refused(device: Device, answer: Answer) -> Polled
+    ensures { λ r. ⌜ r ≡ refusedBy device answer ⌝ }
+{
+    Polled {
+        device: device,
+        report: Report {
+            outcome: plain(answer),
+            taken: 0,
+            sent: 0,
+            stalls: Stalls::Kept,
+        },
+    }
+}
+
+// One poll, of any record with any offers.
+pub fn poll(
+    device: Device,
+    io: &mut [u8],
+    packet: &mut [u8],
+    one: &[u8],
+    two: &[u8],
+    turn: Turn,
+) -> Polled
+    ensures { λ r. ⌜ pollingOf r (now (io .exit)) (now (packet .exit)) ≡ pollCall device (now (io .entry)) (given (now (packet .entry)) (now (one .entry)) (now (two .entry)) turn) ⌝ }
+{
+    let n = numbers_of(device);
+    if whole(n, io.len()) {
+        if fits(n.packetsize, packet.len(), one.len(), two.len()) {
+            let mut message = [0u8; 31];
+            let c = run(n, &mut message, io, packet, one, two, turn);
+            let report = c.report;
+            let d = changed(device, c, &message);
+            return Polled {
+                device: d,
+                report: report,
+            };
+        }
+        return refused(device, Answer::PacketRefused);
+    }
+    refused(device, Answer::BrokenRecord)
+}

@@ -1,12 +1,16 @@
 // The command shown to the firmware, and the command step.
+use crate::broken;
+use crate::is_in;
 use answers::Answer;
 use device::Device;
-use device::numbers_of;
 use device::present;
-use device::whole;
-use ring::state_number;
 use scsi::Decoded;
 use scsi::ScsiCommand;
+ghost use mathlib.Core.Path.{_≡_};
+ghost use Prim.Native.Nat.{_≤_};
+ghost use lib.ListN.{take};
+ghost use Rattle.scsi.specs.Decoding.{plainCall};
+ghost use Rattle.calls.specs.Command.{hides, shownOf, commandCall, offersNone, steppedOf, isOffered, offering, stepCall};
 
 // The answer, whether a command is shown, its LUN and its block, which has so many bytes.
 pub struct Shown {
@@ -28,7 +32,9 @@ pub struct Step {
     pub offer: Offer,
 }
 
-fn nothing(answer: Answer) -> Shown {
+fn hidden(answer: Answer) -> Shown
+    ensures { λ r. ⌜ r ≡ hides answer ⌝ }
+{
     let block = [0u8; 16];
     Shown {
         answer: answer,
@@ -39,14 +45,14 @@ fn nothing(answer: Answer) -> Shown {
     }
 }
 
-pub fn command(device: Device, io: &[u8]) -> Shown {
-    let n = numbers_of(device);
-    if !whole(n, io.len()) {
-        return nothing(Answer::BrokenRecord);
+pub fn command(device: Device, io: &[u8]) -> Shown
+    ensures { λ r. ⌜ shownOf r ≡ commandCall device (now (io .entry)) ⌝ }
+{
+    if broken(device, io.len()) {
+        return hidden(Answer::BrokenRecord);
     }
-    let state = device.state;
-    if state_number(state) == 0 {
-        return nothing(Answer::Done);
+    if is_in(device, 0) {
+        return hidden(Answer::Done);
     }
     let w = device.wrapper;
     let block = w.block;
@@ -59,32 +65,52 @@ pub fn command(device: Device, io: &[u8]) -> Shown {
     }
 }
 
-pub fn command_step(device: Device, io: &[u8]) -> Step {
-    let c = command(device, io);
-    let answer = c.answer;
-    let status = device.status;
-    if !c.shown {
-        return Step {
-            answer: answer,
-            offer: Offer::Nothing,
-        };
+fn nothing(answer: Answer) -> Step
+    ensures { λ r. ⌜ r ≡ offersNone answer ⌝ }
+{
+    Step {
+        answer: answer,
+        offer: Offer::Nothing,
     }
-    if present(status) {
-        return Step {
-            answer: answer,
-            offer: Offer::Nothing,
-        };
-    }
-    let block = c.block;
-    let d = scsi::decode(&block[..c.blocklength as usize]);
+}
+
+// The command of this LUN that the block's first bytes, so many, decode to.
+fn decoded(lun: u8, blocklength: u8, block: [u8; 16]) -> Step
+    requires { ⌜ blocklength ≤ 16 ⌝ }
+    ensures { λ r. ⌜ steppedOf r ≡ offering lun (plainCall (take blocklength block)) ⌝ }
+{
+    let n = blocklength as usize;
+    let d = scsi::decode(&block[..n]);
     match d {
-        Decoded::Empty => Step {
-            answer: Answer::EmptyBlock,
-            offer: Offer::Nothing,
-        },
-        Decoded::Command(kind) => Step {
+        Decoded::Empty => nothing(Answer::EmptyBlock),
+        Decoded::Command(command) => Step {
             answer: Answer::Done,
-            offer: Offer::Command(c.lun, kind),
+            offer: Offer::Command(lun, command),
         },
     }
+}
+
+// Whether the step offers the command: it is shown, and no status is present.
+fn offers(device: Device) -> bool
+    ensures { λ r. ⌜ r ≡ isOffered device ⌝ }
+{
+    if is_in(device, 0) {
+        return false;
+    }
+    let status = device.status;
+    !present(status)
+}
+
+pub fn command_step(device: Device, io: &[u8]) -> Step
+    ensures { λ r. ⌜ steppedOf r ≡ stepCall device (now (io .entry)) ⌝ }
+{
+    if broken(device, io.len()) {
+        return nothing(Answer::BrokenRecord);
+    }
+    if offers(device) {
+        let w = device.wrapper;
+        let block = w.block;
+        return decoded(w.lun, w.blocklength, block);
+    }
+    nothing(Answer::Done)
 }

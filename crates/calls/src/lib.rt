@@ -1,9 +1,11 @@
 // What the firmware and the bus call between polls, on the record by value. Every call takes any record, any buffers and any
 // numbers, and ends with one of document 01's answers; 10 comes first.
+//     command    the command shown to the firmware, and the command step
 pub mod command;
 
 use answers::Answer;
 use answers::Stalls;
+use buffer::Marks;
 use buffer::marked;
 use device::Device;
 use device::Status;
@@ -12,8 +14,17 @@ use device::whole;
 use ring::State;
 use ring::state_number;
 use wrapper::counters::Left;
+use wrapper::counters::residue_of;
 use wrapper::status::StatusByte;
 use wrapper::status::status_of;
+ghost use mathlib.Core.Path.{_≡_};
+ghost use Prim.Native.Nat.{min};
+ghost use lib.ListN.{length};
+ghost use Rattle.device.specs.Device.{withStatus};
+ghost use Rattle.calls.specs.Checks.{isBroken, isIn};
+ghost use Rattle.calls.specs.Status.{takesStatus, statedOf, acceptedStatus, setStatusCall};
+ghost use Rattle.calls.specs.Data.{unmoved, movesTo, movedOf, readCall, writeCall, writeAllCall};
+ghost use Rattle.calls.specs.Bus.{keeps, enters0, handledOf, served, resetCall, controlCall};
 
 // A status byte, and how many bytes the firmware dealt with.
 pub struct Figure {
@@ -55,36 +66,69 @@ pub struct Controlled {
     pub reply: Reply,
 }
 
-pub struct Reset {
+pub struct Handled {
     pub device: Device,
     pub report: Controlled,
 }
 
-fn takes_status(state: u8) -> bool {
-    match state {
-        2 => true,
-        4 => true,
-        5 => true,
-        7 => true,
-        _ => false,
+// ---- the record
+
+// Whether the record is broken, over an IO buffer of so many bytes.
+pub(crate) fn broken(device: Device, len: usize) -> bool
+    ensures { λ r. ⌜ r ≡ isBroken device len ⌝ }
+{
+    !whole(numbers_of(device), len)
+}
+
+// Whether the device is in the state of this number.
+pub(crate) fn is_in(device: Device, number: u8) -> bool
+    ensures { λ r. ⌜ r ≡ isIn number device ⌝ }
+{
+    let state = device.state;
+    state_number(state) == number
+}
+
+fn with_status(device: Device, status: Status) -> Device
+    ensures { λ r. ⌜ r ≡ withStatus status device ⌝ }
+{
+    let state = device.state;
+    let marks = device.marks;
+    let wrapper = device.wrapper;
+    let left = device.left;
+    Device {
+        packetsize: device.packetsize,
+        maxlun: device.maxlun,
+        size: device.size,
+        state: state,
+        marks: marks,
+        wrapper: wrapper,
+        status: status,
+        left: left,
     }
 }
 
-pub fn set_status(device: Device, io: &[u8], figure: Figure) -> Stated {
-    let n = numbers_of(device);
-    if !whole(n, io.len()) {
-        return Stated {
-            device: device,
-            answer: Answer::BrokenRecord,
-        };
+// ---- the status
+
+// Whether a status is accepted in the state of this number.
+fn takes_status(state: u8) -> bool
+    ensures { λ r. ⌜ r ≡ takesStatus state ⌝ }
+{
+    if state == 2 {
+        return true;
     }
-    let state = device.state;
-    if !takes_status(state_number(state)) {
-        return Stated {
-            device: device,
-            answer: Answer::StatusRefused,
-        };
+    if state == 4 {
+        return true;
     }
+    if state == 5 {
+        return true;
+    }
+    state == 7
+}
+
+// In a state that takes one: bytes above 2 are refused.
+fn accept(device: Device, figure: Figure) -> Stated
+    ensures { λ r. ⌜ statedOf r ≡ acceptedStatus device figure ⌝ }
+{
     let byte = status_of(figure.status);
     match byte {
         StatusByte::Refused => Stated {
@@ -93,9 +137,8 @@ pub fn set_status(device: Device, io: &[u8], figure: Figure) -> Stated {
         },
         StatusByte::Known(status) => {
             let w = device.wrapper;
-            let residue = wrapper::counters::residue_of(w.length, figure.processed);
-            let mut d = device;
-            d.status = Status::Present(status, residue);
+            let residue = residue_of(w.length, figure.processed);
+            let d = with_status(device, Status::Present(status, residue));
             Stated {
                 device: d,
                 answer: Answer::Done,
@@ -104,7 +147,31 @@ pub fn set_status(device: Device, io: &[u8], figure: Figure) -> Stated {
     }
 }
 
-fn refused(device: Device, answer: Answer) -> Moved {
+pub fn set_status(device: Device, io: &[u8], figure: Figure) -> Stated
+    ensures { λ r. ⌜ statedOf r ≡ setStatusCall device (now (io .entry)) figure ⌝ }
+{
+    if broken(device, io.len()) {
+        return Stated {
+            device: device,
+            answer: Answer::BrokenRecord,
+        };
+    }
+    let state = device.state;
+    if takes_status(state_number(state)) {
+        return accept(device, figure);
+    }
+    Stated {
+        device: device,
+        answer: Answer::StatusRefused,
+    }
+}
+
+// ---- data
+
+// Nothing was read or written.
+fn refused(device: Device, answer: Answer) -> Moved
+    ensures { λ r. ⌜ r ≡ unmoved device answer ⌝ }
+{
     Moved {
         device: device,
         report: Count {
@@ -114,107 +181,111 @@ fn refused(device: Device, answer: Answer) -> Moved {
     }
 }
 
-pub fn read_data(device: Device, io: &[u8], dst: &mut [u8]) -> Moved {
-    let n = numbers_of(device);
-    if !whole(n, io.len()) {
-        return refused(device, Answer::BrokenRecord);
-    }
-    let state = device.state;
-    if state_number(state) != 7 {
-        return refused(device, Answer::InvalidState);
-    }
-    let marks = device.marks;
-    let t = marked::read(io, marks, dst.len(), dst);
+// So many bytes were read or written, and the marks are now these.
+fn left_at(device: Device, marks: Marks, answer: Answer, count: usize) -> Moved
+    ensures { λ r. ⌜ r ≡ movesTo device marks answer count ⌝ }
+{
     let mut d = device;
-    let after = t.marks;
-    d.marks = after;
+    d.marks = marks;
     Moved {
         device: d,
         report: Count {
-            answer: Answer::Done,
-            count: t.count,
+            answer: answer,
+            count: count,
         },
     }
 }
 
-fn least(a: usize, b: usize) -> usize {
+pub fn read_data(device: Device, io: &[u8], dst: &mut [u8]) -> Moved
+    ensures { λ r. ⌜ movedOf r (now (dst .exit)) ≡ readCall device (now (io .entry)) (now (dst .entry)) ⌝ }
+{
+    if broken(device, io.len()) {
+        return refused(device, Answer::BrokenRecord);
+    }
+    if is_in(device, 7) {
+        let marks = device.marks;
+        let t = marked::read(io, marks, dst.len(), dst);
+        let after = t.marks;
+        return left_at(device, after, Answer::Done, t.count);
+    }
+    refused(device, Answer::InvalidState)
+}
+
+fn least(a: usize, b: usize) -> usize
+    ensures { λ r. ⌜ r ≡ min a b ⌝ }
+{
     if a < b { a } else { b }
 }
 
-pub fn write_data(device: Device, io: &mut [u8], src: &[u8]) -> Moved {
-    let n = numbers_of(device);
-    if !whole(n, io.len()) {
+pub fn write_data(device: Device, io: &mut [u8], src: &[u8]) -> Moved
+    ensures { λ r. ⌜ movedOf r (now (io .exit)) ≡ writeCall device (now (io .entry)) (now (src .entry)) ⌝ }
+{
+    if broken(device, io.len()) {
         return refused(device, Answer::BrokenRecord);
     }
-    let state = device.state;
-    if state_number(state) != 4 {
-        return refused(device, Answer::InvalidState);
+    if is_in(device, 4) {
+        let marks = device.marks;
+        let left = device.left;
+        let n = least(left.0 as usize, src.len());
+        let t = marked::write(io, marks, &src[..n]);
+        let after = t.marks;
+        return left_at(device, after, Answer::Done, t.count);
     }
-    let marks = device.marks;
-    let left = device.left;
-    let k = least(left.0 as usize, src.len());
-    let t = marked::write(io, marks, &src[..k]);
-    let mut d = device;
-    let after = t.marks;
-    d.marks = after;
-    Moved {
-        device: d,
-        report: Count {
-            answer: Answer::Done,
-            count: t.count,
+    refused(device, Answer::InvalidState)
+}
+
+pub fn try_write_data_all(device: Device, io: &mut [u8], src: &[u8]) -> Moved
+    ensures { λ r. ⌜ movedOf r (now (io .exit)) ≡ writeAllCall device (now (io .entry)) (now (src .entry)) ⌝ }
+{
+    if broken(device, io.len()) {
+        return refused(device, Answer::BrokenRecord);
+    }
+    if is_in(device, 4) {
+        let marks = device.marks;
+        let t = marked::write_all(io, marks, 0, src);
+        let after = t.marks;
+        if t.done {
+            return left_at(device, after, Answer::Done, src.len());
+        }
+        // A refusal keeps the move.
+        return left_at(device, after, Answer::IoBufferOverflow, 0);
+    }
+    refused(device, Answer::InvalidState)
+}
+
+// ---- the bus
+
+// No endpoint is touched, and the record stays.
+fn kept(device: Device, answer: Answer, reply: Reply) -> Handled
+    ensures { λ r. ⌜ r ≡ keeps device answer reply ⌝ }
+{
+    Handled {
+        device: device,
+        report: Controlled {
+            answer: answer,
+            stalls: Stalls::Kept,
+            reply: reply,
         },
     }
 }
 
-pub fn try_write_data_all(device: Device, io: &mut [u8], src: &[u8]) -> Moved {
-    let n = numbers_of(device);
-    if !whole(n, io.len()) {
-        return refused(device, Answer::BrokenRecord);
-    }
-    let state = device.state;
-    if state_number(state) != 4 {
-        return refused(device, Answer::InvalidState);
-    }
+// Entering 0 clears status and left and unstalls both; the buffer and its marks stay.
+fn enter(device: Device) -> Handled
+    ensures { λ r. ⌜ r ≡ enters0 device ⌝ }
+{
     let marks = device.marks;
-    let t = marked::write_all(io, marks, 0, src);
-    let mut d = device;
-    let after = t.marks;
-    d.marks = after;
-    if t.done {
-        return Moved {
-            device: d,
-            report: Count {
-                answer: Answer::Done,
-                count: src.len(),
-            },
-        };
-    }
-    refused(d, Answer::IoBufferOverflow)
-}
-
-// Entering 0 clears status and left; the buffer and its marks stay.
-fn entered(device: Device) -> Device {
-    let mut d = device;
-    d.state = State::CommandTransfer;
-    d.status = Status::Absent;
-    d.left = Left(0);
-    d
-}
-
-pub fn reset(device: Device, io: &[u8]) -> Reset {
-    let n = numbers_of(device);
-    if !whole(n, io.len()) {
-        return Reset {
-            device: device,
-            report: Controlled {
-                answer: Answer::BrokenRecord,
-                stalls: Stalls::Kept,
-                reply: Reply::Nothing,
-            },
-        };
-    }
-    Reset {
-        device: entered(device),
+    let wrapper = device.wrapper;
+    Handled {
+        device: Device {
+            packetsize: device.packetsize,
+            maxlun: device.maxlun,
+            size: device.size,
+            state: State::CommandTransfer,
+            marks: marks,
+            wrapper: wrapper,
+            status: Status::Absent,
+            left: Left(0),
+        },
         report: Controlled {
             answer: Answer::Done,
             stalls: Stalls::Unstalled,
@@ -223,46 +294,36 @@ pub fn reset(device: Device, io: &[u8]) -> Reset {
     }
 }
 
-pub fn control(device: Device, io: &[u8], request: Request) -> Reset {
-    let n = numbers_of(device);
-    if !whole(n, io.len()) {
-        return Reset {
-            device: device,
-            report: Controlled {
-                answer: Answer::BrokenRecord,
-                stalls: Stalls::Kept,
-                reply: Reply::Nothing,
-            },
-        };
+pub fn reset(device: Device, io: &[u8]) -> Handled
+    ensures { λ r. ⌜ handledOf r ≡ resetCall device (now (io .entry)) ⌝ }
+{
+    if broken(device, io.len()) {
+        return kept(device, Answer::BrokenRecord, Reply::Nothing);
+    }
+    enter(device)
+}
+
+// A request that counts.
+fn serve(device: Device, request: u8) -> Handled
+    ensures { λ r. ⌜ handledOf r ≡ served request device ⌝ }
+{
+    if request == 0xFF {
+        return enter(device);
+    }
+    if request == 0xFE {
+        return kept(device, Answer::Done, Reply::MaxLun(device.maxlun));
+    }
+    kept(device, Answer::Done, Reply::Nothing)
+}
+
+pub fn control(device: Device, io: &[u8], request: Request) -> Handled
+    ensures { λ r. ⌜ handledOf r ≡ controlCall device (now (io .entry)) request ⌝ }
+{
+    if broken(device, io.len()) {
+        return kept(device, Answer::BrokenRecord, Reply::Nothing);
     }
     if request.requesttype == 0xA1 {
-        if request.request == 0xFF {
-            return Reset {
-                device: entered(device),
-                report: Controlled {
-                    answer: Answer::Done,
-                    stalls: Stalls::Unstalled,
-                    reply: Reply::Nothing,
-                },
-            };
-        }
-        if request.request == 0xFE {
-            return Reset {
-                device: device,
-                report: Controlled {
-                    answer: Answer::Done,
-                    stalls: Stalls::Kept,
-                    reply: Reply::MaxLun(device.maxlun),
-                },
-            };
-        }
+        return serve(device, request.request);
     }
-    Reset {
-        device: device,
-        report: Controlled {
-            answer: Answer::Done,
-            stalls: Stalls::Kept,
-            reply: Reply::Nothing,
-        },
-    }
+    kept(device, Answer::Done, Reply::Nothing)
 }

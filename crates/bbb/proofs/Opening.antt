@@ -1,0 +1,179 @@
+-- Laws of opening: what each way through its functions owes (`ways`). Assumes nothing.
+use mathlib.Core.Path.{_≡_, refl, sym, ap, _∙_}
+use mathlib.Core.Bool.{Bool, true, false, cond, _&&_}
+use mathlib.Core.List.{List}
+use Prim.Native.Nat.{ℕ, _+_, _-_, _≤_}
+use native.Mathlib.Omega.{arith}
+use lib.Dec.{eqb, leb}
+use lib.ListN.{length, take, drop}
+use borrow.Author.Tests.{eq-eqb, ne-eqb, leb-true}
+use Rattle.fields.specs.Overlay.{overlay}
+use Rattle.fields.proofs.Bools.{and-right}
+use Rattle.fields.proofs.Overlay.{overlay-whole}
+use Rattle.fields.proofs.Seq.{length-part}
+use Rattle.buffer.specs.declared.Marks.{Marks}
+use Rattle.buffer.specs.Buffer.{Buffer, Sound, Leaves, buffer, at, unread}
+use Rattle.answers.specs.declared.Answer.the-variants.{Done}
+use Rattle.answers.specs.declared.Endpoint.{Endpoint}
+use Rattle.answers.specs.declared.Outcome.{Outcome}
+use Rattle.answers.specs.Answers.{told, plainly, endpointOf}
+use Rattle.answers.proofs.Laws.{tells}
+use Rattle.ring.specs.declared.Found.the-variants.{Nothing, Invalid, Valid}
+use Rattle.ring.specs.States.{stateNumber}
+use Rattle.wrapper.specs.declared.DataDirection.the-variants.{NotExpected}
+use Rattle.wrapper.specs.declared.Head.{Head}
+use Rattle.wrapper.specs.declared.counters.Left.{Left}
+use Rattle.wrapper.specs.Wrapper.{isValid, wrapperOf, headOf}
+use Rattle.packets.specs.declared.Received.{Received}
+use Rattle.packets.specs.Packets.{Reads, takesOne, received}
+use Rattle.device.specs.declared.Numbers.{Numbers}
+use Rattle.device.specs.Broken.{Whole}
+use Rattle.device.proofs.Wholly.{whole-sound}
+use Rattle.bbb.specs.declared.open.Opened.{Opened}
+use Rattle.bbb.specs.Poll.{messageAt}
+use Rattle.bbb.specs.Phases.{Open, openOf, Opens, behind, parsedOpen, parsedMessage, countOf, openAfter, messageAfter, readOpen, readIo, readMessage, opens, leftWhen, isOpening, opened, openedIo, openedMessage}
+
+-- ---- small tests
+
+pub ripe-by : (took : Bool) (n : ℕ) → took ≡ true → leb 31 n ≡ (took && leb 31 n)
+ripe-by took n q = rw q
+
+pub left-cleared : (b : Bool) (left : Left) → b ≡ true → record { 0 = 0 } ≡ leftWhen b left
+left-cleared b left q = rw q
+
+module _ (state : ℕ) (empty : Bool) where
+  pub reaches-0 : state ≡ 0 → true ≡ opens state empty
+  unfolding opens
+  reaches-0 q = rw (eq-eqb _ _ q)
+
+  pub reaches-3 : (state ≡ 0 → ⊥) → state ≡ 3 → empty ≡ opens state empty
+  unfolding opens
+  reaches-3 k q = rw (ne-eqb _ _ k, eq-eqb _ _ q)
+
+  pub reaches-not : (state ≡ 0 → ⊥) → (state ≡ 3 → ⊥) → false ≡ opens state empty
+  unfolding opens
+  reaches-not k l = rw (ne-eqb _ _ k, ne-eqb _ _ l)
+
+-- ---- the 31 bytes
+
+module _ (m : Marks) (io : List ℕ) where
+  cut : m .read + 31 - m .read ≡ 31
+  cut = omega arith
+
+  -- a part of 31 bytes
+  pub part-31 : Sound (buffer io m) → m .read + 31 ≤ m .write → length (take (m .read + 31 - m .read) (drop (m .read) io)) ≡ 31
+  part-31 g h = rw cut (length-part (m .read) 31 io (omega (arith, g .within)))
+
+  message-is : take (m .read + 31 - m .read) (drop (m .read) io) ≡ messageAt (buffer io m)
+  unfolding messageAt
+  message-is = rw cut
+
+  sound-behind : Sound (buffer io m) → m .read + 31 ≤ m .write → Sound (buffer io (behind m))
+  sound-behind g h = record { order = h; within = g .within }
+
+  module _ (left : Left) (cleared : Bool) (message : List ℕ) (g : Sound (buffer io m)) (h : m .read + 31 ≤ m .write)
+      {v : Bool} (hv : v ≡ isValid (take (m .read + 31 - m .read) (drop (m .read) io))) {out : Outcome} (ho : out ≡ plainly Done) where
+    valid-is : {b : Bool} → v ≡ b → isValid (messageAt (buffer io m)) ≡ b
+    valid-is q = ap isValid (sym message-is) ∙ sym hv ∙ q
+
+    pub parses-valid : v ≡ true → length message ≡ 31 → {w : Head} → w ≡ headOf (wrapperOf (take (m .read + 31 - m .read) (drop (m .read) io)))
+        → {message′ : List ℕ} → message′ ≡ overlay message 0 (take (m .read + 31 - m .read) (drop (m .read) io))
+        → Opens (parsedOpen (buffer io m) left cleared) io (parsedMessage (buffer io m) message)
+          (record { found = Valid; marks = behind m; left = record { 0 = w .length }; direction = w .direction; outcome = out; taken = 1; cleared = cleared }) io message′
+    unfolding parsedOpen parsedMessage
+    parses-valid q hl hw hm = record {
+      leaves = rw (valid-is q, tells Done ho, hw, message-is);
+      bytes = refl;
+      kept = rw (valid-is q) (hm ∙ overlay-whole message _ (part-31 g h ∙ sym hl) ∙ message-is);
+      sound = sound-behind g h;
+      once = omega arith;
+    }
+
+    pub parses-invalid : v ≡ false
+        → Opens (parsedOpen (buffer io m) left cleared) io (parsedMessage (buffer io m) message)
+          (record { found = Invalid; marks = behind m; left = left; direction = NotExpected; outcome = out; taken = 1; cleared = cleared }) io message
+    unfolding parsedOpen parsedMessage
+    parses-invalid q = record {
+      leaves = rw (valid-is q, tells Done ho);
+      bytes = refl;
+      kept = rw (valid-is q);
+      sound = sound-behind g h;
+      once = omega arith;
+    }
+
+-- ---- the packet before them
+
+count-most : (b : Bool) → countOf b ≤ 1
+count-most true = omega arith
+count-most false = omega arith
+
+module _ (p first : ℕ) (one : List ℕ) (left : Left) (cleared : Bool) (s : Buffer) (message : List ℕ)
+    {e : Endpoint} (he : e ≡ endpointOf first) {r : Received} {io : List ℕ} (y : Reads p e one s r io)
+    {v : Bool} (hv : v ≡ (r .taken && leb 31 (r .marks .write - r .marks .read))) where
+  x : Reads p (endpointOf first) one s r io
+  x = rw he at y
+
+  -- 31 bytes are unread where it is ripe
+  pub ripe-31 : v ≡ true → r .marks .read + 31 ≤ r .marks .write
+  ripe-31 q = omega (arith, leb-true 31 (r .marks .write - r .marks .read) (and-right (r .taken) (leb 31 (r .marks .write - r .marks .read)) (sym hv ∙ q)), x .leaves .sound .order)
+
+  ripe-is : {b : Bool} → v ≡ b → (takesOne p (endpointOf first) s && leb 31 (unread (received p (endpointOf first) one s))) ≡ b
+  ripe-is q = rw (← x .taken, ← x .leaves .same) (sym hv ∙ q)
+
+  pub reads-parse : v ≡ true → {w : Opened} {io′ message′ : List ℕ}
+      → Opens (parsedOpen (buffer io (r .marks)) left cleared) io (parsedMessage (buffer io (r .marks)) message) w io′ message′
+      → Opens (readOpen p (endpointOf first) one left cleared s) (readIo p (endpointOf first) one s) (readMessage p (endpointOf first) one s message) w io′ message′
+  unfolding readOpen readMessage openAfter messageAfter
+  reads-parse q z = record {
+    leaves = rw (ripe-is q, ← x .leaves .same) (z .leaves);
+    bytes = z .bytes ∙ ap (λ (t : Buffer). t .bytes) (x .leaves .same);
+    kept = rw (ripe-is q, ← x .leaves .same) (z .kept);
+    sound = z .sound;
+    once = z .once;
+  }
+
+  pub reads-nothing : v ≡ false → {k : ℕ} → k ≡ countOf (r .taken)
+      → Opens (readOpen p (endpointOf first) one left cleared s) (readIo p (endpointOf first) one s) (readMessage p (endpointOf first) one s message)
+        (record { found = Nothing; marks = r .marks; left = left; direction = NotExpected; outcome = r .outcome; taken = k; cleared = cleared }) io message
+  unfolding readOpen readMessage openAfter messageAfter
+  reads-nothing q hk = record {
+    leaves = rw (ripe-is q, ← x .leaves .same, x .outcome, hk, x .taken);
+    bytes = ap (λ (t : Buffer). t .bytes) (x .leaves .same);
+    kept = rw (ripe-is q);
+    sound = x .leaves .sound;
+    once = rw hk (count-most (r .taken));
+  }
+
+-- ---- whether the wrapper is reached
+
+module _ (n : Numbers) (io one : List ℕ) (e : Endpoint) (message : List ℕ) {k : ℕ} (hk : k ≡ stateNumber (n .state))
+    {v : Bool} (hv : v ≡ opens k (eqb (n .marks .write - n .marks .read) 0)) where
+  opening-is : {b : Bool} → v ≡ b → isOpening n ≡ b
+  unfolding isOpening
+  opening-is q = rw (← hk) (sym hv ∙ q)
+
+  pub opens-reads : v ≡ true → {l : Left} → l ≡ leftWhen (eqb k 3) (n .left) → {r : Opened} {io′ message′ : List ℕ}
+      → Opens (readOpen (n .packetsize) e one l (eqb k 3) (buffer io (n .marks))) (readIo (n .packetsize) e one (buffer io (n .marks))) (readMessage (n .packetsize) e one (buffer io (n .marks)) message) r io′ message′
+      → Opens (opened n io one e) (openedIo n io one e) (openedMessage n io one e message) r io′ message′
+  unfolding opened openedIo openedMessage
+  opens-reads q hl y = record {
+    leaves = rw (opening-is q, ← hk, ← hl) (y .leaves);
+    bytes = rw (opening-is q) (y .bytes);
+    kept = rw (opening-is q) (y .kept);
+    sound = y .sound;
+    once = y .once;
+  }
+
+  pub opens-not : v ≡ false → Whole n (length io) → {out : Outcome} → out ≡ plainly Done
+      → Opens (opened n io one e) (openedIo n io one e) (openedMessage n io one e message)
+        (record { found = Nothing; marks = n .marks; left = n .left; direction = NotExpected; outcome = out; taken = 0; cleared = false }) io message
+  unfolding opened openedIo openedMessage
+  opens-not q w ho = record {
+    leaves = rw (opening-is q, tells Done ho);
+    bytes = rw (opening-is q);
+    kept = rw (opening-is q);
+    sound = whole-sound n io w;
+    once = omega arith;
+  }
+
+pub ruleset ways = (ripe-by, left-cleared, reaches-0, reaches-3, reaches-not, part-31, parses-valid, parses-invalid, ripe-31, reads-parse, reads-nothing, opens-reads, opens-not, whole-sound)

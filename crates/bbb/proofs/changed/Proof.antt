@@ -1,0 +1,16 @@
+-- `bbb::changed` meets its contract. Assumes nothing.
+use borrow.Author.Needs.{needs}
+use Rattle.bbb.proofs.changed.Statement.{statement}
+use Rattle.bbb.proofs.changed.Tie as tie
+
+wrapper-then-requires : tie.Need-wrapper-then-requires
+wrapper-then-requires c κs = search needs
+
+status-then-requires : tie.Need-status-then-requires
+status-then-requires c κs = search needs
+
+returns : tie.Need-returns
+returns c = ?
+
+pub changed-spec : {M : Type 1} → statement M
+changed-spec = tie.close (tie.spec wrapper-then-requires status-then-requires returns)

@@ -1,0 +1,4 @@
+-- specs.Poll     a poll, state by state, as document 01 has it
+-- specs.Phases   how the code goes about it: open, decide, act. Only the contracts of inner functions cite it
+pub mod Poll
+pub mod Phases

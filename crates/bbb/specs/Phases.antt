@@ -1,0 +1,262 @@
+-- A poll as the code goes about it: open, decide, act. Only the contracts of inner functions cite these definitions; proofs/Same.antt shows
+-- that together they are document 01's rules. Assumes nothing: these are definitions.
+use mathlib.Core.Path.{_≡_}
+use mathlib.Core.Bool.{Bool, true, false, cond, _&&_}
+use mathlib.Core.List.{List}
+use Prim.Native.Nat.{ℕ, _+_, _-_, _≤_}
+use lib.Dec.{eqb, leb}
+use lib.ListN.{length}
+use Rattle.buffer.specs.declared.Marks.{Marks}
+use Rattle.buffer.specs.Buffer.{Buffer, Sound, buffer, at, unread}
+use Rattle.answers.specs.declared.Endpoint.{Endpoint}
+use Rattle.answers.specs.declared.Stalls.{Stalls}
+use Rattle.answers.specs.Answers.{Told, told, no, endpointOf, stallsOf}
+use Rattle.ring.specs.declared.State.{State}
+use Rattle.ring.specs.declared.Found.{Found}
+use Rattle.ring.specs.declared.Found.the-variants as found
+use Rattle.ring.specs.declared.Kind.{Kind}
+use Rattle.ring.specs.declared.Kind.the-variants as kind
+use Rattle.ring.specs.declared.Before.{Before}
+use Rattle.ring.specs.declared.Before.the-variants as before
+use Rattle.ring.specs.declared.Row.{Row}
+use Rattle.ring.specs.States.{stateNumber, rowOf}
+use Rattle.ring.specs.Ring.{settled}
+use Rattle.wrapper.specs.declared.DataDirection.{DataDirection}
+use Rattle.wrapper.specs.declared.DataDirection.the-variants.{NotExpected}
+use Rattle.wrapper.specs.declared.counters.Left.{Left}
+use Rattle.wrapper.specs.Counters.{fallen}
+use Rattle.wrapper.specs.Wrapper.{isValid, wrapperOf}
+use Rattle.packets.specs.Packets.{readTold, takesOne, brought, received, sendTold, sentCount, sentOff, sentInto, filledUp}
+use Rattle.device.specs.declared.Status.the-variants.{Absent}
+use Rattle.device.specs.declared.Device.{Device}
+use Rattle.device.specs.declared.Numbers.{Numbers}
+use Rattle.device.specs.Device.{isPresent}
+use Rattle.bbb.specs.declared.Turn.{Turn}
+use Rattle.bbb.specs.declared.Change.{Change}
+use Rattle.bbb.specs.declared.open.Opened.{Opened}
+use Rattle.bbb.specs.declared.act.Did.{Did}
+use Rattle.bbb.specs.Poll.{Given, messageAt, fallsShort, offers, offeredBy, statusPut}
+
+-- ---- open
+
+-- What opening leaves, with the answer by its number.
+pub record Open : Type 0 where
+  pub found : Found
+  pub marks : Marks
+  pub left : Left
+  pub direction : DataDirection
+  pub told : Told
+  pub taken : ℕ
+  pub cleared : Bool
+
+abbrev pub opening : Found → Marks → Left → DataDirection → Told → ℕ → Bool → Open
+opening f m l d t taken cleared = record { found = f; marks = m; left = l; direction = d; told = t; taken = taken; cleared = cleared }
+
+abbrev pub openOf : Opened → Open
+openOf o = opening (o .found) (o .marks) (o .left) (o .direction) (told (o .outcome)) (o .taken) (o .cleared)
+
+-- What a function that opens promises: x, the IO buffer's bytes, the lent 31 bytes; sound marks; at most one packet.
+pub record Opens (x : Open) (io message : List ℕ) (r : Opened) (io′ message′ : List ℕ) : Type 0 where
+  pub leaves : openOf r ≡ x
+  pub bytes : io′ ≡ io
+  pub kept : message′ ≡ message
+  pub sound : Sound (buffer io′ (r .marks))
+  pub once : r .taken ≤ 1
+
+abbrev pub behind : Marks → Marks
+behind m = at (m .read + 31) (m .write)
+
+unfoldable pub parsedOpen : Buffer → Left → Bool → Open
+parsedOpen s left cleared =
+    cond (isValid (messageAt s))
+    (opening found.Valid (behind (s .marks)) (record { 0 = wrapperOf (messageAt s) .length }) (wrapperOf (messageAt s) .direction) (no 0) 1 cleared)
+    (opening found.Invalid (behind (s .marks)) left NotExpected (no 0) 1 cleared)
+
+unfoldable pub parsedMessage : Buffer → List ℕ → List ℕ
+parsedMessage s message = cond (isValid (messageAt s)) (messageAt s) message
+
+abbrev pub countOf : Bool → ℕ
+countOf true = 1
+countOf false = 0
+
+unfoldable pub openAfter : Buffer → Bool → Told → Left → Bool → Open
+openAfter t took said left cleared = cond (took && leb 31 (unread t)) (parsedOpen t left cleared) (opening found.Nothing (t .marks) left NotExpected said (countOf took) cleared)
+
+unfoldable pub messageAfter : Buffer → Bool → List ℕ → List ℕ
+messageAfter t took message = cond (took && leb 31 (unread t)) (parsedMessage t message) message
+
+unfoldable pub readOpen : ℕ → Endpoint → List ℕ → Left → Bool → Buffer → Open
+readOpen p e one left cleared s = openAfter (received p e one s) (takesOne p e s) (readTold p e s) left cleared
+
+abbrev pub readIo : ℕ → Endpoint → List ℕ → Buffer → List ℕ
+readIo p e one s = received p e one s .bytes
+
+unfoldable pub readMessage : ℕ → Endpoint → List ℕ → Buffer → List ℕ → List ℕ
+readMessage p e one s message = messageAfter (received p e one s) (takesOne p e s) message
+
+-- in 0, and in 3 with nothing unread
+unfoldable pub opens : ℕ → Bool → Bool
+opens state empty = cond (eqb state 0) true (cond (eqb state 3) empty false)
+
+abbrev pub leftWhen : Bool → Left → Left
+leftWhen true left = record { 0 = 0 }
+leftWhen false left = left
+
+-- whether the chain that starts in this record reaches the wrapper
+unfoldable pub isOpening : Numbers → Bool
+isOpening n = opens (stateNumber (n .state)) (eqb (n .marks .write - n .marks .read) 0)
+
+abbrev pub clears : Numbers → Bool
+clears n = eqb (stateNumber (n .state)) 3
+
+unfoldable pub opened : Numbers → List ℕ → List ℕ → Endpoint → Open
+opened n io one e =
+    cond (isOpening n)
+    (readOpen (n .packetsize) e one (leftWhen (clears n) (n .left)) (clears n) (buffer io (n .marks)))
+    (opening found.Nothing (n .marks) (n .left) NotExpected (no 0) 0 false)
+
+unfoldable pub openedIo : Numbers → List ℕ → List ℕ → Endpoint → List ℕ
+openedIo n io one e = cond (isOpening n) (readIo (n .packetsize) e one (buffer io (n .marks))) io
+
+unfoldable pub openedMessage : Numbers → List ℕ → List ℕ → Endpoint → List ℕ → List ℕ
+openedMessage n io one e message = cond (isOpening n) (readMessage (n .packetsize) e one (buffer io (n .marks)) message) message
+
+-- ---- act
+
+-- What an act leaves, with the answer by its number, and the IO buffer's bytes.
+pub record Done : Type 0 where
+  pub marks : Marks
+  pub left : Left
+  pub sent : ℕ
+  pub told : Told
+  pub taken : ℕ
+  pub stalled : Bool
+  pub io : List ℕ
+
+abbrev pub done : Marks → Left → ℕ → Told → ℕ → Bool → List ℕ → Done
+done m l sent t taken stalled io = record { marks = m; left = l; sent = sent; told = t; taken = taken; stalled = stalled; io = io }
+
+abbrev pub doneOf : Did → List ℕ → Done
+doneOf r io = done (r .marks) (r .left) (r .sent) (told (r .outcome)) (r .taken) (r .stalled) io
+
+-- What a function that acts promises: x, and the packet buffer.
+pub record Acts (x : Done) (packet : List ℕ) (r : Did) (io′ packet′ : List ℕ) : Type 0 where
+  pub leaves : doneOf r io′ ≡ x
+  pub into : packet′ ≡ packet
+
+abbrev pub restDid : Opened → Bool → Did
+restDid o stalled = record { marks = o .marks; left = o .left; sent = 0; outcome = o .outcome; taken = o .taken; stalled = stalled }
+
+abbrev pub rested : Open → Bool → List ℕ → Done
+rested o stalled io = done (o .marks) (o .left) 0 (o .told) (o .taken) stalled io
+
+abbrev pub emptiedMarks : Before → Marks → Marks
+emptiedMarks before.Nothing m = m
+emptiedMarks before.Whole m = m
+emptiedMarks before.Fill m = m
+emptiedMarks before.Status m = m
+emptiedMarks before.Empty m = at 0 0
+
+abbrev pub oneMore : ℕ → Bool → ℕ
+oneMore taken true = taken + 1
+oneMore taken false = taken
+
+unfoldable pub tookFrom : ℕ → Endpoint → List ℕ → Buffer → Open → Done
+tookFrom p e packet s o = done (received p e packet s .marks) (fallen (o .left) (brought p e packet s)) 0 (readTold p e s) (oneMore (o .taken) (takesOne p e s)) false (received p e packet s .bytes)
+
+unfoldable pub took : Before → ℕ → Open → List ℕ → List ℕ → List ℕ → Turn → Done
+took b p o io one two turn = tookFrom p (offeredBy (o .taken) turn) (offers (o .taken) one two) (buffer io (emptiedMarks b (o .marks))) o
+
+abbrev pub refuses : Before → ℕ → Left → ℕ → Bool
+refuses before.Nothing p left n = false
+refuses before.Whole p left n = fallsShort p left n
+refuses before.Fill p left n = false
+refuses before.Status p left n = false
+refuses before.Empty p left n = false
+
+abbrev pub readied : Before → ℕ → Buffer → Left → Numbers → Buffer
+readied before.Nothing p s left n = s
+readied before.Whole p s left n = s
+readied before.Fill p s left n = filledUp p left s
+readied before.Status p s left n = statusPut (n .tag) (n .status) s
+readied before.Empty p s left n = s
+
+abbrev pub leftThen : Bool → Left → ℕ → Left
+leftThen true left moved = fallen left moved
+leftThen false left moved = left
+
+unfoldable pub sentFrom : Bool → ℕ → Endpoint → Buffer → Open → Done
+sentFrom counts p e s o = done (sentOff p e s .marks) (leftThen counts (o .left) (sentCount p e s)) (sentCount p e s) (sendTold e (unread s)) (o .taken) false (sentOff p e s .bytes)
+
+unfoldable pub sentBy : Before → Bool → Numbers → Open → List ℕ → Endpoint → Done
+sentBy b counts n o io e =
+    cond (refuses b (n .packetsize) (o .left) (o .marks .write - o .marks .read))
+    (done (o .marks) (o .left) 0 (no 4) (o .taken) false io)
+    (sentFrom counts (n .packetsize) e (readied b (n .packetsize) (buffer io (o .marks)) (o .left) n) o)
+
+unfoldable pub sentPacket : Before → Numbers → Open → List ℕ → Endpoint → List ℕ → List ℕ
+sentPacket b n o io e packet =
+    cond (refuses b (n .packetsize) (o .left) (o .marks .write - o .marks .read))
+    packet
+    (sentInto (n .packetsize) e (readied b (n .packetsize) (buffer io (o .marks)) (o .left) n) packet)
+
+abbrev pub byKind : {A : Type 0} → Kind → A → A → A → A → A
+byKind kind.Rest a b c d = a
+byKind kind.Stall a b c d = b
+byKind kind.Read a b c d = c
+byKind kind.Send a b c d = d
+
+unfoldable pub acted : Row → Numbers → Open → List ℕ → Given → Done
+acted row n o io g =
+    byKind (row .1)
+    (rested o false io)
+    (rested o true io)
+    (took (row .2) (n .packetsize) o io (g .one) (g .two) (g .turn))
+    (sentBy (row .2) (row .3) n o io (endpointOf (g .turn .write)))
+
+unfoldable pub actedPacket : Row → Numbers → Open → List ℕ → Given → List ℕ
+actedPacket row n o io g = byKind (row .1) (g .packet) (g .packet) (g .packet) (sentPacket (row .2) n o io (endpointOf (g .turn .write)) (g .packet))
+
+-- ---- what a poll changes
+
+abbrev pub isValidFound : Found → Bool
+isValidFound found.Nothing = false
+isValidFound found.Invalid = false
+isValidFound found.Valid = true
+
+pub record Ended : Type 0 where
+  pub state : State
+  pub marks : Marks
+  pub left : Left
+  pub cleared : Bool
+  pub parsed : Bool
+  pub told : Told
+  pub taken : ℕ
+  pub sent : ℕ
+  pub stalls : Stalls
+  pub io : List ℕ
+  pub packet : List ℕ
+
+abbrev pub endedOf : Change → List ℕ → List ℕ → Ended
+endedOf c io packet = record { state = c .state; marks = c .marks; left = c .left; cleared = c .cleared; parsed = c .parsed; told = told (c .report .outcome); taken = c .report .taken; sent = c .report .sent; stalls = c .report .stalls; io = io; packet = packet }
+
+abbrev pub endedBy : State → Open → Done → List ℕ → Ended
+endedBy s o x packet = record { state = s; marks = x .marks; left = x .left; cleared = o .cleared; parsed = isValidFound (o .found); told = x .told; taken = x .taken; sent = x .sent; stalls = stallsOf (o .cleared) (x .stalled); io = x .io; packet = packet }
+
+unfoldable pub endsWith : Row → Numbers → Open → List ℕ → Given → Ended
+endsWith row n o io g = endedBy (row .0) o (acted row n o io g) (actedPacket row n o io g)
+
+unfoldable pub goneOn : Numbers → Open → List ℕ → Given → Ended
+goneOn n o io g = endsWith (rowOf (settled (n .state) (n .left .0) (isPresent (n .status)) (eqb (n .marks .write - n .marks .read) 0) (o .found) (o .direction) (o .left .0))) n o io g
+
+unfoldable pub ran : Numbers → List ℕ → Given → Ended
+ran n io g = goneOn n (opened n io (g .one) (endpointOf (g .turn .first))) (openedIo n io (g .one) (endpointOf (g .turn .first))) g
+
+-- What the poll of a whole record promises: what changed, the buffers, and the lent 31 bytes.
+pub record Runs (n : Numbers) (io message : List ℕ) (g : Given) (r : Change) (io′ packet′ message′ : List ℕ) : Type 0 where
+  pub leaves : endedOf r io′ packet′ ≡ ran n io g
+  pub kept : message′ ≡ openedMessage n io (g .one) (endpointOf (g .turn .first)) message
+
+-- The record with what changed.
+abbrev pub changedBy : Device → Change → List ℕ → Device
+changedBy d c message = record { packetsize = d .packetsize; maxlun = d .maxlun; size = d .size; state = c .state; marks = c .marks; wrapper = cond (c .parsed) (wrapperOf message) (d .wrapper); status = cond (c .cleared) Absent (d .status); left = c .left }

@@ -1,0 +1,232 @@
+// The act to which a poll comes: the one place where packets cross the wire.
+use crate::Turn;
+use crate::open::Opened;
+use answers::Answer;
+use answers::Outcome;
+use answers::endpoint_of;
+use answers::plain;
+use buffer::Marks;
+use device::Numbers;
+use device::Status;
+use packets::Received;
+use packets::fill;
+use packets::read_packet;
+use packets::send_packet;
+use ring::Before;
+use ring::Kind;
+use ring::Row;
+use wrapper::counters::Left;
+use wrapper::counters::left_after;
+ghost use mathlib.Core.Path.{_≡_};
+ghost use Prim.Native.Nat.{_≤_};
+ghost use lib.ListN.{length};
+ghost use Rattle.buffer.specs.Buffer.{Sound, Leaves, buffer, at};
+ghost use Rattle.answers.specs.Answers.{endpointOf};
+ghost use Rattle.packets.specs.Packets.{Reads};
+ghost use Rattle.bbb.specs.Poll.{given, Fits, fallsShort, offers, offeredBy, statusPut};
+ghost use Rattle.bbb.specs.Phases.{openOf, doneOf, Acts, restDid, emptiedMarks, oneMore, took, refuses, readied, leftThen, sentBy, sentPacket, acted, actedPacket};
+
+// What an act did.
+pub struct Did {
+    pub marks: Marks,
+    pub left: Left,
+    pub sent: usize,
+    pub outcome: Outcome,
+    pub taken: u8,
+    pub stalled: bool,
+}
+
+// Nothing crosses the wire.
+fn rest(o: Opened, stalled: bool) -> Did
+    ensures { λ r. ⌜ r ≡ restDid o stalled ⌝ }
+{
+    let marks = o.marks;
+    let left = o.left;
+    let outcome = o.outcome;
+    Did {
+        marks: marks,
+        left: left,
+        sent: 0,
+        outcome: outcome,
+        taken: o.taken,
+        stalled: stalled,
+    }
+}
+
+// The first offered packet is read, or the second where the first was taken.
+fn read_offered(
+    taken: u8,
+    p: usize,
+    m: Marks,
+    io: &mut [u8],
+    one: &[u8],
+    two: &[u8],
+    turn: Turn,
+) -> Received
+    requires { ⌜ Sound (buffer (now io) m) × (length (now one) ≤ p) × (length (now two) ≤ p) ⌝ }
+    ensures { λ r. ⌜ Reads p (offeredBy taken turn) (offers taken (now (one .entry)) (now (two .entry))) (buffer (now (io .entry)) m) r (now (io .exit)) ⌝ }
+{
+    if taken == 0 {
+        return read_packet(io, m, p, endpoint_of(turn.first), one);
+    }
+    read_packet(io, m, p, endpoint_of(turn.second), two)
+}
+
+fn emptied(b: Before, m: Marks) -> Marks
+    ensures { λ r. ⌜ r ≡ emptiedMarks b m ⌝ }
+{
+    match b {
+        Before::Nothing => m,
+        Before::Whole => m,
+        Before::Fill => m,
+        Before::Status => m,
+        Before::Empty => buffer::marked::clean(),
+    }
+}
+
+fn one_more(taken: u8, more: bool) -> u8
+    requires { ⌜ taken ≤ 1 ⌝ }
+    ensures { λ r. ⌜ r ≡ oneMore taken more ⌝ }
+{
+    if more { taken + 1 } else { taken }
+}
+
+fn take(b: Before, p: usize, o: Opened, io: &mut [u8], one: &[u8], two: &[u8], turn: Turn) -> Did
+    requires { ⌜ Sound (buffer (now io) (o .marks)) × (o .taken ≤ 1) × (length (now one) ≤ p) × (length (now two) ≤ p) ⌝ }
+    ensures { λ r. ⌜ doneOf r (now (io .exit)) ≡ took b p (openOf o) (now (io .entry)) (now (one .entry)) (now (two .entry)) turn ⌝ }
+{
+    let marks = o.marks;
+    let left = o.left;
+    let m = emptied(b, marks);
+    let r = read_offered(o.taken, p, m, io, one, two, turn);
+    let after = r.marks;
+    let outcome = r.outcome;
+    let falls = left_after(left, r.count);
+    Did {
+        marks: after,
+        left: falls,
+        sent: 0,
+        outcome: outcome,
+        taken: one_more(o.taken, r.taken),
+        stalled: false,
+    }
+}
+
+// A whole packet is due where at least p bytes are left.
+fn falls_short(p: usize, left: Left, unread: usize) -> bool
+    ensures { λ r. ⌜ r ≡ fallsShort p left unread ⌝ }
+{
+    if p <= left.0 as usize {
+        return unread < p;
+    }
+    false
+}
+
+fn refused(b: Before, p: usize, left: Left, unread: usize) -> bool
+    ensures { λ r. ⌜ r ≡ refuses b p left unread ⌝ }
+{
+    match b {
+        Before::Nothing => false,
+        Before::Whole => falls_short(p, left, unread),
+        Before::Fill => false,
+        Before::Status => false,
+        Before::Empty => false,
+    }
+}
+
+fn put_status(io: &mut [u8], m: Marks, tag: u32, status: Status) -> Marks
+    requires { ⌜ Sound (buffer (now io) m) ⌝ }
+    ensures { λ r. ⌜ Leaves (buffer (now (io .exit)) r) (statusPut tag status (buffer (now (io .entry)) m)) ⌝ }
+{
+    match status {
+        Status::Absent => buffer::marked::clean(),
+        Status::Present(byte, residue) => packets::put_status(io, tag, residue, byte),
+    }
+}
+
+// What is ready to be sent.
+fn ready(b: Before, m: Marks, left: Left, n: Numbers, io: &mut [u8]) -> Marks
+    requires { ⌜ Sound (buffer (now io) m) ⌝ }
+    ensures { λ r. ⌜ Leaves (buffer (now (io .exit)) r) (readied b (n .packetsize) (buffer (now (io .entry)) m) left n) ⌝ }
+{
+    let status = n.status;
+    match b {
+        Before::Nothing => m,
+        Before::Whole => m,
+        Before::Fill => fill(io, m, n.packetsize, left),
+        Before::Status => put_status(io, m, n.tag, status),
+        Before::Empty => m,
+    }
+}
+
+fn left_then(counts: bool, left: Left, moved: usize) -> Left
+    ensures { λ r. ⌜ r ≡ leftThen counts left moved ⌝ }
+{
+    if counts {
+        return left_after(left, moved);
+    }
+    left
+}
+
+fn send(
+    b: Before,
+    counts: bool,
+    n: Numbers,
+    o: Opened,
+    io: &mut [u8],
+    packet: &mut [u8],
+    write: u8,
+) -> Did
+    requires { ⌜ Sound (buffer (now io) (o .marks)) × (n .packetsize ≤ length (now packet)) ⌝ }
+    ensures { λ r. ⌜ Acts (sentBy b counts n (openOf o) (now (io .entry)) (endpointOf write)) (sentPacket b n (openOf o) (now (io .entry)) (endpointOf write) (now (packet .entry))) r (now (io .exit)) (now (packet .exit)) ⌝ }
+{
+    let marks = o.marks;
+    let left = o.left;
+    if refused(b, n.packetsize, left, marks.write - marks.read) {
+        return Did {
+            marks: marks,
+            left: left,
+            sent: 0,
+            outcome: plain(Answer::FullPacketExpected),
+            taken: o.taken,
+            stalled: false,
+        };
+    }
+    let m = ready(b, marks, left, n, io);
+    let s = send_packet(io, m, n.packetsize, endpoint_of(write), packet);
+    let after = s.marks;
+    let outcome = s.outcome;
+    let falls = left_then(counts, left, s.count);
+    Did {
+        marks: after,
+        left: falls,
+        sent: s.count,
+        outcome: outcome,
+        taken: o.taken,
+        stalled: false,
+    }
+}
+
+// What the row of the table says.
+pub fn act(
+    row: Row,
+    n: Numbers,
+    o: Opened,
+    io: &mut [u8],
+    packet: &mut [u8],
+    one: &[u8],
+    two: &[u8],
+    turn: Turn,
+) -> Did
+    requires { ⌜ Sound (buffer (now io) (o .marks)) × (o .taken ≤ 1) × Fits (n .packetsize) (now packet) (now one) (now two) ⌝ }
+    ensures { λ r. ⌜ Acts (acted row n (openOf o) (now (io .entry)) (given (now (packet .entry)) (now (one .entry)) (now (two .entry)) turn)) (actedPacket row n (openOf o) (now (io .entry)) (given (now (packet .entry)) (now (one .entry)) (now (two .entry)) turn)) r (now (io .exit)) (now (packet .exit)) ⌝ }
+{
+    let kind = row.1;
+    let b = row.2;
+    match kind {
+        Kind::Rest => rest(o, false),
+        Kind::Stall => rest(o, true),
+        Kind::Read => take(b, n.packetsize, o, io, one, two, turn),
+        Kind::Send => send(b, row.3, n, o, io, packet, turn.write),
+    }
+}

@@ -1,0 +1,161 @@
+// Opening a poll: where the chain of handlers reaches the wrapper, a packet is read and 31 unread bytes are looked at.
+use answers::Answer;
+use answers::Outcome;
+use answers::endpoint_of;
+use answers::plain;
+use buffer::Marks;
+use device::Numbers;
+use packets::read_packet;
+use ring::Found;
+use ring::state_number;
+use wrapper::DataDirection;
+use wrapper::counters::Left;
+ghost use mathlib.Core.Path.{_≡_};
+ghost use mathlib.Core.Bool.{_&&_, cond};
+ghost use Prim.Native.Nat.{_+_, _≤_};
+ghost use lib.Dec.{leb};
+ghost use lib.ListN.{length};
+ghost use Rattle.buffer.specs.Buffer.{Sound, buffer};
+ghost use Rattle.device.specs.Broken.{Whole};
+ghost use Rattle.answers.specs.Answers.{endpointOf};
+ghost use Rattle.bbb.specs.Phases.{Opens, opens, countOf, parsedOpen, parsedMessage, readOpen, readIo, readMessage, opened, openedIo, openedMessage, leftWhen};
+
+// What opening found, and where the poll stands then. The direction counts where a valid wrapper was found.
+pub struct Opened {
+    pub found: Found,
+    pub marks: Marks,
+    pub left: Left,
+    pub direction: DataDirection,
+    pub outcome: Outcome,
+    pub taken: u8,
+    pub cleared: bool,
+}
+
+// 31 bytes or more are unread: the first 31 are a wrapper, valid or not, and count as read.
+fn parse(m: Marks, left: Left, cleared: bool, io: &[u8], message: &mut [u8]) -> Opened
+    requires { ⌜ Sound (buffer (now io) m) × (m .read + 31 ≤ m .write) × (length (now message) ≡ 31) ⌝ }
+    ensures { λ r. ⌜ Opens (parsedOpen (buffer (now (io .entry)) m) left cleared) (now (io .entry)) (parsedMessage (buffer (now (io .entry)) m) (now (message .entry))) r (now (io .entry)) (now (message .exit)) ⌝ }
+{
+    let from = m.read;
+    let end = from + 31;
+    let marks = Marks {
+        read: end,
+        write: m.write,
+    };
+    if wrapper::valid(&io[from..end]) {
+        let h = wrapper::head_of(&io[from..end]);
+        let direction = h.direction;
+        buffer::span::put(message, 0, &io[from..end]);
+        return Opened {
+            found: Found::Valid,
+            marks: marks,
+            left: Left(h.length),
+            direction: direction,
+            outcome: plain(Answer::Done),
+            taken: 1,
+            cleared: cleared,
+        };
+    }
+    Opened {
+        found: Found::Invalid,
+        marks: marks,
+        left: left,
+        direction: DataDirection::NotExpected,
+        outcome: plain(Answer::Done),
+        taken: 1,
+        cleared: cleared,
+    }
+}
+
+// Whether a packet came and 31 bytes are unread with it.
+fn ripe(taken: bool, unread: usize) -> bool
+    ensures { λ r. ⌜ r ≡ taken && leb 31 unread ⌝ }
+{
+    if taken {
+        return 31 <= unread;
+    }
+    false
+}
+
+fn count(taken: bool) -> u8
+    ensures { λ r. ⌜ r ≡ countOf taken ⌝ }
+{
+    if taken { 1 } else { 0 }
+}
+
+fn read_wrapper(
+    p: usize,
+    m: Marks,
+    left: Left,
+    cleared: bool,
+    io: &mut [u8],
+    message: &mut [u8],
+    one: &[u8],
+    first: u8,
+) -> Opened
+    requires { ⌜ Sound (buffer (now io) m) × (length (now one) ≤ p) × (length (now message) ≡ 31) ⌝ }
+    ensures { λ r. ⌜ Opens (readOpen p (endpointOf first) (now (one .entry)) left cleared (buffer (now (io .entry)) m)) (readIo p (endpointOf first) (now (one .entry)) (buffer (now (io .entry)) m)) (readMessage p (endpointOf first) (now (one .entry)) (buffer (now (io .entry)) m) (now (message .entry))) r (now (io .exit)) (now (message .exit)) ⌝ }
+{
+    let r = read_packet(io, m, p, endpoint_of(first), one);
+    let marks = r.marks;
+    let outcome = r.outcome;
+    if ripe(r.taken, marks.write - marks.read) {
+        return parse(marks, left, cleared, io, message);
+    }
+    Opened {
+        found: Found::Nothing,
+        marks: marks,
+        left: left,
+        direction: DataDirection::NotExpected,
+        outcome: outcome,
+        taken: count(r.taken),
+        cleared: cleared,
+    }
+}
+
+// Whether the chain that starts in this state reaches the wrapper: in 0, and in 3 with nothing unread.
+fn reaches(state: u8, empty: bool) -> bool
+    ensures { λ r. ⌜ r ≡ opens state empty ⌝ }
+{
+    if state == 0 {
+        return true;
+    }
+    if state == 3 {
+        return empty;
+    }
+    false
+}
+
+// Entering 0 clears left.
+fn left_when(cleared: bool, left: Left) -> Left
+    ensures { λ r. ⌜ r ≡ leftWhen cleared left ⌝ }
+{
+    if cleared {
+        return Left(0);
+    }
+    left
+}
+
+pub fn open(n: Numbers, message: &mut [u8], io: &mut [u8], one: &[u8], first: u8) -> Opened
+    requires { ⌜ Whole n (length (now io)) × (length (now one) ≤ n .packetsize) × (length (now message) ≡ 31) ⌝ }
+    ensures { λ r. ⌜ Opens (opened n (now (io .entry)) (now (one .entry)) (endpointOf first)) (openedIo n (now (io .entry)) (now (one .entry)) (endpointOf first)) (openedMessage n (now (io .entry)) (now (one .entry)) (endpointOf first) (now (message .entry))) r (now (io .exit)) (now (message .exit)) ⌝ }
+{
+    let state = n.state;
+    let marks = n.marks;
+    let left = n.left;
+    let s = state_number(state);
+    if reaches(s, marks.write - marks.read == 0) {
+        let cleared = s == 3;
+        let l = left_when(cleared, left);
+        return read_wrapper(n.packetsize, marks, l, cleared, io, message, one, first);
+    }
+    Opened {
+        found: Found::Nothing,
+        marks: marks,
+        left: left,
+        direction: DataDirection::NotExpected,
+        outcome: plain(Answer::Done),
+        taken: 0,
+        cleared: false,
+    }
+}

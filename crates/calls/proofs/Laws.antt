@@ -1,0 +1,282 @@
+-- Laws of the calls: what each way through a function owes (`ways`). Assumes nothing.
+use mathlib.Core.Path.{_≡_, refl, sym, ap, _∙_}
+use mathlib.Core.Bool.{Bool, true, false, not, cond}
+use mathlib.Core.List.{List, [], _∷_}
+use Prim.Native.Nat.{ℕ, _≤_, min, max, zero-le}
+use native.Mathlib.Nat.{min-le-left, min-le-right, max-eq-right}
+use native.Mathlib.Omega.{arith}
+use lib.Dec.{eqb, leb}
+use lib.ListN.{length, take, length-take}
+use lib.Seq.{length-take-le, take-take, take-length}
+use borrow.Author.Tests.{eq-eqb, ne-eqb, le-leb, lt-leb}
+use Rattle.fields.specs.Overlay.{overlay}
+use Rattle.fields.proofs.Bools.{not-true, not-false}
+use Rattle.buffer.specs.declared.Marks.{Marks}
+use Rattle.buffer.specs.Buffer.{Buffer, Sound, Leaves, buffer, fitting, written, lacksRoom, writtenAll, ready, given, readOff}
+use Rattle.answers.specs.declared.Answer.the-variants.{Done, IoBufferOverflow, InvalidState, BrokenRecord, EmptyBlock}
+use Rattle.wrapper.specs.declared.counters.Left.{Left}
+use Rattle.wrapper.specs.declared.counters.Residue.{Residue}
+use Rattle.wrapper.specs.declared.status.CommandStatus.{CommandStatus}
+use Rattle.wrapper.specs.declared.status.CommandStatus.the-variants.{Passed, Failed, PhaseError}
+use Rattle.wrapper.specs.declared.status.StatusByte.{StatusByte}
+use Rattle.wrapper.specs.declared.status.StatusByte.the-variants.{Known, Refused}
+use Rattle.wrapper.specs.Counters.{residueOf}
+use Rattle.wrapper.specs.Status as csw
+use Rattle.wrapper.proofs.Csw.{status-accepted, status-above}
+use Rattle.scsi.specs.declared.Decoded.{Decoded}
+use Rattle.scsi.specs.declared.Decoded.the-variants as scsi
+use Rattle.scsi.specs.declared.ScsiCommand.{ScsiCommand}
+use Rattle.scsi.specs.Decoding.{told, plainCall}
+use Rattle.ring.specs.States.{stateNumber}
+use Rattle.device.specs.declared.Device.{Device}
+use Rattle.device.specs.declared.Numbers.{Numbers}
+use Rattle.device.specs.declared.Status.the-variants.{Present}
+use Rattle.device.specs.Device.{numbersOf, isPresent, withStatus}
+use Rattle.device.specs.Broken.{Whole, isWhole}
+use Rattle.device.proofs.Wholly.{is-whole, whole-sound}
+use Rattle.calls.specs.declared.Figure.{Figure}
+use Rattle.calls.specs.declared.Stated.{Stated}
+use Rattle.calls.specs.declared.Moved.{Moved}
+use Rattle.calls.specs.declared.Request.{Request}
+use Rattle.calls.specs.declared.Reply.the-variants.{Nothing, MaxLun}
+use Rattle.calls.specs.declared.Handled.{Handled}
+use Rattle.calls.specs.declared.command.Shown.{Shown}
+use Rattle.calls.specs.declared.command.Step.{Step}
+use Rattle.calls.specs.Checks.{isBroken, unlessBroken, isIn, bufferOf}
+use Rattle.calls.specs.Status.{stating, statedOf, takesStatus, statusOf, withFigure, acceptedStatus, setStatusCall}
+use Rattle.calls.specs.Data.{Moving, movedOf, unmoved, movesTo, worksIn, leaving, readOut, limited, writeIn, writeAllIn}
+use Rattle.calls.specs.Bus.{handling, handledOf, keeps, enters0, entering, resetCall, served, controlCall}
+use Rattle.calls.specs.Command.{shownOf, showing, hides, isShown, commandCall, offered, steppedOf, stepping, offersNone, isOffered, offering, blockOf, stepCall}
+
+-- ---- the record
+
+pub judges : (d : Device) (len : ℕ) {n : Numbers} {b : Bool} → n ≡ numbersOf d → b ≡ isWhole n len → not b ≡ isBroken d len
+unfolding isBroken
+judges d len hn hb = ap not (hb ∙ ap (λ (x : Numbers). isWhole x len) hn)
+
+pub stands : (n : ℕ) (d : Device) {k : ℕ} → k ≡ stateNumber (d .state) → eqb k n ≡ isIn n d
+unfolding isIn
+stands n d h = ap (λ (x : ℕ). eqb x n) h
+
+-- what a record that is not broken gives
+module _ (d : Device) (len : ℕ) {b : Bool} (h : b ≡ isBroken d len) (q : b ≡ false) where
+  pub whole-then : Whole (numbersOf d) len
+  unfolding isBroken
+  whole-then = is-whole (numbersOf d) len (not-false (isWhole (numbersOf d) len) (sym h ∙ q))
+
+  pub block-fits : d .wrapper .blocklength ≤ 16
+  block-fits = whole-then .block
+
+module _ (d : Device) (io : List ℕ) {b : Bool} (h : b ≡ isBroken d (length io)) where
+  pub sound-then : b ≡ false → Sound (bufferOf d io)
+  sound-then q = whole-sound (numbersOf d) io (whole-then d (length io) h q)
+
+  stops : {A : Type 0} (refused done : A) → b ≡ true → refused ≡ unlessBroken d io refused done
+  unfolding unlessBroken
+  stops refused done q = rw (← h, q)
+
+  goes-on : {A : Type 0} (refused : A) {x done : A} → b ≡ false → x ≡ done → x ≡ unlessBroken d io refused done
+  unfolding unlessBroken
+  goes-on refused q e = rw (← h, q) e
+
+-- ---- the status
+
+module _ (s : ℕ) where
+  pub takes-in-2 : s ≡ 2 → true ≡ takesStatus s
+  unfolding takesStatus
+  takes-in-2 e = rw (eq-eqb _ _ e)
+
+  pub takes-in-4 : (s ≡ 2 → ⊥) → s ≡ 4 → true ≡ takesStatus s
+  unfolding takesStatus
+  takes-in-4 n e = rw (ne-eqb _ _ n, eq-eqb _ _ e)
+
+  pub takes-in-5 : (s ≡ 2 → ⊥) → (s ≡ 4 → ⊥) → s ≡ 5 → true ≡ takesStatus s
+  unfolding takesStatus
+  takes-in-5 n m e = rw (ne-eqb _ _ n, ne-eqb _ _ m, eq-eqb _ _ e)
+
+  pub takes-in-7 : (s ≡ 2 → ⊥) → (s ≡ 4 → ⊥) → (s ≡ 5 → ⊥) → eqb s 7 ≡ takesStatus s
+  unfolding takesStatus
+  takes-in-7 n m k = rw (ne-eqb _ _ n, ne-eqb _ _ m, ne-eqb _ _ k)
+
+status-again : (s : CommandStatus) → s ≡ statusOf (csw.statusNumber s)
+unfolding statusOf
+status-again Passed = refl
+status-again Failed = refl
+status-again PhaseError = refl
+
+module _ (d : Device) (f : Figure) {s : StatusByte} (h : csw.told s ≡ csw.statusCall (f .status)) where
+  pub figure-refused : s ≡ Refused → stating 12 d ≡ acceptedStatus d f
+  unfolding acceptedStatus
+  figure-refused e = rw (lt-leb _ _ (status-above (f .status) (sym (ap csw.told e) ∙ h)))
+
+  pub figure-taken : {c : CommandStatus} → s ≡ Known c → {r : Residue} → r ≡ residueOf (d .wrapper .length) (f .processed)
+      → {e : Device} → e ≡ withStatus (Present c r) d → stating 0 e ≡ acceptedStatus d f
+  unfolding acceptedStatus withFigure
+  figure-taken {c} k {r} hr he =
+      let known = status-accepted (f .status) c (sym (ap csw.told k) ∙ h) in
+      let same : c ≡ statusOf (f .status) = status-again c ∙ ap statusOf (known .1) in
+      rw (le-leb _ _ (known .0), he, hr, same)
+
+module _ (d : Device) (io : List ℕ) (f : Figure) {b : Bool} (h : b ≡ isBroken d (length io)) where
+  pub status-broken : b ≡ true → stating 10 d ≡ setStatusCall d io f
+  unfolding setStatusCall
+  status-broken q = stops d io h _ _ q
+
+  module _ (q : b ≡ false) {n : ℕ} (hn : n ≡ stateNumber (d .state)) {t : Bool} (ht : t ≡ takesStatus n) where
+    pub status-taken : t ≡ true → (r : Stated) → statedOf r ≡ acceptedStatus d f → statedOf r ≡ setStatusCall d io f
+    unfolding setStatusCall
+    status-taken p r e = goes-on d io h _ q (rw (← hn, ← ht, p) e)
+
+    pub status-elsewhere : t ≡ false → stating 12 d ≡ setStatusCall d io f
+    unfolding setStatusCall
+    status-elsewhere p = goes-on d io h _ q (rw (← hn, ← ht, p))
+
+-- ---- data
+
+module _ (state : ℕ) (d : Device) (io bytes : List ℕ) (done : Moving) {b : Bool} (h : b ≡ isBroken d (length io)) where
+  pub data-broken : b ≡ true → {r : Moved} → r ≡ unmoved d BrokenRecord → movedOf r bytes ≡ worksIn state d io bytes done
+  unfolding worksIn
+  data-broken q e = rw e (stops d io h _ _ q)
+
+  module _ (q : b ≡ false) {t : Bool} (ht : t ≡ isIn state d) where
+    pub data-elsewhere : t ≡ false → {r : Moved} → r ≡ unmoved d InvalidState → movedOf r bytes ≡ worksIn state d io bytes done
+    unfolding worksIn
+    data-elsewhere p e = rw e (goes-on d io h _ q (rw (← ht, p)))
+
+    pub data-done : t ≡ true → {x : Moving} → x ≡ done → x ≡ worksIn state d io bytes done
+    unfolding worksIn
+    data-done p e = goes-on d io h _ q (rw (← ht, p) e)
+
+pub reads : (d : Device) (s : Buffer) (dst : List ℕ) {n : ℕ} {m : Marks} {l : List ℕ} {r : Moved} → n ≡ ready (length dst) s → Leaves (buffer (s .bytes) m) (readOff (length dst) s)
+    → l ≡ overlay dst 0 (given (length dst) s) → r ≡ movesTo d m Done n → movedOf r l ≡ readOut d s dst
+unfolding readOut
+reads d s dst hn hm hl hr = rw (hr, hn, ap (λ (t : Buffer). t .marks) (hm .same), hl)
+
+-- the first n of a source, where n is the smaller of left and its length
+module _ (left : Left) (src : List ℕ) {n : ℕ} (h : n ≡ min (left .0) (length src)) where
+  pub length-cut : length (take n src) ≡ n
+  length-cut = length-take-le n src (omega (arith, min-le-right (left .0) (length src)))
+
+  cut : take n src ≡ limited left src
+  unfolding limited
+  cut =
+      let a : ℕ = left .0 in
+      ap (λ (k : ℕ). take k src) h
+      ∙ sym (take-take (min a (length src)) a src (min-le-left a (length src)))
+      ∙ ap (λ (k : ℕ). take k (take a src)) (sym (length-take a src))
+      ∙ take-length (take a src)
+
+-- what a write leaves
+left-by : (number count : ℕ) (d : Device) {io : List ℕ} {m : Marks} {t : Buffer} → Leaves (buffer io m) t → leaving number count d (buffer io m) ≡ leaving number count d t
+left-by number count d h = ap (leaving number count d) (h .same)
+
+pub writes : (d : Device) (s : Buffer) (src : List ℕ) {n k : ℕ} {m : Marks} {io : List ℕ} {r : Moved} → n ≡ min (d .left .0) (length src)
+    → k ≡ fitting (length (take n src)) s → Leaves (buffer io m) (written (take n src) s) → r ≡ movesTo d m Done k → movedOf r io ≡ writeIn d s (limited (d .left) src)
+unfolding writeIn
+writes d s src {n} {k} {m} {io} hn hk hm hr =
+    let e : take n src ≡ limited (d .left) src = cut (d .left) src hn in
+    rw (hr, hk, e) (left-by 0 (fitting (length (limited (d .left) src)) s) d (rw e at hm))
+
+flipped : (a x : Bool) → x ≡ not a → not x ≡ a
+flipped true x h = rw h
+flipped false x h = rw h
+
+-- all of the source or nothing: b is whether it was taken
+module _ (d : Device) (s : Buffer) (src : List ℕ) {b : Bool} (hb : b ≡ not (lacksRoom (max 0 (length src)) s)) where
+  lacks : {x : Bool} → b ≡ x → not x ≡ lacksRoom (length src) s
+  lacks {x} q = flipped (lacksRoom (length src) s) x (sym q ∙ rw (max-eq-right zero-le) at hb)
+
+  module _ {m : Marks} {io : List ℕ} (hm : Leaves (buffer io m) (writtenAll 0 src s)) {r : Moved} where
+    pub writes-all : b ≡ true → r ≡ movesTo d m Done (length src) → movedOf r io ≡ writeAllIn d s src
+    unfolding writeAllIn
+    writes-all q hr = rw (hr, ← lacks q) (left-by 0 (length src) d hm)
+
+    pub overflows : b ≡ false → r ≡ movesTo d m IoBufferOverflow 0 → movedOf r io ≡ writeAllIn d s src
+    unfolding writeAllIn
+    overflows q hr = rw (hr, ← lacks q) (left-by 1 0 d hm)
+
+-- ---- the bus
+
+module _ (d : Device) (io : List ℕ) {b : Bool} (h : b ≡ isBroken d (length io)) where
+  pub reset-broken : b ≡ true → {r : Handled} → r ≡ keeps d BrokenRecord Nothing → handledOf r ≡ resetCall d io
+  unfolding resetCall
+  reset-broken q e = rw e (stops d io h _ _ q)
+
+  pub resets : b ≡ false → {r : Handled} → r ≡ enters0 d → handledOf r ≡ resetCall d io
+  unfolding resetCall entering
+  resets q e = rw e (goes-on d io h _ q refl)
+
+  pub control-broken : (q : Request) → b ≡ true → {r : Handled} → r ≡ keeps d BrokenRecord Nothing → handledOf r ≡ controlCall d io q
+  unfolding controlCall
+  control-broken q p e = rw e (stops d io h _ _ p)
+
+  pub control-counts : (q : Request) → b ≡ false → q .requesttype ≡ 0xA1 → (r : Handled) → handledOf r ≡ served (q .request) d → handledOf r ≡ controlCall d io q
+  unfolding controlCall
+  control-counts q p a r e = goes-on d io h _ p (rw (eq-eqb _ _ a) e)
+
+  pub control-else : (q : Request) → b ≡ false → (q .requesttype ≡ 0xA1 → ⊥) → {r : Handled} → r ≡ keeps d Done Nothing → handledOf r ≡ controlCall d io q
+  unfolding controlCall
+  control-else q p a e = rw e (goes-on d io h _ p (rw (ne-eqb _ _ a)))
+
+module _ (q : ℕ) (d : Device) {r : Handled} where
+  pub serves-FF : q ≡ 0xFF → r ≡ enters0 d → handledOf r ≡ served q d
+  unfolding served entering
+  serves-FF a e = rw (e, eq-eqb _ _ a)
+
+  pub serves-FE : (q ≡ 0xFF → ⊥) → q ≡ 0xFE → r ≡ keeps d Done (MaxLun (d .maxlun)) → handledOf r ≡ served q d
+  unfolding served
+  serves-FE n a e = rw (e, ne-eqb _ _ n, eq-eqb _ _ a)
+
+  pub serves-else : (q ≡ 0xFF → ⊥) → (q ≡ 0xFE → ⊥) → r ≡ keeps d Done Nothing → handledOf r ≡ served q d
+  unfolding served
+  serves-else n m e = rw (e, ne-eqb _ _ n, ne-eqb _ _ m)
+
+-- ---- the command
+
+module _ (d : Device) (io : List ℕ) {b : Bool} (h : b ≡ isBroken d (length io)) where
+  pub command-broken : b ≡ true → {r : Shown} → r ≡ hides BrokenRecord → shownOf r ≡ commandCall d io
+  unfolding commandCall
+  command-broken q e = rw e (stops d io h _ _ q)
+
+  module _ (q : b ≡ false) {t : Bool} (ht : t ≡ isIn 0 d) where
+    pub command-hidden : t ≡ true → {r : Shown} → r ≡ hides Done → shownOf r ≡ commandCall d io
+    unfolding commandCall isShown
+    command-hidden p e = rw e (goes-on d io h _ q (rw (← ht, p)))
+
+    pub command-shown : t ≡ false → showing (d .wrapper) ≡ commandCall d io
+    unfolding commandCall isShown
+    command-shown p = goes-on d io h _ q (rw (← ht, p))
+
+  pub step-broken : b ≡ true → {r : Step} → r ≡ offersNone BrokenRecord → steppedOf r ≡ stepCall d io
+  unfolding stepCall
+  step-broken q e = rw e (stops d io h _ _ q)
+
+  module _ (q : b ≡ false) {t : Bool} (ht : t ≡ isOffered d) where
+    pub step-offers : t ≡ true → (r : Step) → steppedOf r ≡ offering (d .wrapper .lun) (plainCall (take (d .wrapper .blocklength) (d .wrapper .block)))
+        → steppedOf r ≡ stepCall d io
+    unfolding stepCall blockOf
+    step-offers p r hr = goes-on d io h _ q (rw (← ht, p) hr)
+
+    pub step-offers-not : t ≡ false → {r : Step} → r ≡ offersNone Done → steppedOf r ≡ stepCall d io
+    unfolding stepCall
+    step-offers-not p e = rw e (goes-on d io h _ q (rw (← ht, p)))
+
+module _ (d : Device) {t : Bool} (ht : t ≡ isIn 0 d) where
+  pub offers-not : t ≡ true → false ≡ isOffered d
+  unfolding isOffered isShown
+  offers-not p = rw (← ht, p)
+
+  pub offers-by : t ≡ false → {b : Bool} → b ≡ isPresent (d .status) → not b ≡ isOffered d
+  unfolding isOffered isShown
+  offers-by p e = rw (← ht, p, e)
+
+module _ (lun : ℕ) (block : List ℕ) {c : Decoded} (h : told c ≡ plainCall block) where
+  pub decodes-none : c ≡ scsi.Empty → {r : Step} → r ≡ offersNone EmptyBlock → steppedOf r ≡ offering lun (plainCall block)
+  unfolding offering
+  decodes-none k e = rw (← h, k, e)
+
+  pub decodes : {x : ScsiCommand} → c ≡ scsi.Command x → stepping 0 (offered lun x ∷ []) ≡ offering lun (plainCall block)
+  unfolding offering
+  decodes k = rw (← h, k)
+
+pub ruleset ways = (judges, stands, block-fits, sound-then, takes-in-2, takes-in-4, takes-in-5, takes-in-7, figure-refused, figure-taken, status-broken, status-taken, status-elsewhere, data-broken, data-elsewhere, data-done, reads, writes, writes-all, overflows, reset-broken, resets, control-broken, control-counts, control-else, serves-FF, serves-FE, serves-else, command-broken, command-hidden, command-shown, step-broken, step-offers, step-offers-not, offers-not, offers-by, decodes-none, decodes)

@@ -1,0 +1,165 @@
+-- No second answer satisfies a promise: what the `ensures` of a public call says is true of one answer alone, and of one content of
+-- the slice that it may write to. `Post` is the contract itself, as the check reads it. Assumes nothing.
+use mathlib.Core.Path.{_≡_, refl, sym, ap, _∙_}
+use mathlib.Core.Bool.{Bool, cond}
+use mathlib.Core.List.{List, [], _∷_}
+use Prim.Native.Nat.{ℕ}
+use lib.Dec.{eqb}
+use denote.Ref.{now}
+use Rattle.fields.proofs.Only.{Only}
+use Rattle.answers.specs.declared.Answer.{Answer}
+use Rattle.answers.specs.declared.Answer.the-variants.{Done, IoBufferOverflow, InvalidMaxLun, InvalidState, FullPacketExpected, BufferTooSmall, WouldBlock, EndpointError, PacketSizeRefused, BufferTooLarge, BrokenRecord, PacketRefused, StatusRefused, EmptyBlock}
+use Rattle.answers.specs.Answers.{number}
+use Rattle.calls.specs.declared.Stated.{Stated}
+use Rattle.calls.specs.declared.Moved.{Moved}
+use Rattle.calls.specs.declared.Reply.{Reply}
+use Rattle.calls.specs.declared.Reply.the-variants as reply
+use Rattle.calls.specs.declared.Handled.{Handled}
+use Rattle.calls.specs.declared.command.Shown.{Shown}
+use Rattle.calls.specs.declared.command.Offer.{Offer}
+use Rattle.calls.specs.declared.command.Offer.the-variants as offer
+use Rattle.calls.specs.declared.command.Step.{Step}
+use Rattle.calls.specs.Status.{Stating, statedOf}
+use Rattle.calls.specs.Data.{Moving, movedOf}
+use Rattle.calls.specs.Bus.{Handling, replied, handledOf}
+use Rattle.calls.specs.Command.{Showing, shownOf, Offered, offers, Stepping, steppedOf}
+use Rattle.calls.proofs.set_status.Kinds as set-status-kinds
+use Rattle.calls.proofs.set_status.Reads as set-status
+use Rattle.calls.proofs.read_data.Kinds as read-data-kinds
+use Rattle.calls.proofs.read_data.Reads as read-data
+use Rattle.calls.proofs.write_data.Kinds as write-data-kinds
+use Rattle.calls.proofs.write_data.Reads as write-data
+use Rattle.calls.proofs.try_write_data_all.Kinds as try-write-data-all-kinds
+use Rattle.calls.proofs.try_write_data_all.Reads as try-write-data-all
+use Rattle.calls.proofs.reset.Kinds as reset-kinds
+use Rattle.calls.proofs.reset.Reads as reset
+use Rattle.calls.proofs.control.Kinds as control-kinds
+use Rattle.calls.proofs.control.Reads as control
+use Rattle.calls.proofs.command.command.Kinds as command-kinds
+use Rattle.calls.proofs.command.command.Reads as command
+use Rattle.calls.proofs.command.command_step.Kinds as command-step-kinds
+use Rattle.calls.proofs.command.command_step.Reads as command-step
+
+-- ---- what is told of an answer tells the answer
+
+-- `untold` takes back what `told` did
+once : {A B : Type 0} (told : A → B) (untold : B → A) → ((x : A) → untold (told x) ≡ x) → (x y : A) {o : B} → told x ≡ o → told y ≡ o → x ≡ y
+once told untold back x y p q = sym (back x) ∙ ap untold (p ∙ sym q) ∙ back y
+
+-- document 01's number names the answer
+named : ℕ → Answer
+named n =
+    cond (eqb n 0) Done
+    (cond (eqb n 1) IoBufferOverflow
+    (cond (eqb n 2) InvalidMaxLun
+    (cond (eqb n 3) InvalidState
+    (cond (eqb n 4) FullPacketExpected
+    (cond (eqb n 5) BufferTooSmall
+    (cond (eqb n 6) WouldBlock
+    (cond (eqb n 7) EndpointError
+    (cond (eqb n 8) PacketSizeRefused
+    (cond (eqb n 9) BufferTooLarge
+    (cond (eqb n 10) BrokenRecord
+    (cond (eqb n 11) PacketRefused
+    (cond (eqb n 12) StatusRefused EmptyBlock))))))))))))
+
+named-number : (a : Answer) → named (number a) ≡ a
+unfolding named
+named-number Done = refl
+named-number IoBufferOverflow = refl
+named-number InvalidMaxLun = refl
+named-number InvalidState = refl
+named-number FullPacketExpected = refl
+named-number BufferTooSmall = refl
+named-number WouldBlock = refl
+named-number EndpointError = refl
+named-number PacketSizeRefused = refl
+named-number BufferTooLarge = refl
+named-number BrokenRecord = refl
+named-number PacketRefused = refl
+named-number StatusRefused = refl
+named-number EmptyBlock = refl
+
+-- a status
+abbrev stated : Stating → Answer → Stated
+stated o a = record { device = o .device; answer = a }
+
+stated-back : (x : Stated) → stated (statedOf x) (named (statedOf x .number)) ≡ x
+stated-back x = ap (stated (statedOf x)) (named-number (x .answer))
+
+-- data, with the bytes
+abbrev moved : Moving → Answer → Moved
+moved o a = record { device = o .device; report = record { answer = a; count = o .count } }
+
+moved-once : (x y : Moved) (b c : List ℕ) {o : Moving} → movedOf x b ≡ o → movedOf y c ≡ o → (x ≡ y) × (b ≡ c)
+moved-once x y b c p q =
+    let back : (z : Moved) (l : List ℕ) → moved (movedOf z l) (named (movedOf z l .number)) ≡ z = λ z l. ap (moved (movedOf z l)) (named-number (z .report .answer)) in
+    (sym (back x b) ∙ ap (λ (o : Moving). moved o (named (o .number))) (p ∙ sym q) ∙ back y c, ap (λ (o : Moving). o .bytes) (p ∙ sym q))
+
+-- a bus event: the bytes tell the reply
+unreplied : List ℕ → Reply
+unreplied [] = reply.Nothing
+unreplied (n ∷ ns) = reply.MaxLun n
+
+replied-back : (r : Reply) → unreplied (replied r) ≡ r
+unfolding unreplied
+replied-back reply.Nothing = refl
+replied-back (reply.MaxLun n) = refl
+
+abbrev handled : Handling → Answer → Reply → Handled
+handled o a r = record { device = o .device; report = record { answer = a; stalls = o .stalls; reply = r } }
+
+handled-back : (x : Handled) → handled (handledOf x) (named (handledOf x .number)) (unreplied (handledOf x .bytes)) ≡ x
+handled-back x =
+    let o : Handling = handledOf x in
+    ap (λ (a : Answer). handled o a (unreplied (o .bytes))) (named-number (x .report .answer)) ∙ ap (handled o (x .report .answer)) (replied-back (x .report .reply))
+
+-- a command shown
+abbrev shown : Showing → Answer → Shown
+shown o a = record { answer = a; shown = o .shown; lun = o .lun; blocklength = o .blocklength; block = o .block }
+
+shown-back : (x : Shown) → shown (shownOf x) (named (shownOf x .number)) ≡ x
+shown-back x = ap (shown (shownOf x)) (named-number (x .answer))
+
+-- a step: what is offered tells the offer
+unoffered : List Offered → Offer
+unoffered [] = offer.Nothing
+unoffered (o ∷ os) = offer.Command (o .lun) (o .command)
+
+offered-back : (x : Offer) → unoffered (offers x) ≡ x
+unfolding unoffered
+offered-back offer.Nothing = refl
+offered-back (offer.Command lun c) = refl
+
+abbrev stepped : Answer → Offer → Step
+stepped a o = record { answer = a; offer = o }
+
+stepped-back : (x : Step) → stepped (named (steppedOf x .number)) (unoffered (steppedOf x .offers)) ≡ x
+stepped-back x =
+    ap (λ (a : Answer). stepped a (unoffered (steppedOf x .offers))) (named-number (x .answer)) ∙ ap (stepped (x .answer)) (offered-back (x .offer))
+
+-- ---- the calls
+
+pub set-status-only : Only 1 set-status-kinds.ps set-status-kinds.r set-status.Post (λ κs s. tt {0})
+set-status-only κs a x y s t p q = (once statedOf (λ o. stated o (named (o .number))) stated-back x y p q, refl)
+
+pub read-data-only : Only 2 read-data-kinds.ps read-data-kinds.r read-data.Post (λ κs s. now (s .1 .1 .0))
+read-data-only κs a x y s t p q = moved-once x y _ _ p q
+
+pub write-data-only : Only 2 write-data-kinds.ps write-data-kinds.r write-data.Post (λ κs s. now (s .1 .0))
+write-data-only κs a x y s t p q = moved-once x y _ _ p q
+
+pub try-write-data-all-only : Only 2 try-write-data-all-kinds.ps try-write-data-all-kinds.r try-write-data-all.Post (λ κs s. now (s .1 .0))
+try-write-data-all-only κs a x y s t p q = moved-once x y _ _ p q
+
+pub reset-only : Only 1 reset-kinds.ps reset-kinds.r reset.Post (λ κs s. tt {0})
+reset-only κs a x y s t p q = (once handledOf (λ o. handled o (named (o .number)) (unreplied (o .bytes))) handled-back x y p q, refl)
+
+pub control-only : Only 1 control-kinds.ps control-kinds.r control.Post (λ κs s. tt {0})
+control-only κs a x y s t p q = (once handledOf (λ o. handled o (named (o .number)) (unreplied (o .bytes))) handled-back x y p q, refl)
+
+pub command-only : Only 1 command-kinds.ps command-kinds.r command.Post (λ κs s. tt {0})
+command-only κs a x y s t p q = (once shownOf (λ o. shown o (named (o .number))) shown-back x y p q, refl)
+
+pub command-step-only : Only 1 command-step-kinds.ps command-step-kinds.r command-step.Post (λ κs s. tt {0})
+command-step-only κs a x y s t p q = (once steppedOf (λ o. stepped (named (o .number)) (unoffered (o .offers))) stepped-back x y p q, refl)

@@ -1,0 +1,62 @@
+-- Document 01 on reset and on control requests. Assumes nothing: these are definitions.
+use Prim.Native.Nat.{ℕ}
+use mathlib.Core.Bool.{cond}
+use mathlib.Core.List.{List, [], _∷_}
+use lib.Dec.{eqb}
+use Rattle.answers.specs.declared.Answer.{Answer}
+use Rattle.answers.specs.declared.Answer.the-variants.{Done}
+use Rattle.answers.specs.declared.Stalls.{Stalls}
+use Rattle.answers.specs.declared.Stalls.the-variants.{Kept, Unstalled}
+use Rattle.answers.specs.Answers.{number}
+use Rattle.device.specs.declared.Device.{Device}
+use Rattle.device.specs.Device.{entering0}
+use Rattle.calls.specs.declared.Reply.{Reply}
+use Rattle.calls.specs.declared.Reply.the-variants.{Nothing, MaxLun}
+use Rattle.calls.specs.declared.Request.{Request}
+use Rattle.calls.specs.declared.Handled.{Handled}
+use Rattle.calls.specs.Checks.{unlessBroken}
+
+-- the bytes that go back to the host
+abbrev pub replied : Reply → List ℕ
+replied Nothing = []
+replied (MaxLun n) = n ∷ []
+
+-- 01's number, what is asked of both endpoints, the bytes that go back, and the record
+pub record Handling : Type 0 where
+  pub number : ℕ
+  pub stalls : Stalls
+  pub bytes : List ℕ
+  pub device : Device
+
+abbrev pub handling : ℕ → Stalls → List ℕ → Device → Handling
+handling number stalls bytes d = record { number = number; stalls = stalls; bytes = bytes; device = d }
+
+abbrev pub handledOf : Handled → Handling
+handledOf r = handling (number (r .report .answer)) (r .report .stalls) (replied (r .report .reply)) (r .device)
+
+-- what a call returns that changes nothing, and one that enters 0
+abbrev pub keeps : Device → Answer → Reply → Handled
+keeps d answer reply = record { device = d; report = record { answer = answer; stalls = Kept; reply = reply } }
+
+abbrev pub enters0 : Device → Handled
+enters0 d = record { device = entering0 d; report = record { answer = Done; stalls = Unstalled; reply = Nothing } }
+
+-- "Entering 0 clears status and left and unstalls both"
+unfoldable pub entering : Device → Handling
+entering d = handling 0 Unstalled [] (entering0 d)
+
+-- "Reset enters 0."
+unfoldable pub resetCall : Device → List ℕ → Handling
+resetCall d io = unlessBroken d io (handling 10 Kept [] d) (entering d)
+
+-- "0xFF enters 0, 0xFE answers max LUN"
+unfoldable pub served : ℕ → Device → Handling
+served request d =
+    cond (eqb request 0xFF) (entering d)
+    (cond (eqb request 0xFE) (handling 0 Kept (d .maxlun ∷ []) d) (handling 0 Kept [] d))
+
+-- "A control request counts only if device to host, class and interface (bmRequestType A1)"
+unfoldable pub controlCall : Device → List ℕ → Request → Handling
+controlCall d io q =
+    unlessBroken d io (handling 10 Kept [] d)
+    (cond (eqb (q .requesttype) 0xA1) (served (q .request) d) (handling 0 Kept [] d))

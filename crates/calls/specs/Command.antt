@@ -1,0 +1,93 @@
+-- Document 01 on the command: how it is shown, and the command step. Assumes nothing: these are definitions.
+use Prim.Native.Nat.{ℕ}
+use mathlib.Core.Bool.{Bool, true, false, cond, not, _&&_}
+use mathlib.Core.List.{List, [], _∷_, map}
+use lib.ListN.{take, replicate}
+use Rattle.answers.specs.declared.Answer.{Answer}
+use Rattle.answers.specs.Answers.{number}
+use Rattle.scsi.specs.declared.ScsiCommand.{ScsiCommand}
+use Rattle.scsi.specs.Decoding.{Outcome, plainCall}
+use Rattle.wrapper.specs.declared.Wrapper.{Wrapper}
+use Rattle.device.specs.declared.Device.{Device}
+use Rattle.device.specs.Device.{isPresent}
+use Rattle.calls.specs.declared.command.Shown.{Shown}
+use Rattle.calls.specs.declared.command.Offer.{Offer}
+use Rattle.calls.specs.declared.command.Offer.the-variants.{Nothing, Command}
+use Rattle.calls.specs.declared.command.Step.{Step}
+use Rattle.calls.specs.Checks.{unlessBroken, isIn}
+
+-- ---- the command shown
+
+-- 01's number, whether a command is shown, its LUN, and its block: all 16 bytes that the record keeps, and how many of them count
+pub record Showing : Type 0 where
+  pub number : ℕ
+  pub shown : Bool
+  pub lun : ℕ
+  pub blocklength : ℕ
+  pub block : List ℕ
+
+abbrev pub shownOf : Shown → Showing
+shownOf r = record { number = number (r .answer); shown = r .shown; lun = r .lun; blocklength = r .blocklength; block = r .block }
+
+abbrev pub showing : Wrapper → Showing
+showing w = record { number = 0; shown = true; lun = w .lun; blocklength = w .blocklength; block = w .block }
+
+-- nothing is shown, with this number: everything else is 0
+abbrev pub hiding : ℕ → Showing
+hiding number = record { number = number; shown = false; lun = 0; blocklength = 0; block = replicate 16 0 }
+
+abbrev pub hides : Answer → Shown
+hides answer = record { answer = answer; shown = false; lun = 0; blocklength = 0; block = replicate 16 0 }
+
+-- "A command is shown in every state but 0"
+unfoldable pub isShown : Device → Bool
+isShown d = not (isIn 0 d)
+
+unfoldable pub commandCall : Device → List ℕ → Showing
+commandCall d io = unlessBroken d io (hiding 10) (cond (isShown d) (showing (d .wrapper)) (hiding 0))
+
+-- ---- the command step
+
+-- a command that is offered, with its LUN
+pub record Offered : Type 0 where
+  pub lun : ℕ
+  pub command : ScsiCommand
+
+abbrev pub offered : ℕ → ScsiCommand → Offered
+offered lun c = record { lun = lun; command = c }
+
+abbrev pub offers : Offer → List Offered
+offers Nothing = []
+offers (Command lun c) = offered lun c ∷ []
+
+-- 01's number, and what is offered
+pub record Stepping : Type 0 where
+  pub number : ℕ
+  pub offers : List Offered
+
+abbrev pub stepping : ℕ → List Offered → Stepping
+stepping number os = record { number = number; offers = os }
+
+abbrev pub steppedOf : Step → Stepping
+steppedOf r = stepping (number (r .answer)) (offers (r .offer))
+
+abbrev pub offersNone : Answer → Step
+offersNone answer = record { answer = answer; offer = Nothing }
+
+-- "the command step offers it when no status is present"
+unfoldable pub isOffered : Device → Bool
+isOffered d = isShown d && not (isPresent (d .status))
+
+-- the decoded command of a LUN; 13: "decoding an empty block"
+unfoldable pub offering : ℕ → Outcome → Stepping
+offering lun o = stepping (o .number) (map (offered lun) (o .commands))
+
+-- the command block: as many bytes as its length says
+unfoldable pub blockOf : Wrapper → List ℕ
+blockOf w = take (w .blocklength) (w .block)
+
+-- "nothing offered gives 0"
+unfoldable pub stepCall : Device → List ℕ → Stepping
+stepCall d io =
+    unlessBroken d io (stepping 10 [])
+    (cond (isOffered d) (offering (d .wrapper .lun) (plainCall (blockOf (d .wrapper)))) (stepping 0 []))

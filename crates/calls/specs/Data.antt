@@ -1,0 +1,71 @@
+-- Document 01 on `read_data`, `write_data` and `try_write_data_all`. Assumes nothing: these are definitions.
+use Prim.Native.Nat.{ℕ}
+use mathlib.Core.Bool.{cond}
+use mathlib.Core.List.{List}
+use lib.ListN.{length, take}
+use Rattle.fields.specs.Overlay.{overlay}
+use Rattle.buffer.specs.declared.Marks.{Marks}
+use Rattle.buffer.specs.Buffer.{Buffer, fitting, written, lacksRoom, writtenAll, ready, given, readOff}
+use Rattle.answers.specs.declared.Answer.{Answer}
+use Rattle.answers.specs.Answers.{number}
+use Rattle.wrapper.specs.declared.counters.Left.{Left}
+use Rattle.device.specs.declared.Device.{Device}
+use Rattle.device.specs.Device.{withMarks}
+use Rattle.calls.specs.declared.Moved.{Moved}
+use Rattle.calls.specs.Checks.{unlessBroken, isIn, bufferOf}
+
+-- 01's number, the count of bytes read or written, the record, and the bytes of what the call may write to: the destination of a
+-- read, the IO buffer of a write
+pub record Moving : Type 0 where
+  pub number : ℕ
+  pub count : ℕ
+  pub device : Device
+  pub bytes : List ℕ
+
+abbrev pub moving : ℕ → ℕ → Device → List ℕ → Moving
+moving number count d bytes = record { number = number; count = count; device = d; bytes = bytes }
+
+abbrev pub movedOf : Moved → List ℕ → Moving
+movedOf r bytes = moving (number (r .report .answer)) (r .report .count) (r .device) bytes
+
+-- what a call returns that moved nothing, and one that left these marks
+abbrev pub unmoved : Device → Answer → Moved
+unmoved d answer = record { device = d; report = record { answer = answer; count = 0 } }
+
+abbrev pub movesTo : Device → Marks → Answer → ℕ → Moved
+movesTo d m answer count = record { device = withMarks m d; report = record { answer = answer; count = count } }
+
+-- 3: "read or write call in another state", and "all as before"
+unfoldable pub worksIn : ℕ → Device → List ℕ → List ℕ → Moving → Moving
+worksIn state d io bytes done =
+    unlessBroken d io (moving 10 0 d bytes)
+    (cond (isIn state d) done (moving 3 0 d bytes))
+
+-- a write leaves a buffer: its marks in the record, its bytes in the IO buffer
+abbrev pub leaving : ℕ → ℕ → Device → Buffer → Moving
+leaving number count d t = moving number count (withMarks (t .marks) d) (t .bytes)
+
+-- "`read_data` works in 7"
+unfoldable pub readOut : Device → Buffer → List ℕ → Moving
+readOut d s dst = moving 0 (ready (length dst) s) (withMarks (readOff (length dst) s .marks) d) (overlay dst 0 (given (length dst) s))
+
+abbrev pub readCall : Device → List ℕ → List ℕ → Moving
+readCall d io dst = worksIn 7 d io dst (readOut d (bufferOf d io) dst)
+
+-- "`write_data` in 4, at most `left` bytes a call"
+unfoldable pub limited : Left → List ℕ → List ℕ
+limited left src = take (left .0) src
+
+unfoldable pub writeIn : Device → Buffer → List ℕ → Moving
+writeIn d s ys = leaving 0 (fitting (length ys) s) d (written ys s)
+
+abbrev pub writeCall : Device → List ℕ → List ℕ → Moving
+writeCall d io src = worksIn 4 d io io (writeIn d (bufferOf d io) (limited (d .left) src))
+
+-- 1: "room, after moving, is below .. the source (`try_write_data_all`)"; "state and move reached stay"
+unfoldable pub writeAllIn : Device → Buffer → List ℕ → Moving
+writeAllIn d s src = cond (lacksRoom (length src) s) (leaving 1 0 d (writtenAll 0 src s)) (leaving 0 (length src) d (writtenAll 0 src s))
+
+-- "`try_write_data_all` in 4, not limited by `left`"
+abbrev pub writeAllCall : Device → List ℕ → List ℕ → Moving
+writeAllCall d io src = worksIn 4 d io io (writeAllIn d (bufferOf d io) src)

@@ -1,0 +1,11 @@
+-- What a reader of the calls between polls must believe, in document 01's words.
+--     Checks     10 comes first; the state that a call works in
+--     Status     `set_status`
+--     Data       `read_data`, `write_data` and `try_write_data_all`
+--     Bus        reset and control requests
+--     Command    the command shown, and the command step
+pub mod Checks
+pub mod Status
+pub mod Data
+pub mod Bus
+pub mod Command

@@ -1,0 +1,49 @@
+-- Document 01 on `set_status`. Assumes nothing: these are definitions.
+use Prim.Native.Nat.{ℕ}
+use mathlib.Core.Bool.{Bool, cond, _||_}
+use mathlib.Core.List.{List}
+use lib.Dec.{eqb, leb}
+use Rattle.answers.specs.Answers.{number}
+use Rattle.wrapper.specs.declared.status.CommandStatus.{CommandStatus}
+use Rattle.wrapper.specs.declared.status.CommandStatus.the-variants.{Passed, Failed, PhaseError}
+use Rattle.wrapper.specs.Counters.{residueOf}
+use Rattle.ring.specs.States.{stateNumber}
+use Rattle.device.specs.declared.Device.{Device}
+use Rattle.device.specs.declared.Status.the-variants.{Present}
+use Rattle.device.specs.Device.{withStatus}
+use Rattle.calls.specs.declared.Figure.{Figure}
+use Rattle.calls.specs.declared.Stated.{Stated}
+use Rattle.calls.specs.Checks.{unlessBroken}
+
+-- 01's number, and the record
+pub record Stating : Type 0 where
+  pub number : ℕ
+  pub device : Device
+
+abbrev pub stating : ℕ → Device → Stating
+stating number d = record { number = number; device = d }
+
+abbrev pub statedOf : Stated → Stating
+statedOf r = stating (number (r .answer)) (r .device)
+
+-- "`set_status` is accepted in 2, 4, 5, 7"
+unfoldable pub takesStatus : ℕ → Bool
+takesStatus state = eqb state 2 || (eqb state 4 || (eqb state 5 || eqb state 7))
+
+-- "`CommandStatus`, as in BOT: 0 passed, 1 failed, 2 phase error."
+unfoldable pub statusOf : ℕ → CommandStatus
+statusOf byte = cond (eqb byte 0) Passed (cond (eqb byte 1) Failed PhaseError)
+
+-- "a later one replaces the earlier"; "The residue is L less the firmware's figure"
+unfoldable pub withFigure : Figure → Device → Device
+withFigure f d = withStatus (Present (statusOf (f .status)) (residueOf (d .wrapper .length) (f .processed))) d
+
+-- 12: ".. or a status byte above 2"
+unfoldable pub acceptedStatus : Device → Figure → Stating
+acceptedStatus d f = cond (leb (f .status) 2) (stating 0 (withFigure f d)) (stating 12 d)
+
+-- 12: "`set_status` where the Rust panics, ..", and "all as before"
+unfoldable pub setStatusCall : Device → List ℕ → Figure → Stating
+setStatusCall d io f =
+    unlessBroken d io (stating 10 d)
+    (cond (takesStatus (stateNumber (d .state))) (acceptedStatus d f) (stating 12 d))
