@@ -1,4 +1,8 @@
 -- proofs.Opening   what each way through opening owes
 -- proofs.Acting    what each way through an act owes
+-- proofs.Same      open, decide, act is the poll of document 01
+-- proofs.Polling   what each way through a poll owes
 pub mod Opening
 pub mod Acting
+pub mod Same
+pub mod Polling

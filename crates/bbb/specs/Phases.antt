@@ -76,8 +76,7 @@ unfoldable pub parsedMessage : Buffer → List ℕ → List ℕ
 parsedMessage s message = cond (isValid (messageAt s)) (messageAt s) message
 
 abbrev pub countOf : Bool → ℕ
-countOf true = 1
-countOf false = 0
+countOf took = cond took 1 0
 
 unfoldable pub openAfter : Buffer → Bool → Told → Left → Bool → Open
 openAfter t took said left cleared = cond (took && leb 31 (unread t)) (parsedOpen t left cleared) (opening found.Nothing (t .marks) left NotExpected said (countOf took) cleared)
@@ -158,8 +157,7 @@ emptiedMarks before.Status m = m
 emptiedMarks before.Empty m = at 0 0
 
 abbrev pub oneMore : ℕ → Bool → ℕ
-oneMore taken true = taken + 1
-oneMore taken false = taken
+oneMore taken more = cond more (taken + 1) taken
 
 unfoldable pub tookFrom : ℕ → Endpoint → List ℕ → Buffer → Open → Done
 tookFrom p e packet s o = done (received p e packet s .marks) (fallen (o .left) (brought p e packet s)) 0 (readTold p e s) (oneMore (o .taken) (takesOne p e s)) false (received p e packet s .bytes)

@@ -1,16 +1,16 @@
 -- Laws of the calls: what each way through a function owes (`ways`). Assumes nothing.
 use mathlib.Core.Path.{_≡_, refl, sym, ap, _∙_}
-use mathlib.Core.Bool.{Bool, true, false, not, cond}
+use mathlib.Core.Bool.{Bool, true, false, not}
 use mathlib.Core.List.{List, [], _∷_}
 use Prim.Native.Nat.{ℕ, _≤_, min, max, zero-le}
 use native.Mathlib.Nat.{min-le-left, min-le-right, max-eq-right}
 use native.Mathlib.Omega.{arith}
-use lib.Dec.{eqb, leb}
+use lib.Dec.{eqb}
 use lib.ListN.{length, take, length-take}
 use lib.Seq.{length-take-le, take-take, take-length}
 use borrow.Author.Tests.{eq-eqb, ne-eqb, le-leb, lt-leb}
 use Rattle.fields.specs.Overlay.{overlay}
-use Rattle.fields.proofs.Bools.{not-true, not-false}
+use Rattle.fields.proofs.Bools.{not-false}
 use Rattle.buffer.specs.declared.Marks.{Marks}
 use Rattle.buffer.specs.Buffer.{Buffer, Sound, Leaves, buffer, fitting, written, lacksRoom, writtenAll, ready, given, readOff}
 use Rattle.answers.specs.declared.Answer.the-variants.{Done, IoBufferOverflow, InvalidState, BrokenRecord, EmptyBlock}
@@ -45,7 +45,7 @@ use Rattle.calls.specs.declared.command.Step.{Step}
 use Rattle.calls.specs.Checks.{isBroken, unlessBroken, isIn, bufferOf}
 use Rattle.calls.specs.Status.{stating, statedOf, takesStatus, statusOf, withFigure, acceptedStatus, setStatusCall}
 use Rattle.calls.specs.Data.{Moving, movedOf, unmoved, movesTo, worksIn, leaving, readOut, limited, writeIn, writeAllIn}
-use Rattle.calls.specs.Bus.{handling, handledOf, keeps, enters0, entering, resetCall, served, controlCall}
+use Rattle.calls.specs.Bus.{handledOf, keeps, enters0, entering, resetCall, served, controlCall}
 use Rattle.calls.specs.Command.{shownOf, showing, hides, isShown, commandCall, offered, steppedOf, stepping, offersNone, isOffered, offering, blockOf, stepCall}
 
 -- ---- the record

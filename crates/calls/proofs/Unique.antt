@@ -1,7 +1,7 @@
 -- No second answer satisfies a promise: what the `ensures` of a public call says is true of one answer alone, and of one content of
 -- the slice that it may write to. `Post` is the contract itself, as the check reads it. Assumes nothing.
 use mathlib.Core.Path.{_≡_, refl, sym, ap, _∙_}
-use mathlib.Core.Bool.{Bool, cond}
+use mathlib.Core.Bool.{cond}
 use mathlib.Core.List.{List, [], _∷_}
 use Prim.Native.Nat.{ℕ}
 use lib.Dec.{eqb}
@@ -81,67 +81,67 @@ named-number StatusRefused = refl
 named-number EmptyBlock = refl
 
 -- a status
-abbrev stated : Stating → Answer → Stated
-stated o a = record { device = o .device; answer = a }
+abbrev unstated : Stating → Stated
+unstated o = record { device = o .device; answer = named (o .number) }
 
-stated-back : (x : Stated) → stated (statedOf x) (named (statedOf x .number)) ≡ x
-stated-back x = ap (stated (statedOf x)) (named-number (x .answer))
+unstated-stated : (x : Stated) → unstated (statedOf x) ≡ x
+unstated-stated x = rw (named-number (x .answer))
 
--- data, with the bytes
-abbrev moved : Moving → Answer → Moved
-moved o a = record { device = o .device; report = record { answer = a; count = o .count } }
+-- data, beside the bytes
+abbrev unmoved : Moving → Moved
+unmoved o = record { device = o .device; report = record { answer = named (o .number); count = o .count } }
+
+unmoved-moved : (x : Moved) (b : List ℕ) → unmoved (movedOf x b) ≡ x
+unmoved-moved x b = rw (named-number (x .report .answer))
 
 moved-once : (x y : Moved) (b c : List ℕ) {o : Moving} → movedOf x b ≡ o → movedOf y c ≡ o → (x ≡ y) × (b ≡ c)
 moved-once x y b c p q =
-    let back : (z : Moved) (l : List ℕ) → moved (movedOf z l) (named (movedOf z l .number)) ≡ z = λ z l. ap (moved (movedOf z l)) (named-number (z .report .answer)) in
-    (sym (back x b) ∙ ap (λ (o : Moving). moved o (named (o .number))) (p ∙ sym q) ∙ back y c, ap (λ (o : Moving). o .bytes) (p ∙ sym q))
+    let e = p ∙ sym q in
+    (sym (unmoved-moved x b) ∙ ap unmoved e ∙ unmoved-moved y c, ap (λ (o : Moving). o .bytes) e)
 
--- a bus event: the bytes tell the reply
+-- a reset or a request: the bytes tell the reply
 unreplied : List ℕ → Reply
 unreplied [] = reply.Nothing
 unreplied (n ∷ ns) = reply.MaxLun n
 
-replied-back : (r : Reply) → unreplied (replied r) ≡ r
+unreplied-replied : (r : Reply) → unreplied (replied r) ≡ r
 unfolding unreplied
-replied-back reply.Nothing = refl
-replied-back (reply.MaxLun n) = refl
+unreplied-replied reply.Nothing = refl
+unreplied-replied (reply.MaxLun n) = refl
 
-abbrev handled : Handling → Answer → Reply → Handled
-handled o a r = record { device = o .device; report = record { answer = a; stalls = o .stalls; reply = r } }
+abbrev unhandled : Handling → Handled
+unhandled o = record { device = o .device; report = record { answer = named (o .number); stalls = o .stalls; reply = unreplied (o .bytes) } }
 
-handled-back : (x : Handled) → handled (handledOf x) (named (handledOf x .number)) (unreplied (handledOf x .bytes)) ≡ x
-handled-back x =
-    let o : Handling = handledOf x in
-    ap (λ (a : Answer). handled o a (unreplied (o .bytes))) (named-number (x .report .answer)) ∙ ap (handled o (x .report .answer)) (replied-back (x .report .reply))
+unhandled-handled : (x : Handled) → unhandled (handledOf x) ≡ x
+unhandled-handled x = rw (named-number (x .report .answer), unreplied-replied (x .report .reply))
 
 -- a command shown
-abbrev shown : Showing → Answer → Shown
-shown o a = record { answer = a; shown = o .shown; lun = o .lun; blocklength = o .blocklength; block = o .block }
+abbrev unshown : Showing → Shown
+unshown o = record { answer = named (o .number); shown = o .shown; lun = o .lun; blocklength = o .blocklength; block = o .block }
 
-shown-back : (x : Shown) → shown (shownOf x) (named (shownOf x .number)) ≡ x
-shown-back x = ap (shown (shownOf x)) (named-number (x .answer))
+unshown-shown : (x : Shown) → unshown (shownOf x) ≡ x
+unshown-shown x = rw (named-number (x .answer))
 
 -- a step: what is offered tells the offer
 unoffered : List Offered → Offer
 unoffered [] = offer.Nothing
 unoffered (o ∷ os) = offer.Command (o .lun) (o .command)
 
-offered-back : (x : Offer) → unoffered (offers x) ≡ x
+unoffered-offered : (x : Offer) → unoffered (offers x) ≡ x
 unfolding unoffered
-offered-back offer.Nothing = refl
-offered-back (offer.Command lun c) = refl
+unoffered-offered offer.Nothing = refl
+unoffered-offered (offer.Command lun c) = refl
 
-abbrev stepped : Answer → Offer → Step
-stepped a o = record { answer = a; offer = o }
+abbrev unstepped : Stepping → Step
+unstepped o = record { answer = named (o .number); offer = unoffered (o .offers) }
 
-stepped-back : (x : Step) → stepped (named (steppedOf x .number)) (unoffered (steppedOf x .offers)) ≡ x
-stepped-back x =
-    ap (λ (a : Answer). stepped a (unoffered (steppedOf x .offers))) (named-number (x .answer)) ∙ ap (stepped (x .answer)) (offered-back (x .offer))
+unstepped-stepped : (x : Step) → unstepped (steppedOf x) ≡ x
+unstepped-stepped x = rw (named-number (x .answer), unoffered-offered (x .offer))
 
 -- ---- the calls
 
 pub set-status-only : Only 1 set-status-kinds.ps set-status-kinds.r set-status.Post (λ κs s. tt {0})
-set-status-only κs a x y s t p q = (once statedOf (λ o. stated o (named (o .number))) stated-back x y p q, refl)
+set-status-only κs a x y s t p q = (once statedOf unstated unstated-stated x y p q, refl)
 
 pub read-data-only : Only 2 read-data-kinds.ps read-data-kinds.r read-data.Post (λ κs s. now (s .1 .1 .0))
 read-data-only κs a x y s t p q = moved-once x y _ _ p q
@@ -153,13 +153,13 @@ pub try-write-data-all-only : Only 2 try-write-data-all-kinds.ps try-write-data-
 try-write-data-all-only κs a x y s t p q = moved-once x y _ _ p q
 
 pub reset-only : Only 1 reset-kinds.ps reset-kinds.r reset.Post (λ κs s. tt {0})
-reset-only κs a x y s t p q = (once handledOf (λ o. handled o (named (o .number)) (unreplied (o .bytes))) handled-back x y p q, refl)
+reset-only κs a x y s t p q = (once handledOf unhandled unhandled-handled x y p q, refl)
 
 pub control-only : Only 1 control-kinds.ps control-kinds.r control.Post (λ κs s. tt {0})
-control-only κs a x y s t p q = (once handledOf (λ o. handled o (named (o .number)) (unreplied (o .bytes))) handled-back x y p q, refl)
+control-only κs a x y s t p q = (once handledOf unhandled unhandled-handled x y p q, refl)
 
 pub command-only : Only 1 command-kinds.ps command-kinds.r command.Post (λ κs s. tt {0})
-command-only κs a x y s t p q = (once shownOf (λ o. shown o (named (o .number))) shown-back x y p q, refl)
+command-only κs a x y s t p q = (once shownOf unshown unshown-shown x y p q, refl)
 
 pub command-step-only : Only 1 command-step-kinds.ps command-step-kinds.r command-step.Post (λ κs s. tt {0})
-command-step-only κs a x y s t p q = (once steppedOf (λ o. stepped (named (o .number)) (unoffered (o .offers))) stepped-back x y p q, refl)
+command-step-only κs a x y s t p q = (once steppedOf unstepped unstepped-stepped x y p q, refl)

@@ -4,8 +4,10 @@
 --     Data       `read_data`, `write_data` and `try_write_data_all`
 --     Bus        reset and control requests
 --     Command    the command shown, and the command step
+--     Cases      cases, computed
 pub mod Checks
 pub mod Status
 pub mod Data
 pub mod Bus
 pub mod Command
+pub mod Cases

@@ -19,7 +19,6 @@ use wrapper::status::StatusByte;
 use wrapper::status::status_of;
 ghost use mathlib.Core.Path.{_≡_};
 ghost use Prim.Native.Nat.{min};
-ghost use lib.ListN.{length};
 ghost use Rattle.device.specs.Device.{withStatus};
 ghost use Rattle.calls.specs.Checks.{isBroken, isIn};
 ghost use Rattle.calls.specs.Status.{takesStatus, statedOf, acceptedStatus, setStatusCall};

@@ -1,5 +1,6 @@
 -- `bbb::changed` meets its contract. Assumes nothing.
 use borrow.Author.Needs.{needs}
+use Rattle.bbb.proofs.Polling.{ways}
 use Rattle.bbb.proofs.changed.Statement.{statement}
 use Rattle.bbb.proofs.changed.Tie as tie
 
@@ -10,7 +11,7 @@ status-then-requires : tie.Need-status-then-requires
 status-then-requires c κs = search needs
 
 returns : tie.Need-returns
-returns c = ?
+returns c = search (ways, needs)
 
 pub changed-spec : {M : Type 1} → statement M
 changed-spec = tie.close (tie.spec wrapper-then-requires status-then-requires returns)

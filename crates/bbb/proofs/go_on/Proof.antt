@@ -1,5 +1,6 @@
 -- `bbb::go_on` meets its contract. Assumes nothing.
 use borrow.Author.Needs.{needs}
+use Rattle.bbb.proofs.Polling.{ways}
 use Rattle.bbb.proofs.go_on.Statement.{statement}
 use Rattle.bbb.proofs.go_on.Tie as tie
 
@@ -31,7 +32,7 @@ same-length-2 : tie.Need-same-length-2
 same-length-2 c = search needs
 
 returns : tie.Need-returns
-returns c = ?
+returns c = search (ways, needs)
 
 pub go-on-spec : {M : Type 1} → statement M
 go-on-spec = tie.close (tie.spec present-requires sub-settle settle-requires row-of-requires act-requires is-valid-requires asked-requires same-length same-length-2 returns)

@@ -1,5 +1,6 @@
 -- `bbb::poll` meets its contract. Assumes nothing.
 use borrow.Author.Needs.{needs}
+use Rattle.bbb.proofs.Polling.{tells-10, tells-11, polls, ways}
 use Rattle.bbb.proofs.poll.Statement.{statement}
 use Rattle.bbb.proofs.poll.Tie as tie
 
@@ -16,7 +17,7 @@ slice-aggregate-run : tie.Need-slice-aggregate-run
 slice-aggregate-run c = search needs
 
 run-requires : tie.Need-run-requires
-run-requires c κs = ?
+run-requires c κs = search (ways, needs)
 
 slice-aggregate-changed : tie.Need-slice-aggregate-changed
 slice-aggregate-changed c = search needs
@@ -31,19 +32,27 @@ same-length-2 : tie.Need-same-length-2
 same-length-2 c = search needs
 
 returns : tie.Need-returns
-returns c = ?
+returns c =
+    let run = c .before .before .before .before .before .before .before .before in
+    let test = run .before .before .before .before in
+    let whole = test .before .before in
+    polls _ _ _ (whole .before .before .numbers-of .ensures) (whole .before .whole .ensures) (whole .if1 .taken) (test .before .fits2 .ensures) (test .if2 .taken) (run .run .ensures) (c .changed .ensures)
 
 refused-requires : tie.Need-refused-requires
 refused-requires c κs = search needs
 
 returns-2 : tie.Need-returns-2
-returns-2 c = ?
+returns-2 c =
+    let whole = c .before .before .before in
+    tells-11 _ _ _ (whole .before .before .numbers-of .ensures) (whole .before .whole .ensures) (whole .if1 .taken) (c .before .before .fits2 .ensures) (c .before .if2 .left) (c .refused .ensures)
 
 refused-requires-2 : tie.Need-refused-requires-2
 refused-requires-2 c κs = search needs
 
 returns-3 : tie.Need-returns-3
-returns-3 c = ?
+returns-3 c =
+    let whole = c .before in
+    tells-10 _ _ _ (whole .before .before .numbers-of .ensures) (whole .before .whole .ensures) (whole .if1 .left) (c .refused2 .ensures)
 
 pub poll-spec : {M : Type 1} → statement M
 poll-spec = tie.close (tie.spec numbers-of-requires whole-requires fits-requires slice-aggregate-run run-requires slice-aggregate-changed changed-requires same-length same-length-2 returns refused-requires returns-2 refused-requires-2 returns-3)

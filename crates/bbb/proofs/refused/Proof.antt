@@ -1,5 +1,6 @@
 -- `bbb::refused` meets its contract. Assumes nothing.
 use borrow.Author.Needs.{needs}
+use Rattle.bbb.proofs.Polling.{ways}
 use Rattle.bbb.proofs.refused.Statement.{statement}
 use Rattle.bbb.proofs.refused.Tie as tie
 
@@ -7,7 +8,7 @@ plain-requires : tie.Need-plain-requires
 plain-requires c κs = search needs
 
 returns : tie.Need-returns
-returns c = ?
+returns c = search (ways, needs)
 
 pub refused-spec : {M : Type 1} → statement M
 refused-spec = tie.close (tie.spec plain-requires returns)

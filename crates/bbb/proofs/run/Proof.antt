@@ -1,5 +1,6 @@
 -- `bbb::run` meets its contract. Assumes nothing.
 use borrow.Author.Needs.{needs}
+use Rattle.bbb.proofs.Polling.{ways}
 use Rattle.bbb.proofs.run.Statement.{statement}
 use Rattle.bbb.proofs.run.Tie as tie
 
@@ -19,7 +20,7 @@ same-length-3 : tie.Need-same-length-3
 same-length-3 c = search needs
 
 returns : tie.Need-returns
-returns c = ?
+returns c = search (ways, needs)
 
 pub run-spec : {M : Type 1} → statement M
 run-spec = tie.close (tie.spec open-requires go-on-requires same-length same-length-2 same-length-3 returns)

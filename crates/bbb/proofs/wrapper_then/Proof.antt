@@ -1,5 +1,6 @@
 -- `bbb::wrapper_then` meets its contract. Assumes nothing.
 use borrow.Author.Needs.{needs}
+use Rattle.bbb.proofs.Polling.{ways}
 use Rattle.bbb.proofs.wrapper_then.Statement.{statement}
 use Rattle.bbb.proofs.wrapper_then.Tie as tie
 
@@ -7,7 +8,7 @@ read-wrapper-requires : tie.Need-read-wrapper-requires
 read-wrapper-requires c κs = search needs
 
 returns : tie.Need-returns
-returns c = ?
+returns c = search (ways, needs)
 
 returns-2 : tie.Need-returns-2
 returns-2 c = search needs

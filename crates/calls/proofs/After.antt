@@ -1,0 +1,270 @@
+-- What callers may use: what is so after a call, for any record, or for a whole one where it says so.
+--     ..-keeps      what of the record is as before, whatever the answer
+--     ..-done       what a call comes to on a whole record, where it is accepted
+--     ..-unread     the unread bytes after it
+--     ..-whole      a whole record stays whole, over the IO buffer that the call leaves
+-- Assumes nothing.
+use mathlib.Core.Path.{_≡_, refl, sym, ap, _∙_, subst}
+use mathlib.Core.Bool.{true, false, not, cond}
+use mathlib.Core.List.{List, [], _∷_, _++_}
+use Prim.Native.Nat.{ℕ, _≤_, min, zero-le}
+use native.Mathlib.Nat.{min-le-left, min-le-right, max-eq-right}
+use native.Mathlib.Omega.{arith}
+use lib.Dec.{eqb, leb}
+use lib.ListN.{length, take, drop, length-take}
+use borrow.Author.Tests.{ne-eqb, le-leb}
+use Rattle.fields.specs.Overlay.{overlay}
+use Rattle.fields.proofs.Bools.{and-left, of-picked}
+use Rattle.buffer.specs.declared.Marks.{Marks}
+use Rattle.buffer.specs.Buffer.{Buffer, Sound, buffer, unread, unreadBytes, room, withRoom, fitting, written, lacksRoom, writtenAll, ready, given, readOff}
+use Rattle.buffer.proofs.Kept.{length-written, sound-written, length-writtenAll, sound-writtenAll, sound-readOff}
+use Rattle.buffer.proofs.Unread.{unread-written, unread-writtenAll, unread-readOff}
+use Rattle.answers.specs.declared.Stalls.the-variants.{Kept}
+use Rattle.scsi.specs.Decoding.{decodeCall, plainCall}
+use Rattle.ring.specs.declared.State.{State}
+use Rattle.ring.specs.declared.State.the-variants.{CommandTransfer, CommandTransferInvalid, DataTransferNoData, StatusTransfer, DataTransferToHost, DataTransferToHostStatusAwait, DataTransferToHostEnding, DataTransferFromHost, DataTransferFromHostEnding}
+use Rattle.ring.specs.States.{stateNumber}
+use Rattle.device.specs.declared.Device.{Device}
+use Rattle.device.specs.Device.{numbersOf, isPresent, withMarks, withStatus, entering0}
+use Rattle.device.specs.Broken.{statusFits, Whole}
+use Rattle.device.proofs.Wholly.{whole-is, whole-sound}
+use Rattle.calls.specs.declared.Figure.{Figure}
+use Rattle.calls.specs.declared.Request.{Request}
+use Rattle.calls.specs.Checks.{isBroken, unlessBroken, isIn, bufferOf}
+use Rattle.calls.specs.Status.{Stating, stating, takesStatus, withFigure, acceptedStatus, setStatusCall}
+use Rattle.calls.specs.Data.{Moving, moving, worksIn, leaving, readOut, readCall, limited, writeIn, writeCall, writeAllIn, writeAllCall}
+use Rattle.calls.specs.Bus.{Handling, handling, entering, resetCall, served, controlCall}
+use Rattle.calls.specs.Command.{showing, isShown, commandCall, stepping, isOffered, offering, blockOf, stepCall}
+
+-- ---- a whole record
+
+module _ (d : Device) (io : List ℕ) (w : Whole (numbersOf d) (length io)) where
+  passes : {A : Type 0} (refused done : A) → unlessBroken d io refused done ≡ done
+  unfolding unlessBroken isBroken
+  passes refused done = rw (whole-is (numbersOf d) (length io) w)
+
+  sound : Sound (bufferOf d io)
+  sound = whole-sound (numbersOf d) io w
+
+  -- with other marks over as many bytes
+  whole-marked : (m : Marks) (b : List ℕ) → Sound (buffer b m) → length b ≡ length io → Whole (numbersOf (withMarks m d)) (length b)
+  whole-marked m b g e = record {
+    lent = w .lent ∙ sym e;
+    created = w .created;
+    order = g .order;
+    within = omega (arith, g .within, w .lent);
+    block = w .block;
+    lun = w .lun;
+    status = w .status;
+  }
+
+  whole-entered : Whole (numbersOf (entering0 d)) (length io)
+  whole-entered = record { lent = w .lent; created = w .created; order = w .order; within = w .within; block = w .block; lun = w .lun; status = refl }
+
+-- what holds of a refusal and of what is done holds of a call
+either : {A : Type 0} (P : A → Type 0) (d : Device) (io : List ℕ) {refused done : A} → P refused → P done → P (unlessBroken d io refused done)
+unfolding unlessBroken
+either P d io p q = of-picked P (isBroken d (length io)) (λ _. p) (λ _. q)
+
+-- ---- the status
+
+-- a state that takes a status may have one
+fits-present : (s : State) → takesStatus (stateNumber s) ≡ true → statusFits s true ≡ true
+unfolding takesStatus
+fits-present CommandTransfer h = h
+fits-present CommandTransferInvalid h = h
+fits-present DataTransferNoData h = refl
+fits-present StatusTransfer h = refl
+fits-present DataTransferToHost h = refl
+fits-present DataTransferToHostStatusAwait h = refl
+fits-present DataTransferToHostEnding h = refl
+fits-present DataTransferFromHost h = refl
+fits-present DataTransferFromHostEnding h = refl
+
+module _ (d : Device) (io : List ℕ) (f : Figure) where
+  by-status : (P : Stating → Type 0) → ((n : ℕ) → P (stating n d)) → (takesStatus (stateNumber (d .state)) ≡ true → P (stating 0 (withFigure f d))) → P (setStatusCall d io f)
+  unfolding setStatusCall acceptedStatus
+  by-status P p q =
+      either P d io (p 10)
+      (of-picked P (takesStatus (stateNumber (d .state))) (λ t. of-picked P (leb (f .status) 2) (λ _. q t) (λ _. p 12)) (λ _. p 12))
+
+  -- all but the status: put the old one back, and the record is the old one
+  pub status-keeps : withStatus (d .status) (setStatusCall d io f .device) ≡ d
+  unfolding withFigure
+  status-keeps = by-status (λ (o : Stating). withStatus (d .status) (o .device) ≡ d) (λ _. refl) (λ _. refl)
+
+  pub status-whole : Whole (numbersOf d) (length io) → Whole (numbersOf (setStatusCall d io f .device)) (length io)
+  unfolding withFigure
+  status-whole w =
+      by-status (λ (o : Stating). Whole (numbersOf (o .device)) (length io)) (λ _. w)
+      (λ t. record { lent = w .lent; created = w .created; order = w .order; within = w .within; block = w .block; lun = w .lun; status = fits-present (d .state) t })
+
+  pub status-done : Whole (numbersOf d) (length io) → takesStatus (stateNumber (d .state)) ≡ true → f .status ≤ 2 → setStatusCall d io f ≡ stating 0 (withFigure f d)
+  unfolding setStatusCall acceptedStatus
+  status-done w t h = passes d io w _ _ ∙ rw (t, le-leb _ _ h)
+
+  -- "a later one replaces the earlier"
+  pub status-later : (g : Figure) → withFigure f (withFigure g d) ≡ withFigure f d
+  unfolding withFigure
+  status-later g = refl
+
+-- ---- data
+
+module _ (P : Moving → Type 0) (state : ℕ) (d : Device) (io bytes : List ℕ) (done : Moving) where
+  by-data : ((n : ℕ) → P (moving n 0 d bytes)) → P done → P (worksIn state d io bytes done)
+  unfolding worksIn
+  by-data p q = either P d io (p 10) (of-picked P (isIn state d) (λ _. q) (λ _. p 3))
+
+module _ (state : ℕ) (d : Device) (io bytes : List ℕ) (done : Moving) (w : Whole (numbersOf d) (length io)) where
+  pub data-done : isIn state d ≡ true → worksIn state d io bytes done ≡ done
+  unfolding worksIn
+  data-done h = passes d io w _ _ ∙ rw h
+
+  -- 3, and all as before
+  pub data-elsewhere : isIn state d ≡ false → worksIn state d io bytes done ≡ moving 3 0 d bytes
+  unfolding worksIn
+  data-elsewhere h = passes d io w _ _ ∙ rw h
+
+-- whatever the answer, of the record only the marks change, and of a read no IO byte
+pub read-keeps : (d : Device) (io dst : List ℕ) → withMarks (d .marks) (readCall d io dst .device) ≡ d
+unfolding readOut
+read-keeps d io dst = by-data (λ (o : Moving). withMarks (d .marks) (o .device) ≡ d) 7 d io dst _ (λ _. refl) refl
+
+pub write-keeps : (d : Device) (io src : List ℕ) → withMarks (d .marks) (writeCall d io src .device) ≡ d
+unfolding writeIn
+write-keeps d io src = by-data (λ (o : Moving). withMarks (d .marks) (o .device) ≡ d) 4 d io io _ (λ _. refl) refl
+
+pub write-all-keeps : (d : Device) (io src : List ℕ) → withMarks (d .marks) (writeAllCall d io src .device) ≡ d
+unfolding writeAllIn
+write-all-keeps d io src =
+    let P : Moving → Type 0 = λ (o : Moving). withMarks (d .marks) (o .device) ≡ d in
+    by-data P 4 d io io _ (λ _. refl) (of-picked P (lacksRoom (length src) (bufferOf d io)) (λ _. refl) (λ _. refl))
+
+-- on a whole record
+module _ (d : Device) (io : List ℕ) (w : Whole (numbersOf d) (length io)) where
+  module _ (dst : List ℕ) where
+    pub read-whole : Whole (numbersOf (readCall d io dst .device)) (length io)
+    unfolding readOut readOff
+    read-whole =
+        by-data (λ (o : Moving). Whole (numbersOf (o .device)) (length io)) 7 d io dst _ (λ _. w)
+        (whole-marked d io w (readOff (length dst) (bufferOf d io) .marks) io (sound-readOff (length dst) (bufferOf d io) (sound d io w)) refl)
+
+    module _ (h : isIn 7 d ≡ true) where
+      -- the count is fixed by the marks
+      pub read-count : readCall d io dst .count ≡ min (unread (bufferOf d io)) (length dst)
+      unfolding readOut ready
+      read-count = ap (λ (o : Moving). o .count) (data-done 7 d io dst _ w h)
+
+      -- so many bytes go, and they are those that the destination gets
+      pub read-unread : unreadBytes (bufferOf (readCall d io dst .device) io) ≡ drop (readCall d io dst .count) (unreadBytes (bufferOf d io))
+      unfolding readOut readOff
+      read-unread =
+          subst (λ (o : Moving). unreadBytes (bufferOf (o .device) io) ≡ drop (o .count) (unreadBytes (bufferOf d io))) (sym (data-done 7 d io dst _ w h))
+          (unread-readOff (length dst) (bufferOf d io) (sound d io w))
+
+      pub read-into : readCall d io dst .bytes ≡ overlay dst 0 (take (readCall d io dst .count) (unreadBytes (bufferOf d io)))
+      unfolding readOut given
+      read-into =
+          subst (λ (o : Moving). o .bytes ≡ overlay dst 0 (take (o .count) (unreadBytes (bufferOf d io)))) (sym (data-done 7 d io dst _ w h)) refl
+
+  module _ (src : List ℕ) where
+    pub write-whole : Whole (numbersOf (writeCall d io src .device)) (length (writeCall d io src .bytes))
+    unfolding writeIn
+    write-whole =
+        let ys : List ℕ = limited (d .left) src in
+        by-data (λ (o : Moving). Whole (numbersOf (o .device)) (length (o .bytes))) 4 d io io _ (λ _. w)
+        (whole-marked d io w (written ys (bufferOf d io) .marks) (written ys (bufferOf d io) .bytes) (sound-written ys (bufferOf d io) (sound d io w)) (length-written ys (bufferOf d io) (sound d io w)))
+
+    pub write-all-whole : Whole (numbersOf (writeAllCall d io src .device)) (length (writeAllCall d io src .bytes))
+    unfolding writeAllIn
+    write-all-whole =
+        let P : Moving → Type 0 = λ (o : Moving). Whole (numbersOf (o .device)) (length (o .bytes)) in
+        let t : Buffer = writtenAll 0 src (bufferOf d io) in
+        let g : Sound (bufferOf d io) = sound d io w in
+        let kept : Whole (numbersOf (withMarks (t .marks) d)) (length (t .bytes)) = whole-marked d io w (t .marks) (t .bytes) (sound-writtenAll 0 src (bufferOf d io) g) (length-writtenAll 0 src (bufferOf d io) g) in
+        by-data P 4 d io io _ (λ _. w) (of-picked P (lacksRoom (length src) (bufferOf d io)) (λ _. kept) (λ _. kept))
+
+    module _ (h : isIn 4 d ≡ true) where
+      -- "at most `left` bytes a call"
+      pub write-most : writeCall d io src .count ≤ d .left .0
+      unfolding writeIn fitting limited
+      write-most =
+          let ys : List ℕ = limited (d .left) src in
+          subst (λ (o : Moving). o .count ≤ d .left .0) (sym (data-done 4 d io io _ w h))
+          (omega (arith, min-le-right (room (withRoom (length ys) (bufferOf d io))) (length ys), length-take (d .left .0) src, min-le-left (d .left .0) (length src)))
+
+      -- so many bytes come behind the unread ones, and they are the source's first
+      pub write-unread : unreadBytes (bufferOf (writeCall d io src .device) (writeCall d io src .bytes)) ≡ unreadBytes (bufferOf d io) ++ take (writeCall d io src .count) (limited (d .left) src)
+      unfolding writeIn
+      write-unread =
+          let ys : List ℕ = limited (d .left) src in
+          subst (λ (o : Moving). unreadBytes (bufferOf (o .device) (o .bytes)) ≡ unreadBytes (bufferOf d io) ++ take (o .count) ys) (sym (data-done 4 d io io _ w h))
+          (unread-written ys (bufferOf d io) (sound d io w))
+
+      -- all of the source, or none
+      pub write-all-unread : unreadBytes (bufferOf (writeAllCall d io src .device) (writeAllCall d io src .bytes))
+          ≡ cond (lacksRoom (length src) (bufferOf d io)) (unreadBytes (bufferOf d io)) (unreadBytes (bufferOf d io) ++ src)
+      unfolding writeAllIn
+      write-all-unread =
+          let P : Moving → Type 0 = λ (o : Moving). unreadBytes (bufferOf (o .device) (o .bytes)) ≡ cond (lacksRoom (length src) (bufferOf d io)) (unreadBytes (bufferOf d io)) (unreadBytes (bufferOf d io) ++ src) in
+          let e : P (leaving 0 0 d (writtenAll 0 src (bufferOf d io))) = rw (max-eq-right zero-le) at (unread-writtenAll 0 src (bufferOf d io) (sound d io w)) in
+          subst P (sym (data-done 4 d io io _ w h)) (of-picked P (lacksRoom (length src) (bufferOf d io)) (λ _. e) (λ _. e))
+
+-- ---- the bus
+
+module _ (d : Device) (io : List ℕ) where
+  -- "it does not empty the buffer": the marks stay, and so do the unread bytes
+  pub reset-keeps : resetCall d io .device .marks ≡ d .marks
+  unfolding resetCall entering
+  reset-keeps = either (λ (o : Handling). o .device .marks ≡ d .marks) d io refl refl
+
+  pub reset-done : Whole (numbersOf d) (length io) → resetCall d io ≡ entering d
+  unfolding resetCall
+  reset-done w = passes d io w _ _
+
+  pub reset-whole : Whole (numbersOf d) (length io) → Whole (numbersOf (resetCall d io .device)) (length io)
+  unfolding resetCall entering
+  reset-whole w = either (λ (o : Handling). Whole (numbersOf (o .device)) (length io)) d io w (whole-entered d io w)
+
+  module _ (q : Request) where
+    by-request : (P : Handling → Type 0) → ((n : ℕ) (bytes : List ℕ) → P (handling n Kept bytes d)) → P (entering d) → P (controlCall d io q)
+    unfolding controlCall served
+    by-request P p e =
+        either P d io (p 10 [])
+        (of-picked P (eqb (q .requesttype) 0xA1)
+        (λ _. of-picked P (eqb (q .request) 0xFF) (λ _. e) (λ _. of-picked P (eqb (q .request) 0xFE) (λ _. p 0 (d .maxlun ∷ [])) (λ _. p 0 [])))
+        (λ _. p 0 []))
+
+    pub control-keeps : controlCall d io q .device .marks ≡ d .marks
+    unfolding entering
+    control-keeps = by-request (λ (o : Handling). o .device .marks ≡ d .marks) (λ _ _. refl) refl
+
+    pub control-whole : Whole (numbersOf d) (length io) → Whole (numbersOf (controlCall d io q .device)) (length io)
+    unfolding entering
+    control-whole w = by-request (λ (o : Handling). Whole (numbersOf (o .device)) (length io)) (λ _ _. w) (whole-entered d io w)
+
+    -- a request that does not count changes nothing
+    pub control-else : Whole (numbersOf d) (length io) → (q .requesttype ≡ 0xA1 → ⊥) → controlCall d io q ≡ handling 0 Kept [] d
+    unfolding controlCall
+    control-else w n = passes d io w _ _ ∙ rw (ne-eqb _ _ n)
+
+-- ---- the command
+
+-- what is offered is shown
+pub offered-shown : (d : Device) → isOffered d ≡ true → isShown d ≡ true
+unfolding isOffered
+offered-shown d h = and-left (isShown d) (not (isPresent (d .status))) h
+
+module _ (d : Device) (io : List ℕ) (w : Whole (numbersOf d) (length io)) where
+  pub command-done : isShown d ≡ true → commandCall d io ≡ showing (d .wrapper)
+  unfolding commandCall
+  command-done h = passes d io w _ _ ∙ rw h
+
+  pub step-done : isOffered d ≡ true → stepCall d io ≡ offering (d .wrapper .lun) (plainCall (blockOf (d .wrapper)))
+  unfolding stepCall
+  step-done h = passes d io w _ _ ∙ rw h
+
+  -- 13: "decoding an empty block"
+  pub step-empty : isOffered d ≡ true → d .wrapper .blocklength ≡ 0 → stepCall d io ≡ stepping 13 []
+  unfolding blockOf offering plainCall decodeCall
+  step-empty h e = step-done h ∙ rw e

@@ -1,0 +1,104 @@
+-- Cases of the calls: one table, and one statement, which antt computes. Assumes nothing.
+use mathlib.Core.Path.{refl}
+use mathlib.Core.Bool.{true, false}
+use mathlib.Core.List.{List, [], _∷_}
+use Prim.Native.Nat.{ℕ}
+use lib.ListN.{replicate}
+use Rattle.fields.specs.Overlay.{overlay}
+use Rattle.fields.specs.Field.{bytesAt, counted, ordered, get, getBits}
+use Rattle.fields.specs.Case.{Case, case, AllHold}
+use Rattle.buffer.specs.Buffer.{at, isSound, unreadBytes, moved, withRoom, appended, fitting, written, lacksRoom, writtenAll, ready, given, readOff}
+use Rattle.answers.specs.declared.Stalls.the-variants.{Kept}
+use Rattle.wrapper.specs.declared.DataDirection.the-variants.{In}
+use Rattle.wrapper.specs.declared.status.CommandStatus.the-variants.{PhaseError}
+use Rattle.wrapper.specs.Counters.{residueOf}
+use Rattle.scsi.specs.declared.ScsiCommand.the-variants.{Inquiry}
+use Rattle.scsi.specs.Commands.{flag}
+use Rattle.scsi.specs.Decoding.{lists, counts, isListed, fieldsBy, decoded, decodeCall, plainCall}
+use Rattle.ring.specs.declared.State.{State}
+use Rattle.ring.specs.declared.State.the-variants.{CommandTransfer, CommandTransferInvalid, DataTransferToHost, DataTransferFromHost}
+use Rattle.device.specs.declared.Device.{Device}
+use Rattle.device.specs.declared.Status.the-variants.{Absent, Present}
+use Rattle.device.specs.Device.{withStatus}
+use Rattle.device.specs.Create.{isPacketSize, creation}
+use Rattle.device.specs.Broken.{commandFits, isWhole}
+use Rattle.calls.specs.declared.Figure.{Figure}
+use Rattle.calls.specs.declared.Request.{Request}
+use Rattle.calls.specs.Checks.{isBroken, unlessBroken, isIn}
+use Rattle.calls.specs.Status.{takesStatus, statusOf, withFigure, acceptedStatus, setStatusCall}
+use Rattle.calls.specs.Data.{worksIn, readOut, readCall, limited, writeIn, writeCall, writeAllIn, writeAllCall}
+use Rattle.calls.specs.Bus.{entering, resetCall, served, controlCall}
+use Rattle.calls.specs.Command.{showing, offered, stepping, isShown, commandCall, isOffered, offering, blockOf, stepCall}
+
+-- a device with P 8, max LUN 3 and an IO buffer of 32 bytes, three of them unread; L = 512, of which 2 are left; the command is 12 01
+-- 80 00 FF, for LUN 1, with a block of so many bytes
+device : State → ℕ → Device
+device state blocklength = record {
+  packetsize = 8;
+  maxlun = 3;
+  size = 32;
+  state = state;
+  marks = at 1 4;
+  wrapper = record { tag = 7; length = 512; direction = In; lun = 1; blocklength = blocklength; block = 0x12 ∷ 0x01 ∷ 0x80 ∷ 0x00 ∷ 0xFF ∷ replicate 11 9 };
+  status = Absent;
+  left = record { 0 = 2 };
+}
+
+io : List ℕ
+io = 1 ∷ 2 ∷ 3 ∷ 4 ∷ replicate 28 5
+
+figure : ℕ → ℕ → Figure
+figure status processed = record { status = status; processed = processed }
+
+request : ℕ → ℕ → Request
+request type number = record { requesttype = type; request = number }
+
+pub table : List Case
+table =
+    -- "L 512, figure 500: residue 12; 600: 0*": here as the status that is set
+    case (setStatusCall (device DataTransferToHost 5) io (figure 2 500) .device .status) (Present PhaseError (record { 0 = 12 }))
+    ∷ case (setStatusCall (device DataTransferToHost 5) io (figure 2 600) .device .status) (Present PhaseError (record { 0 = 0 }))
+    -- a status byte above 2; a state that takes none; both leave all as it was
+    ∷ case (setStatusCall (device DataTransferToHost 5) io (figure 3 500)) (record { number = 12; device = device DataTransferToHost 5 })
+    ∷ case (setStatusCall (device CommandTransferInvalid 5) io (figure 0 500)) (record { number = 12; device = device CommandTransferInvalid 5 })
+    -- 10 comes first: the lent buffer is a byte short
+    ∷ case (setStatusCall (device DataTransferToHost 5) (replicate 31 5) (figure 3 500) .number) 10
+    -- three are unread: two go to a destination of two, three to one of five
+    ∷ case (readCall (device DataTransferFromHost 5) io (8 ∷ 8 ∷ []) .count) 2
+    ∷ case (readCall (device DataTransferFromHost 5) io (8 ∷ 8 ∷ []) .bytes) (2 ∷ 3 ∷ [])
+    ∷ case (readCall (device DataTransferFromHost 5) io (replicate 5 8) .count) 3
+    ∷ case (readCall (device DataTransferFromHost 5) io (replicate 5 8) .bytes) (2 ∷ 3 ∷ 4 ∷ 8 ∷ 8 ∷ [])
+    ∷ case (readCall (device DataTransferFromHost 5) io (replicate 5 8) .device .marks) (at 4 4)
+    ∷ case (readCall (device DataTransferToHost 5) io (8 ∷ 8 ∷ [])) (record { number = 3; count = 0; device = device DataTransferToHost 5; bytes = 8 ∷ 8 ∷ [] })
+    -- two are left: of a source of three `write_data` takes two, `try_write_data_all` three
+    ∷ case (writeCall (device DataTransferToHost 5) io (6 ∷ 7 ∷ 8 ∷ []) .count) 2
+    ∷ case (writeCall (device DataTransferToHost 5) io (6 ∷ 7 ∷ 8 ∷ []) .bytes) (1 ∷ 2 ∷ 3 ∷ 4 ∷ 6 ∷ 7 ∷ replicate 26 5)
+    ∷ case (writeAllCall (device DataTransferToHost 5) io (6 ∷ 7 ∷ 8 ∷ []) .count) 3
+    ∷ case (writeAllCall (device DataTransferToHost 5) io (6 ∷ 7 ∷ 8 ∷ []) .device .marks) (at 1 7)
+    -- 29 fit after the move, and 30 do not: the move stays
+    ∷ case (writeAllCall (device DataTransferToHost 5) io (replicate 29 6) .bytes) (2 ∷ 3 ∷ 4 ∷ replicate 29 6)
+    ∷ case (writeAllCall (device DataTransferToHost 5) io (replicate 30 6) .number) 1
+    ∷ case (writeAllCall (device DataTransferToHost 5) io (replicate 30 6) .count) 0
+    ∷ case (writeAllCall (device DataTransferToHost 5) io (replicate 30 6) .device .marks) (at 0 3)
+    ∷ case (writeAllCall (device DataTransferToHost 5) io (replicate 30 6) .bytes) (2 ∷ 3 ∷ 4 ∷ 4 ∷ replicate 28 5)
+    -- reset keeps the marks and clears left
+    ∷ case (resetCall (device DataTransferToHost 5) io .device .state) CommandTransfer
+    ∷ case (resetCall (device DataTransferToHost 5) io .device .marks) (at 1 4)
+    ∷ case (resetCall (device DataTransferToHost 5) io .device .left .0) 0
+    -- A1 FE answers max LUN; A1 FF is a reset; 21 FF, BOT's own reset, does not count
+    ∷ case (controlCall (device DataTransferToHost 5) io (request 0xA1 0xFE) .bytes) (3 ∷ [])
+    ∷ case (controlCall (device DataTransferToHost 5) io (request 0xA1 0xFF)) (resetCall (device DataTransferToHost 5) io)
+    ∷ case (controlCall (device DataTransferToHost 5) io (request 0x21 0xFF)) (record { number = 0; stalls = Kept; bytes = []; device = device DataTransferToHost 5 })
+    -- a command is shown in every state but 0; it is offered while no status is present
+    ∷ case (commandCall (device CommandTransferInvalid 5) io) (showing (device CommandTransferInvalid 5 .wrapper))
+    ∷ case (commandCall (device CommandTransfer 5) io .shown) false
+    ∷ case (stepCall (device DataTransferToHost 5) io) (stepping 0 (offered 1 (Inquiry true 128 255) ∷ []))
+    ∷ case (stepCall (withStatus (Present PhaseError (record { 0 = 0 })) (device DataTransferToHost 5)) io) (stepping 0 [])
+    ∷ case (stepCall (device CommandTransfer 5) io) (stepping 0 [])
+    -- 13: an empty block
+    ∷ case (stepCall (device CommandTransferInvalid 0) io) (stepping 13 [])
+    ∷ []
+
+pub table-holds : AllHold table
+unfolding table device io figure request overlay bytesAt counted ordered get getBits isSound unreadBytes moved withRoom appended fitting written lacksRoom writtenAll ready given readOff residueOf flag lists counts isListed fieldsBy decoded decodeCall plainCall isPacketSize creation commandFits isWhole isBroken unlessBroken isIn takesStatus statusOf withFigure acceptedStatus setStatusCall worksIn readOut limited writeIn writeAllIn entering resetCall served controlCall isShown commandCall isOffered offering blockOf stepCall
+table-holds = refl
