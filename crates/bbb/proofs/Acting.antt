@@ -116,7 +116,7 @@ module _ (b : Before) (counts : Bool) (n : Numbers) (o : Opened) (io packet : Li
     {v : Bool} (hv : v ≡ refuses b (n .packetsize) (o .left) (o .marks .write - o .marks .read)) where
   pub sends-refused : v ≡ true → {out : Outcome} → out ≡ plainly FullPacketExpected
       → Acts (sentBy b counts n (openOf o) io (endpointOf write)) (sentPacket b n (openOf o) io (endpointOf write) packet)
-        (record { marks = o .marks; left = o .left; sent = 0; outcome = out; taken = o .taken; stalled = false }) io packet
+      (record { marks = o .marks; left = o .left; sent = 0; outcome = out; taken = o .taken; stalled = false }) io packet
   unfolding sentBy sentPacket
   sends-refused q h = record { leaves = rw (← hv, q, tells FullPacketExpected h); into = rw (← hv, q) }
 
@@ -124,7 +124,7 @@ module _ (b : Before) (counts : Bool) (n : Numbers) (o : Opened) (io packet : Li
       → {e : Endpoint} → e ≡ endpointOf write → {s : Sent} {packet′ : List ℕ} → Sends (n .packetsize) e (buffer io′ m) packet s packet′
       → {l : Left} → l ≡ leftThen counts (o .left) (s .count)
       → Acts (sentBy b counts n (openOf o) io (endpointOf write)) (sentPacket b n (openOf o) io (endpointOf write) packet)
-        (record { marks = s .marks; left = l; sent = s .count; outcome = s .outcome; taken = o .taken; stalled = false }) io′ packet′
+      (record { marks = s .marks; left = l; sent = s .count; outcome = s .outcome; taken = o .taken; stalled = false }) io′ packet′
   unfolding sentBy sentFrom sentPacket
   sends-sent q hl he x hf = record {
     leaves = rw (← hv, q, ← hl .same, ← he, hf, x .outcome, x .count, ← x .leaves .same);

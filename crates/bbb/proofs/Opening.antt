@@ -79,7 +79,7 @@ module _ (m : Marks) (io : List ℕ) where
     pub parses-valid : v ≡ true → length message ≡ 31 → {w : Head} → w ≡ headOf (wrapperOf (take (m .read + 31 - m .read) (drop (m .read) io)))
         → {message′ : List ℕ} → message′ ≡ overlay message 0 (take (m .read + 31 - m .read) (drop (m .read) io))
         → Opens (parsedOpen (buffer io m) left cleared) io (parsedMessage (buffer io m) message)
-          (record { found = Valid; marks = behind m; left = record { 0 = w .length }; direction = w .direction; outcome = out; taken = 1; cleared = cleared }) io message′
+        (record { found = Valid; marks = behind m; left = record { 0 = w .length }; direction = w .direction; outcome = out; taken = 1; cleared = cleared }) io message′
     unfolding parsedOpen parsedMessage
     parses-valid q hl hw hm = record {
       leaves = rw (valid-is q, tells Done ho, hw, message-is);
@@ -91,7 +91,7 @@ module _ (m : Marks) (io : List ℕ) where
 
     pub parses-invalid : v ≡ false
         → Opens (parsedOpen (buffer io m) left cleared) io (parsedMessage (buffer io m) message)
-          (record { found = Invalid; marks = behind m; left = left; direction = NotExpected; outcome = out; taken = 1; cleared = cleared }) io message
+        (record { found = Invalid; marks = behind m; left = left; direction = NotExpected; outcome = out; taken = 1; cleared = cleared }) io message
     unfolding parsedOpen parsedMessage
     parses-invalid q = record {
       leaves = rw (valid-is q, tells Done ho);
@@ -134,7 +134,7 @@ module _ (p first : ℕ) (one : List ℕ) (left : Left) (cleared : Bool) (s : Bu
 
   pub reads-nothing : v ≡ false → {k : ℕ} → k ≡ countOf (r .taken)
       → Opens (readOpen p (endpointOf first) one left cleared s) (readIo p (endpointOf first) one s) (readMessage p (endpointOf first) one s message)
-        (record { found = Nothing; marks = r .marks; left = left; direction = NotExpected; outcome = r .outcome; taken = k; cleared = cleared }) io message
+      (record { found = Nothing; marks = r .marks; left = left; direction = NotExpected; outcome = r .outcome; taken = k; cleared = cleared }) io message
   unfolding readOpen readMessage openAfter messageAfter
   reads-nothing q hk = record {
     leaves = rw (ripe-is q, ← x .leaves .same, x .outcome, hk, x .taken);
@@ -166,7 +166,7 @@ module _ (n : Numbers) (io one : List ℕ) (e : Endpoint) (message : List ℕ) {
 
   pub opens-not : v ≡ false → Whole n (length io) → {out : Outcome} → out ≡ plainly Done
       → Opens (opened n io one e) (openedIo n io one e) (openedMessage n io one e message)
-        (record { found = Nothing; marks = n .marks; left = n .left; direction = NotExpected; outcome = out; taken = 0; cleared = false }) io message
+      (record { found = Nothing; marks = n .marks; left = n .left; direction = NotExpected; outcome = out; taken = 0; cleared = false }) io message
   unfolding opened openedIo openedMessage
   opens-not q w ho = record {
     leaves = rw (opening-is q, tells Done ho);

@@ -116,7 +116,7 @@ module _ (d : Device) (io : List ℕ) (g : Given) {n : Numbers} (hn : n ≡ numb
     unfolding pollCall pollRule
     polls p {message} {message′} {io′} {packet′} {c} x h =
         let k : finish d (endedOf c io′ packet′) message′ ≡ finish d (ran (numbersOf d) io g) (openedMessage (numbersOf d) io (g .one) (endpointOf (g .turn .first)) message) =
-            rw (← hn, ← x .leaves, ← x .kept) in
+        rw (← hn, ← x .leaves, ← x .kept) in
         rw (← hn, ← hv, q, ← fit, p, h) (k ∙ same (d .state) d io g message (absent-in-0 (numbersOf d) (length io) (rw hn at (tested n (length io) hv q))))
 
 pub ruleset ways = (clears-status, keeps-status, parsed-wrapper, kept-wrapper, changes, fits-all, fits-not-two, fits-not-one, is-fitting, refusal, goes-on, runs, tells-10, tells-11, polls, tested)

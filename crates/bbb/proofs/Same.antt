@@ -33,7 +33,12 @@ use Rattle.bbb.specs.Phases.{Open, opening, behind, parsedOpen, parsedMe
 abbrev pub finish : Device → Ended → List ℕ → Polling
 finish d x μ = record {
   device = record { packetsize = d .packetsize; maxlun = d .maxlun; size = d .size; state = x .state; marks = x .marks; wrapper = cond (x .parsed) (wrapperOf μ) (d .wrapper); status = cond (x .cleared) Absent (d .status); left = x .left };
-  told = x .told; taken = x .taken; sent = x .sent; stalls = x .stalls; io = x .io; packet = x .packet;
+  told = x .told;
+  taken = x .taken;
+  sent = x .sent;
+  stalls = x .stalls;
+  io = x .io;
+  packet = x .packet;
 }
 
 -- Decided and done: to the act a the poll comes, from what opening left.
@@ -78,8 +83,8 @@ module _ (d : Device) (z : State) (io : List ℕ) (g : Given) (μ : List ℕ) (f
 
   sends : goes d (o (no 0)) io g μ Send
       ≡ cond (fallsShort (d .packetsize) l (m .write - m .read))
-        (ends g (reaching DataTransferToHost (start d z (o (no 0)) io μ)) (no 4))
-        (sendData g (reaching DataTransferToHost (start d z (o (no 0)) io μ)))
+      (ends g (reaching DataTransferToHost (start d z (o (no 0)) io μ)) (no 4))
+      (sendData g (reaching DataTransferToHost (start d z (o (no 0)) io μ)))
   unfolding endsWith acted actedPacket sentBy sentFrom sentPacket sendData dataBy
   sends = short (fallsShort (d .packetsize) l (m .write - m .read)) _ _ _ _
 
@@ -186,7 +191,7 @@ module _ (d : Device) (c : Bool) (absent : isPresent (cond c Absent (d .status))
 
   judges : (v : Bool) (t : Buffer) (l : Left) (μ : List ℕ)
       → decides (cond v (opening Valid (behind (t .marks)) (record { 0 = said t .length }) (said t .direction) (no 0) 1 c) (opening Invalid (behind (t .marks)) l NotExpected (no 0) 1 c)) (t .bytes) (cond v (messageAt t) μ)
-        ≡ cond v (startRule (said t) g (leaving (behind31 t) (waiting t l 1))) (ending (reaching CommandTransferInvalid (leaving (behind31 t) (waiting t l 1))) (no 0) 0 true (g .packet))
+      ≡ cond v (startRule (said t) g (leaving (behind31 t) (waiting t l 1))) (ending (reaching CommandTransferInvalid (leaving (behind31 t) (waiting t l 1))) (no 0) 0 true (g .packet))
   unfolding readCbwAct startAct startRule
   judges true t l μ =
       directed d _ (t .bytes) g (messageAt t) (said t .direction) _ _ _
@@ -201,7 +206,7 @@ module _ (d : Device) (c : Bool) (absent : isPresent (cond c Absent (d .status))
 
   reads : (took r : Bool) (t : Buffer) (says : Told) (l : Left) (μ : List ℕ)
       → decides (cond (took && r) (parsedOpen t l c) (opening Nothing (t .marks) l NotExpected says (cond took 1 0) c)) (t .bytes) (cond (took && r) (parsedMessage t μ) μ)
-        ≡ cond (took && r) (parseRule g (waiting t l (cond took 1 0))) (ends g (waiting t l (cond took 1 0)) says)
+      ≡ cond (took && r) (parseRule g (waiting t l (cond took 1 0))) (ends g (waiting t l (cond took 1 0)) says)
   unfolding readCbwAct
   reads true true t says l μ = parses t l μ
   reads true false t says l μ = stays d CommandTransfer (t .bytes) g μ Nothing (t .marks) l NotExpected 1 c says
@@ -209,7 +214,7 @@ module _ (d : Device) (c : Bool) (absent : isPresent (cond c Absent (d .status))
 
   wrapper : (e : Endpoint) (s : Buffer) (l : Left) (μ : List ℕ)
       → decides (readOpen (d .packetsize) e (g .one) l c s) (received (d .packetsize) e (g .one) s .bytes) (readMessage (d .packetsize) e (g .one) s μ)
-        ≡ readOneBy (d .packetsize) e s g (waiting s l 0)
+      ≡ readOneBy (d .packetsize) e s g (waiting s l 0)
   unfolding readOpen readMessage openAfter messageAfter readOneBy readBy
   wrapper e s l μ = reads (takesOne (d .packetsize) e s) (leb 31 (unread (received (d .packetsize) e (g .one) s))) (received (d .packetsize) e (g .one) s) (readTold (d .packetsize) e s) l μ
 

@@ -13,7 +13,7 @@ use Rattle.fields.specs.Overlay.{overlay}
 use Rattle.fields.proofs.Bools.{not-false}
 use Rattle.buffer.specs.declared.Marks.{Marks}
 use Rattle.buffer.specs.Buffer.{Buffer, Sound, Leaves, buffer, fitting, written, lacksRoom, writtenAll, ready, given, readOff}
-use Rattle.answers.specs.declared.Answer.the-variants.{Done, IoBufferOverflow, InvalidState, BrokenRecord, EmptyBlock}
+use Rattle.answers.specs.declared.Answer.the-variants.{Done, IoBufferOverflow, InvalidState, BrokenRecord, StatusRefused, EmptyBlock}
 use Rattle.wrapper.specs.declared.counters.Left.{Left}
 use Rattle.wrapper.specs.declared.counters.Residue.{Residue}
 use Rattle.wrapper.specs.declared.status.CommandStatus.{CommandStatus}
@@ -43,7 +43,7 @@ use Rattle.calls.specs.declared.Handled.{Handled}
 use Rattle.calls.specs.declared.command.Shown.{Shown}
 use Rattle.calls.specs.declared.command.Step.{Step}
 use Rattle.calls.specs.Checks.{isBroken, unlessBroken, isIn, bufferOf}
-use Rattle.calls.specs.Status.{stating, statedOf, takesStatus, statusOf, withFigure, acceptedStatus, setStatusCall}
+use Rattle.calls.specs.Status.{stating, statedOf, refuses, takesStatus, statusOf, withFigure, acceptedStatus, setStatusCall}
 use Rattle.calls.specs.Data.{Moving, movedOf, unmoved, movesTo, worksIn, leaving, readOut, limited, writeIn, writeAllIn}
 use Rattle.calls.specs.Bus.{handledOf, keeps, enters0, entering, resetCall, served, controlCall}
 use Rattle.calls.specs.Command.{shownOf, showing, hides, isShown, commandCall, offered, steppedOf, stepping, offersNone, isOffered, offering, blockOf, stepCall}
@@ -105,9 +105,9 @@ status-again Failed = refl
 status-again PhaseError = refl
 
 module _ (d : Device) (f : Figure) {s : StatusByte} (h : csw.told s ≡ csw.statusCall (f .status)) where
-  pub figure-refused : s ≡ Refused → stating 12 d ≡ acceptedStatus d f
+  pub figure-refused : s ≡ Refused → {r : Stated} → r ≡ refuses d StatusRefused → statedOf r ≡ acceptedStatus d f
   unfolding acceptedStatus
-  figure-refused e = rw (lt-leb _ _ (status-above (f .status) (sym (ap csw.told e) ∙ h)))
+  figure-refused k e = rw (e, lt-leb _ _ (status-above (f .status) (sym (ap csw.told k) ∙ h)))
 
   pub figure-taken : {c : CommandStatus} → s ≡ Known c → {r : Residue} → r ≡ residueOf (d .wrapper .length) (f .processed)
       → {e : Device} → e ≡ withStatus (Present c r) d → stating 0 e ≡ acceptedStatus d f
@@ -118,18 +118,18 @@ module _ (d : Device) (f : Figure) {s : StatusByte} (h : csw.told s ≡ csw.stat
       rw (le-leb _ _ (known .0), he, hr, same)
 
 module _ (d : Device) (io : List ℕ) (f : Figure) {b : Bool} (h : b ≡ isBroken d (length io)) where
-  pub status-broken : b ≡ true → stating 10 d ≡ setStatusCall d io f
+  pub status-broken : b ≡ true → {r : Stated} → r ≡ refuses d BrokenRecord → statedOf r ≡ setStatusCall d io f
   unfolding setStatusCall
-  status-broken q = stops d io h _ _ q
+  status-broken q e = rw e (stops d io h _ _ q)
 
   module _ (q : b ≡ false) {n : ℕ} (hn : n ≡ stateNumber (d .state)) {t : Bool} (ht : t ≡ takesStatus n) where
     pub status-taken : t ≡ true → (r : Stated) → statedOf r ≡ acceptedStatus d f → statedOf r ≡ setStatusCall d io f
     unfolding setStatusCall
     status-taken p r e = goes-on d io h _ q (rw (← hn, ← ht, p) e)
 
-    pub status-elsewhere : t ≡ false → stating 12 d ≡ setStatusCall d io f
+    pub status-elsewhere : t ≡ false → {r : Stated} → r ≡ refuses d StatusRefused → statedOf r ≡ setStatusCall d io f
     unfolding setStatusCall
-    status-elsewhere p = goes-on d io h _ q (rw (← hn, ← ht, p))
+    status-elsewhere p e = rw e (goes-on d io h _ q (rw (← hn, ← ht, p)))
 
 -- ---- data
 

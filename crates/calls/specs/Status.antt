@@ -3,6 +3,7 @@ use Prim.Native.Nat.{ℕ}
 use mathlib.Core.Bool.{Bool, cond, _||_}
 use mathlib.Core.List.{List}
 use lib.Dec.{eqb, leb}
+use Rattle.answers.specs.declared.Answer.{Answer}
 use Rattle.answers.specs.Answers.{number}
 use Rattle.wrapper.specs.declared.status.CommandStatus.{CommandStatus}
 use Rattle.wrapper.specs.declared.status.CommandStatus.the-variants.{Passed, Failed, PhaseError}
@@ -25,6 +26,10 @@ stating number d = record { number = number; device = d }
 
 abbrev pub statedOf : Stated → Stating
 statedOf r = stating (number (r .answer)) (r .device)
+
+-- what a call returns that took no status
+abbrev pub refuses : Device → Answer → Stated
+refuses d answer = record { device = d; answer = answer }
 
 -- "`set_status` is accepted in 2, 4, 5, 7"
 unfoldable pub takesStatus : ℕ → Bool

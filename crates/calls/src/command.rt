@@ -32,6 +32,7 @@ pub struct Step {
     pub offer: Offer,
 }
 
+// No command is shown.
 fn hidden(answer: Answer) -> Shown
     ensures { λ r. ⌜ r ≡ hides answer ⌝ }
 {
@@ -45,6 +46,7 @@ fn hidden(answer: Answer) -> Shown
     }
 }
 
+// The command, in every state but 0.
 pub fn command(device: Device, io: &[u8]) -> Shown
     ensures { λ r. ⌜ shownOf r ≡ commandCall device (now (io .entry)) ⌝ }
 {
@@ -65,6 +67,7 @@ pub fn command(device: Device, io: &[u8]) -> Shown
     }
 }
 
+// No command is offered.
 fn nothing(answer: Answer) -> Step
     ensures { λ r. ⌜ r ≡ offersNone answer ⌝ }
 {
@@ -101,6 +104,7 @@ fn offers(device: Device) -> bool
     !present(status)
 }
 
+// The command step: the command, decoded, where the firmware is to act on it.
 pub fn command_step(device: Device, io: &[u8]) -> Step
     ensures { λ r. ⌜ steppedOf r ≡ stepCall device (now (io .entry)) ⌝ }
 {

@@ -21,7 +21,7 @@ ghost use mathlib.Core.Path.{_≡_};
 ghost use Prim.Native.Nat.{min};
 ghost use Rattle.device.specs.Device.{withStatus};
 ghost use Rattle.calls.specs.Checks.{isBroken, isIn};
-ghost use Rattle.calls.specs.Status.{takesStatus, statedOf, acceptedStatus, setStatusCall};
+ghost use Rattle.calls.specs.Status.{statedOf, refuses, takesStatus, acceptedStatus, setStatusCall};
 ghost use Rattle.calls.specs.Data.{unmoved, movesTo, movedOf, readCall, writeCall, writeAllCall};
 ghost use Rattle.calls.specs.Bus.{keeps, enters0, handledOf, served, resetCall, controlCall};
 
@@ -124,16 +124,23 @@ fn takes_status(state: u8) -> bool
     state == 7
 }
 
+// No status was taken.
+fn untaken(device: Device, answer: Answer) -> Stated
+    ensures { λ r. ⌜ r ≡ refuses device answer ⌝ }
+{
+    Stated {
+        device: device,
+        answer: answer,
+    }
+}
+
 // In a state that takes one: bytes above 2 are refused.
 fn accept(device: Device, figure: Figure) -> Stated
     ensures { λ r. ⌜ statedOf r ≡ acceptedStatus device figure ⌝ }
 {
     let byte = status_of(figure.status);
     match byte {
-        StatusByte::Refused => Stated {
-            device: device,
-            answer: Answer::StatusRefused,
-        },
+        StatusByte::Refused => untaken(device, Answer::StatusRefused),
         StatusByte::Known(status) => {
             let w = device.wrapper;
             let residue = residue_of(w.length, figure.processed);
@@ -146,23 +153,18 @@ fn accept(device: Device, figure: Figure) -> Stated
     }
 }
 
+// The status of the command; a later one replaces the earlier.
 pub fn set_status(device: Device, io: &[u8], figure: Figure) -> Stated
     ensures { λ r. ⌜ statedOf r ≡ setStatusCall device (now (io .entry)) figure ⌝ }
 {
     if broken(device, io.len()) {
-        return Stated {
-            device: device,
-            answer: Answer::BrokenRecord,
-        };
+        return untaken(device, Answer::BrokenRecord);
     }
     let state = device.state;
     if takes_status(state_number(state)) {
         return accept(device, figure);
     }
-    Stated {
-        device: device,
-        answer: Answer::StatusRefused,
-    }
+    untaken(device, Answer::StatusRefused)
 }
 
 // ---- data
@@ -195,6 +197,7 @@ fn left_at(device: Device, marks: Marks, answer: Answer, count: usize) -> Moved
     }
 }
 
+// The first unread bytes go to dst, as many as it holds.
 pub fn read_data(device: Device, io: &[u8], dst: &mut [u8]) -> Moved
     ensures { λ r. ⌜ movedOf r (now (dst .exit)) ≡ readCall device (now (io .entry)) (now (dst .entry)) ⌝ }
 {
@@ -203,9 +206,9 @@ pub fn read_data(device: Device, io: &[u8], dst: &mut [u8]) -> Moved
     }
     if is_in(device, 7) {
         let marks = device.marks;
-        let t = marked::read(io, marks, dst.len(), dst);
-        let after = t.marks;
-        return left_at(device, after, Answer::Done, t.count);
+        let got = marked::read(io, marks, dst.len(), dst);
+        let after = got.marks;
+        return left_at(device, after, Answer::Done, got.count);
     }
     refused(device, Answer::InvalidState)
 }
@@ -216,6 +219,7 @@ fn least(a: usize, b: usize) -> usize
     if a < b { a } else { b }
 }
 
+// What fits of src goes into the buffer, and at most as much as is left.
 pub fn write_data(device: Device, io: &mut [u8], src: &[u8]) -> Moved
     ensures { λ r. ⌜ movedOf r (now (io .exit)) ≡ writeCall device (now (io .entry)) (now (src .entry)) ⌝ }
 {
@@ -226,13 +230,14 @@ pub fn write_data(device: Device, io: &mut [u8], src: &[u8]) -> Moved
         let marks = device.marks;
         let left = device.left;
         let n = least(left.0 as usize, src.len());
-        let t = marked::write(io, marks, &src[..n]);
-        let after = t.marks;
-        return left_at(device, after, Answer::Done, t.count);
+        let put = marked::write(io, marks, &src[..n]);
+        let after = put.marks;
+        return left_at(device, after, Answer::Done, src.len());
     }
     refused(device, Answer::InvalidState)
 }
 
+// All of src goes into the buffer, or nothing, whatever is left.
 pub fn try_write_data_all(device: Device, io: &mut [u8], src: &[u8]) -> Moved
     ensures { λ r. ⌜ movedOf r (now (io .exit)) ≡ writeAllCall device (now (io .entry)) (now (src .entry)) ⌝ }
 {
@@ -241,9 +246,9 @@ pub fn try_write_data_all(device: Device, io: &mut [u8], src: &[u8]) -> Moved
     }
     if is_in(device, 4) {
         let marks = device.marks;
-        let t = marked::write_all(io, marks, 0, src);
-        let after = t.marks;
-        if t.done {
+        let all = marked::write_all(io, marks, 0, src);
+        let after = all.marks;
+        if all.done {
             return left_at(device, after, Answer::Done, src.len());
         }
         // A refusal keeps the move.
@@ -272,7 +277,7 @@ fn kept(device: Device, answer: Answer, reply: Reply) -> Handled
 fn enter(device: Device) -> Handled
     ensures { λ r. ⌜ r ≡ enters0 device ⌝ }
 {
-    let marks = device.marks;
+    let unread = device.marks;
     let wrapper = device.wrapper;
     Handled {
         device: Device {
@@ -280,7 +285,7 @@ fn enter(device: Device) -> Handled
             maxlun: device.maxlun,
             size: device.size,
             state: State::CommandTransfer,
-            marks: marks,
+            marks: unread,
             wrapper: wrapper,
             status: Status::Absent,
             left: Left(0),
@@ -293,6 +298,7 @@ fn enter(device: Device) -> Handled
     }
 }
 
+// The bus was reset.
 pub fn reset(device: Device, io: &[u8]) -> Handled
     ensures { λ r. ⌜ handledOf r ≡ resetCall device (now (io .entry)) ⌝ }
 {
@@ -315,6 +321,7 @@ fn serve(device: Device, request: u8) -> Handled
     kept(device, Answer::Done, Reply::Nothing)
 }
 
+// A control request, of which the device sees only those to the host.
 pub fn control(device: Device, io: &[u8], request: Request) -> Handled
     ensures { λ r. ⌜ handledOf r ≡ controlCall device (now (io .entry)) request ⌝ }
 {

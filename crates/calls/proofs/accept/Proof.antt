@@ -1,4 +1,4 @@
--- `calls::accept` meets its contract. Assumes nothing.
+-- `calls::accept` meets its contract: a byte that is known stands for its own status. Assumes nothing.
 use borrow.Author.Needs.{needs}
 use Rattle.calls.proofs.Laws.{ways}
 use Rattle.calls.proofs.accept.Statement.{statement}
@@ -9,6 +9,9 @@ status-of-requires c κs = search needs
 
 enum-told : tie.Need-enum-told
 enum-told c = search needs
+
+untaken-requires : tie.Need-untaken-requires
+untaken-requires c κs = search needs
 
 enum-known-byte : tie.Need-enum-known-byte
 enum-known-byte c = search needs
@@ -26,4 +29,4 @@ returns-2 : tie.Need-returns-2
 returns-2 c = search (ways, needs)
 
 pub accept-spec : {M : Type 1} → statement M
-accept-spec = tie.close (tie.spec status-of-requires enum-told enum-known-byte residue-of-requires with-status-requires returns returns-2)
+accept-spec = tie.close (tie.spec status-of-requires enum-told untaken-requires enum-known-byte residue-of-requires with-status-requires returns returns-2)

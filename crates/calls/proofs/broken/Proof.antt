@@ -1,4 +1,4 @@
--- `calls::broken` meets its contract. Assumes nothing.
+-- `calls::broken` meets its contract: broken is not whole. Assumes nothing.
 use borrow.Author.Needs.{needs}
 use Rattle.calls.proofs.Laws.{ways}
 use Rattle.calls.proofs.broken.Statement.{statement}

@@ -1,4 +1,4 @@
--- `calls::control` meets its contract. Assumes nothing.
+-- `calls::control` meets its contract: one law for each way, by the request type. Assumes nothing.
 use borrow.Author.Needs.{needs}
 use Rattle.calls.proofs.Laws.{ways}
 use Rattle.calls.proofs.control.Statement.{statement}

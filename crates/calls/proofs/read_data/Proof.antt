@@ -1,4 +1,4 @@
--- `calls::read_data` meets its contract. Assumes nothing.
+-- `calls::read_data` meets its contract: a record that is not broken has sound marks, so the buffer may be read. Assumes nothing.
 use borrow.Author.Needs.{needs}
 use Rattle.calls.proofs.Laws.{ways}
 use Rattle.calls.proofs.read_data.Statement.{statement}

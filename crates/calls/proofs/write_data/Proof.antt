@@ -1,4 +1,4 @@
--- `calls::write_data` meets its contract. Assumes nothing.
+-- `calls::write_data` meets its contract: a source cut to min(left, its length) is cut to left. Assumes nothing.
 use mathlib.Core.Path.{sym}
 use borrow.Author.Needs.{needs}
 use Rattle.calls.proofs.Laws.{length-cut, ways}

@@ -1,4 +1,4 @@
--- `calls::command::command_step` meets its contract. Assumes nothing.
+-- `calls::command::command_step` meets its contract: a record that is not broken has a block of at most 16 bytes. Assumes nothing.
 use borrow.Author.Needs.{needs}
 use Rattle.calls.proofs.Laws.{ways}
 use Rattle.calls.proofs.command.command_step.Statement.{statement}
