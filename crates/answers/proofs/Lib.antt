@@ -1,2 +1,4 @@
--- proofs.Laws   what the way with a payload owes
+-- proofs.Laws    what each way through a function owes
+-- proofs.Unique  no second answer satisfies a promise; a number tells its answer
 pub mod Laws
+pub mod Unique

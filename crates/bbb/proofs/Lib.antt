@@ -2,7 +2,9 @@
 -- proofs.Acting    what each way through an act owes
 -- proofs.Same      open, decide, act is the poll of document 01
 -- proofs.Polling   what each way through a poll owes
+-- proofs.Unique    no second answer satisfies a promise
 pub mod Opening
 pub mod Acting
 pub mod Same
 pub mod Polling
+pub mod Unique

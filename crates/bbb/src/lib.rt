@@ -3,8 +3,8 @@
 //     open     where the chain of handlers reaches the wrapper: a packet is read and its 31 bytes are looked at
 //     decide   the ring of handlers, in a crate of its own
 //     act      in one place: what crosses the wire
-pub mod act;
-pub mod open;
+mod act;
+mod open;
 
 use crate::act::act;
 use crate::open::Opened;

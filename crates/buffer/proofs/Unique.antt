@@ -99,7 +99,7 @@ read-only κs a x y s t p q = (told-once _ x y _ _ (p .0) (q .0) .0, p .1 ∙ sy
 -- ---- marked and span
 
 -- a buffer that is left tells its bytes and its marks
-left-once : {b c : List ℕ} {m l : Marks} {t : Buffer} → Leaves (buffer b m) t → Leaves (buffer c l) t → (m ≡ l) × (b ≡ c)
+pub left-once : {b c : List ℕ} {m l : Marks} {t : Buffer} → Leaves (buffer b m) t → Leaves (buffer c l) t → (m ≡ l) × (b ≡ c)
 left-once p q =
     let e = p .same ∙ sym (q .same) in
     (ap (λ (s : Buffer). s .marks) e, ap (λ (s : Buffer). s .bytes) e)

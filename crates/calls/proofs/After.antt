@@ -1,11 +1,12 @@
 -- What callers may use: what is so after a call, for any record, or for a whole one where it says so.
+--     stops         a broken record
 --     ..-keeps      what of the record is as before, whatever the answer
 --     ..-done       what a call comes to on a whole record, where it is accepted
 --     ..-unread     the unread bytes after it
 --     ..-whole      a whole record stays whole, over the IO buffer that the call leaves
 -- Assumes nothing.
 use mathlib.Core.Path.{_≡_, refl, sym, ap, _∙_, subst}
-use mathlib.Core.Bool.{true, false, not, cond}
+use mathlib.Core.Bool.{Bool, true, false, not, cond}
 use mathlib.Core.List.{List, [], _∷_, _++_}
 use Prim.Native.Nat.{ℕ, _≤_, min, zero-le}
 use native.Mathlib.Nat.{min-le-left, min-le-right, max-eq-right}
@@ -61,6 +62,11 @@ module _ (d : Device) (io : List ℕ) (w : Whole (numbersOf d) (length io)) wher
   whole-entered : Whole (numbersOf (entering0 d)) (length io)
   whole-entered = record { lent = w .lent; created = w .created; order = w .order; within = w .within; block = w .block; lun = w .lun; status = refl }
 
+-- 10 comes first: what a call does with a broken record is its refusal
+pub stops : {A : Type 0} (d : Device) (io : List ℕ) (refused done : A) → isBroken d (length io) ≡ true → unlessBroken d io refused done ≡ refused
+unfolding unlessBroken
+stops d io refused done h = rw h
+
 -- what holds of a refusal and of what is done holds of a call
 either : {A : Type 0} (P : A → Type 0) (d : Device) (io : List ℕ) {refused done : A} → P refused → P done → P (unlessBroken d io refused done)
 unfolding unlessBroken
@@ -103,10 +109,10 @@ module _ (d : Device) (io : List ℕ) (f : Figure) where
   unfolding setStatusCall acceptedStatus
   status-done w t h = passes d io w _ _ ∙ rw (t, le-leb _ _ h)
 
-  -- "a later one replaces the earlier"
-  pub status-later : (g : Figure) → withFigure f (withFigure g d) ≡ withFigure f d
-  unfolding withFigure
-  status-later g = refl
+-- "a later one replaces the earlier"
+pub status-later : (d : Device) (f g : Figure) → withFigure f (withFigure g d) ≡ withFigure f d
+unfolding withFigure
+status-later d f g = refl
 
 -- ---- data
 
@@ -125,7 +131,7 @@ module _ (state : ℕ) (d : Device) (io bytes : List ℕ) (done : Moving) (w : W
   unfolding worksIn
   data-elsewhere h = passes d io w _ _ ∙ rw h
 
--- whatever the answer, of the record only the marks change, and of a read no IO byte
+-- whatever the answer, all of the record but the marks: put the old ones back, and the record is the old one
 pub read-keeps : (d : Device) (io dst : List ℕ) → withMarks (d .marks) (readCall d io dst .device) ≡ d
 unfolding readOut
 read-keeps d io dst = by-data (λ (o : Moving). withMarks (d .marks) (o .device) ≡ d) 7 d io dst _ (λ _. refl) refl
@@ -139,6 +145,12 @@ unfolding writeAllIn
 write-all-keeps d io src =
     let P : Moving → Type 0 = λ (o : Moving). withMarks (d .marks) (o .device) ≡ d in
     by-data P 4 d io io _ (λ _. refl) (of-picked P (lacksRoom (length src) (bufferOf d io)) (λ _. refl) (λ _. refl))
+
+-- the number and the count of all or nothing
+all-told : (b : Bool) (n : ℕ) (d : Device) (t : Buffer)
+    → (cond b (leaving 1 0 d t) (leaving 0 n d t) .number ≡ cond b 1 0) × (cond b (leaving 1 0 d t) (leaving 0 n d t) .count ≡ cond b 0 n)
+all-told true n d t = (refl, refl)
+all-told false n d t = (refl, refl)
 
 -- on a whole record
 module _ (d : Device) (io : List ℕ) (w : Whole (numbersOf d) (length io)) where
@@ -201,7 +213,14 @@ module _ (d : Device) (io : List ℕ) (w : Whole (numbersOf d) (length io)) wher
           subst (λ (o : Moving). unreadBytes (bufferOf (o .device) (o .bytes)) ≡ unreadBytes (bufferOf d io) ++ take (o .count) ys) (sym (data-done 4 d io io _ w h))
           (unread-written ys (bufferOf d io) (sound d io w))
 
-      -- all of the source, or none
+      -- all of the source, or none: 0 and its length, or 1 and 0
+      pub write-all-told : (writeAllCall d io src .number ≡ cond (lacksRoom (length src) (bufferOf d io)) 1 0) × (writeAllCall d io src .count ≡ cond (lacksRoom (length src) (bufferOf d io)) 0 (length src))
+      unfolding writeAllIn
+      write-all-told =
+          let t : Buffer = writtenAll 0 src (bufferOf d io) in
+          subst (λ (o : Moving). (o .number ≡ cond (lacksRoom (length src) (bufferOf d io)) 1 0) × (o .count ≡ cond (lacksRoom (length src) (bufferOf d io)) 0 (length src)))
+          (sym (data-done 4 d io io _ w h)) (all-told (lacksRoom (length src) (bufferOf d io)) (length src) d t)
+
       pub write-all-unread : unreadBytes (bufferOf (writeAllCall d io src .device) (writeAllCall d io src .bytes))
           ≡ cond (lacksRoom (length src) (bufferOf d io)) (unreadBytes (bufferOf d io)) (unreadBytes (bufferOf d io) ++ src)
       unfolding writeAllIn
@@ -214,9 +233,9 @@ module _ (d : Device) (io : List ℕ) (w : Whole (numbersOf d) (length io)) wher
 
 module _ (d : Device) (io : List ℕ) where
   -- "it does not empty the buffer": the marks stay, and so do the unread bytes
-  pub reset-keeps : resetCall d io .device .marks ≡ d .marks
+  pub reset-keeps : bufferOf (resetCall d io .device) io ≡ bufferOf d io
   unfolding resetCall entering
-  reset-keeps = either (λ (o : Handling). o .device .marks ≡ d .marks) d io refl refl
+  reset-keeps = either (λ (o : Handling). bufferOf (o .device) io ≡ bufferOf d io) d io refl refl
 
   pub reset-done : Whole (numbersOf d) (length io) → resetCall d io ≡ entering d
   unfolding resetCall
@@ -235,9 +254,9 @@ module _ (d : Device) (io : List ℕ) where
         (λ _. of-picked P (eqb (q .request) 0xFF) (λ _. e) (λ _. of-picked P (eqb (q .request) 0xFE) (λ _. p 0 (d .maxlun ∷ [])) (λ _. p 0 [])))
         (λ _. p 0 []))
 
-    pub control-keeps : controlCall d io q .device .marks ≡ d .marks
+    pub control-keeps : bufferOf (controlCall d io q .device) io ≡ bufferOf d io
     unfolding entering
-    control-keeps = by-request (λ (o : Handling). o .device .marks ≡ d .marks) (λ _ _. refl) refl
+    control-keeps = by-request (λ (o : Handling). bufferOf (o .device) io ≡ bufferOf d io) (λ _ _. refl) refl
 
     pub control-whole : Whole (numbersOf d) (length io) → Whole (numbersOf (controlCall d io q .device)) (length io)
     unfolding entering

@@ -60,7 +60,7 @@ stands n d h = ap (λ (x : ℕ). eqb x n) h
 
 -- what a record that is not broken gives
 module _ (d : Device) (len : ℕ) {b : Bool} (h : b ≡ isBroken d len) (q : b ≡ false) where
-  pub whole-then : Whole (numbersOf d) len
+  whole-then : Whole (numbersOf d) len
   unfolding isBroken
   whole-then = is-whole (numbersOf d) len (not-false (isWhole (numbersOf d) len) (sym h ∙ q))
 

@@ -232,7 +232,7 @@ pub fn write_data(device: Device, io: &mut [u8], src: &[u8]) -> Moved
         let n = least(left.0 as usize, src.len());
         let put = marked::write(io, marks, &src[..n]);
         let after = put.marks;
-        return left_at(device, after, Answer::Done, src.len());
+        return left_at(device, after, Answer::Done, put.count);
     }
     refused(device, Answer::InvalidState)
 }
@@ -321,7 +321,7 @@ fn serve(device: Device, request: u8) -> Handled
     kept(device, Answer::Done, Reply::Nothing)
 }
 
-// A control request, of which the device sees only those to the host.
+// A control request: only those to the host, of the class and for an interface, count.
 pub fn control(device: Device, io: &[u8], request: Request) -> Handled
     ensures { λ r. ⌜ handledOf r ≡ controlCall device (now (io .entry)) request ⌝ }
 {

@@ -1,5 +1,5 @@
--- What it is that a contract has no second answer, for any function of any crate. Assumes nothing: this is a definition.
-use mathlib.Core.Path.{_≡_}
+-- What it is that a contract has no second answer, for any function of any crate. Assumes nothing.
+use mathlib.Core.Path.{_≡_, sym, ap, _∙_}
 use mathlib.Core.List.{List}
 use Prim.Native.Nat.{ℕ}
 use contract.Lifetimes.{Lfts}
@@ -11,3 +11,7 @@ abbrev pub Only : {B : Type 0} (n : ℕ) (ps : List (PK n)) (r : RK n) → Out n
 Only n ps r Post look =
     (κs : Lfts n) (a : Dens κs ps) (x y : resT r κs .Denot) (s t : AtExit (endedOf n ps r) κs)
     → Post κs a x s → Post κs a y t → (x ≡ y) × (look κs s ≡ look κs t)
+
+-- What is told of an answer tells the answer, where something takes it back.
+pub once : {A B : Type 0} (told : A → B) (untold : B → A) → ((x : A) → untold (told x) ≡ x) → (x y : A) {o : B} → told x ≡ o → told y ≡ o → x ≡ y
+once told untold back x y p q = sym (back x) ∙ ap untold (p ∙ sym q) ∙ back y

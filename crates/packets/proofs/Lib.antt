@@ -1,2 +1,4 @@
--- proofs.Laws    what each way through a function owes; what callers may use
+-- proofs.Laws    what each way through a function owes
+-- proofs.Unique  no second answer satisfies a promise
 pub mod Laws
+pub mod Unique
