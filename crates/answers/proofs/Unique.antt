@@ -1,5 +1,5 @@
 -- No second answer satisfies a promise. `Post` is the contract itself, as the check reads it. For that, document 01's number tells the
--- answer (`number-once`), and number and number carried tell the outcome (`told-once`). Assumes nothing.
+-- answer (`named-number`), and number and number carried tell the outcome (`untold-told`). Assumes nothing.
 use mathlib.Core.Path.{_≡_, refl, sym, _∙_}
 use mathlib.Core.Bool.{cond}
 use Prim.Native.Nat.{ℕ}
@@ -20,7 +20,7 @@ use Rattle.answers.proofs.answered.Reads as answered
 use Rattle.answers.proofs.asked.Kinds as asked-kinds
 use Rattle.answers.proofs.asked.Reads as asked
 
-named : ℕ → Answer
+pub named : ℕ → Answer
 named n =
     cond (eqb n 0) Done
     (cond (eqb n 1) IoBufferOverflow
@@ -36,7 +36,7 @@ named n =
     (cond (eqb n 11) PacketRefused
     (cond (eqb n 12) StatusRefused EmptyBlock))))))))))))
 
-named-number : (a : Answer) → named (number a) ≡ a
+pub named-number : (a : Answer) → named (number a) ≡ a
 unfolding named
 named-number Done = refl
 named-number IoBufferOverflow = refl
@@ -53,13 +53,10 @@ named-number PacketRefused = refl
 named-number StatusRefused = refl
 named-number EmptyBlock = refl
 
-pub number-once : (a b : Answer) {n : ℕ} → number a ≡ n → number b ≡ n → a ≡ b
-number-once a b p q = once (λ (x : Answer). number x) named named-number a b p q
-
-untold : Told → Outcome
+pub untold : Told → Outcome
 untold t = record { answer = named (t .number); carried = t .carried }
 
-untold-told : (o : Outcome) → untold (told o) ≡ o
+pub untold-told : (o : Outcome) → untold (told o) ≡ o
 unfolding untold told
 untold-told o = rw (named-number (o .answer))
 

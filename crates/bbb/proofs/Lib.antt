@@ -3,8 +3,12 @@
 -- proofs.Same      open, decide, act is the poll of document 01
 -- proofs.Polling   what each way through a poll owes
 -- proofs.Unique    no second answer satisfies a promise
+-- proofs.Keeping   what no poll changes: a whole record stays whole, sizes and lengths stay
+-- proofs.After     what is unread, left and sent after each way in which a poll ends
 pub mod Opening
 pub mod Acting
 pub mod Same
 pub mod Polling
 pub mod Unique
+pub mod Keeping
+pub mod After

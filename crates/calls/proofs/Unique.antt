@@ -1,15 +1,11 @@
 -- No second answer satisfies a promise: what the `ensures` of a public call says is true of one answer alone, and of one content of
 -- the slice that it may write to. `Post` is the contract itself, as the check reads it. Assumes nothing.
 use mathlib.Core.Path.{_≡_, refl, sym, ap, _∙_}
-use mathlib.Core.Bool.{cond}
 use mathlib.Core.List.{List, [], _∷_}
 use Prim.Native.Nat.{ℕ}
-use lib.Dec.{eqb}
 use denote.Ref.{now}
-use Rattle.fields.proofs.Only.{Only}
-use Rattle.answers.specs.declared.Answer.{Answer}
-use Rattle.answers.specs.declared.Answer.the-variants.{Done, IoBufferOverflow, InvalidMaxLun, InvalidState, FullPacketExpected, BufferTooSmall, WouldBlock, EndpointError, PacketSizeRefused, BufferTooLarge, BrokenRecord, PacketRefused, StatusRefused, EmptyBlock}
-use Rattle.answers.specs.Answers.{number}
+use Rattle.fields.proofs.Only.{Only, once}
+use Rattle.answers.proofs.Unique.{named, named-number}
 use Rattle.calls.specs.declared.Stated.{Stated}
 use Rattle.calls.specs.declared.Moved.{Moved}
 use Rattle.calls.specs.declared.Reply.{Reply}
@@ -41,44 +37,6 @@ use Rattle.calls.proofs.command.command_step.Kinds as command-step-kind
 use Rattle.calls.proofs.command.command_step.Reads as command-step
 
 -- ---- what is told of an answer tells the answer
-
--- `untold` takes back what `told` did
-once : {A B : Type 0} (told : A → B) (untold : B → A) → ((x : A) → untold (told x) ≡ x) → (x y : A) {o : B} → told x ≡ o → told y ≡ o → x ≡ y
-once told untold back x y p q = sym (back x) ∙ ap untold (p ∙ sym q) ∙ back y
-
--- document 01's number names the answer
-named : ℕ → Answer
-named n =
-    cond (eqb n 0) Done
-    (cond (eqb n 1) IoBufferOverflow
-    (cond (eqb n 2) InvalidMaxLun
-    (cond (eqb n 3) InvalidState
-    (cond (eqb n 4) FullPacketExpected
-    (cond (eqb n 5) BufferTooSmall
-    (cond (eqb n 6) WouldBlock
-    (cond (eqb n 7) EndpointError
-    (cond (eqb n 8) PacketSizeRefused
-    (cond (eqb n 9) BufferTooLarge
-    (cond (eqb n 10) BrokenRecord
-    (cond (eqb n 11) PacketRefused
-    (cond (eqb n 12) StatusRefused EmptyBlock))))))))))))
-
-named-number : (a : Answer) → named (number a) ≡ a
-unfolding named
-named-number Done = refl
-named-number IoBufferOverflow = refl
-named-number InvalidMaxLun = refl
-named-number InvalidState = refl
-named-number FullPacketExpected = refl
-named-number BufferTooSmall = refl
-named-number WouldBlock = refl
-named-number EndpointError = refl
-named-number PacketSizeRefused = refl
-named-number BufferTooLarge = refl
-named-number BrokenRecord = refl
-named-number PacketRefused = refl
-named-number StatusRefused = refl
-named-number EmptyBlock = refl
 
 -- a status
 abbrev unstated : Stating → Stated
@@ -143,7 +101,7 @@ unstepped-stepped x = rw (named-number (x .answer), unoffered-offered (x .offer)
 pub set-status-only : Only 1 set-status-kinds.ps set-status-kinds.r set-status.Post (λ κs s. tt {0})
 set-status-only κs a x y s t p q = (once statedOf unstated unstated-stated x y p q, refl)
 
-pub read-data-only : Only 2 read-data-kinds.ps read-data-kinds.r read-data.Post (λ κs s. now (s .1 .1 .0))
+pub read-data-only : Only 2 read-data-kinds.ps read-data-kinds.r read-data.Post (λ κs s. now (s .1 .0))
 read-data-only κs a x y s t p q = moved-once x y _ _ p q
 
 pub write-data-only : Only 2 write-data-kinds.ps write-data-kinds.r write-data.Post (λ κs s. now (s .1 .0))

@@ -198,7 +198,7 @@ fn left_at(device: Device, marks: Marks, answer: Answer, count: usize) -> Moved
 }
 
 // The first unread bytes go to dst, as many as it holds.
-pub fn read_data(device: Device, io: &[u8], dst: &mut [u8]) -> Moved
+pub fn read_data(device: Device, dst: &mut [u8], io: &[u8]) -> Moved
     ensures { λ r. ⌜ movedOf r (now (dst .exit)) ≡ readCall device (now (io .entry)) (now (dst .entry)) ⌝ }
 {
     if broken(device, io.len()) {

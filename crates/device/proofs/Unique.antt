@@ -1,9 +1,7 @@
 -- No second answer satisfies a promise. `Post` is the contract itself, as the check reads it. Assumes nothing.
-use mathlib.Core.Path.{_≡_, refl, sym, ap, _∙_}
-use Rattle.fields.proofs.Only.{Only}
-use Rattle.answers.specs.declared.Answer.{Answer}
-use Rattle.answers.proofs.Unique.{number-once}
-use Rattle.device.specs.declared.Device.{Device}
+use mathlib.Core.Path.{_≡_, refl, sym, _∙_}
+use Rattle.fields.proofs.Only.{Only, once}
+use Rattle.answers.proofs.Unique.{named, named-number}
 use Rattle.device.specs.declared.create.Created.{Created}
 use Rattle.device.specs.Create.{Creation, createdOf}
 use Rattle.device.proofs.present.Kinds as present-kinds
@@ -15,14 +13,12 @@ use Rattle.device.proofs.whole.Reads as whole
 use Rattle.device.proofs.create.create.Kinds as create-kinds
 use Rattle.device.proofs.create.create.Reads as create
 
-abbrev created : Answer → Device → Created
-created a d = record { answer = a; device = d }
+-- 01's number tells the answer
+abbrev uncreated : Creation → Created
+uncreated c = record { answer = named (c .number); device = c .device }
 
-create-once : (x y : Created) {c : Creation} → createdOf x ≡ c → createdOf y ≡ c → x ≡ y
-create-once x y p q =
-    let e = p ∙ sym q in
-    ap (λ (a : Answer). created a (x .device)) (number-once (x .answer) (y .answer) (ap (λ (c : Creation). c .number) e) refl)
-    ∙ ap (created (y .answer)) (ap (λ (c : Creation). c .device) e)
+uncreated-created : (x : Created) → uncreated (createdOf x) ≡ x
+uncreated-created x = rw (named-number (x .answer))
 
 pub present-only : Only 0 present-kinds.ps present-kinds.r present.Post (λ κs s. tt {0})
 present-only κs a x y s t p q = (p ∙ sym q, refl)
@@ -34,4 +30,4 @@ pub whole-only : Only 0 whole-kinds.ps whole-kinds.r whole.Post (λ κs s. tt {0
 whole-only κs a x y s t p q = (p ∙ sym q, refl)
 
 pub create-only : Only 0 create-kinds.ps create-kinds.r create.Post (λ κs s. tt {0})
-create-only κs a x y s t p q = (create-once x y p q, refl)
+create-only κs a x y s t p q = (once createdOf uncreated uncreated-created x y p q, refl)

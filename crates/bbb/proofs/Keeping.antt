@@ -1,0 +1,327 @@
+-- What no poll changes, whatever its state and the endpoints' answers: one fact for all of it, carried through every rule.
+--     poll-whole, call-whole    a whole record stays whole, over the IO buffer that a poll leaves
+--     poll-sizes, call-sizes    P, max LUN, the recorded size and the lengths of both buffers stay; at most two packets are taken, P bytes sent
+--     call-done                 on a whole record, with packets that fit, the call is the poll
+-- Assumes nothing.
+use mathlib.Core.Path.{_≡_, refl, sym, _∙_}
+use mathlib.Core.Bool.{Bool, true, false, _&&_}
+use mathlib.Core.List.{List}
+use Prim.Native.Nat.{ℕ, _/_, _^_, _≤_, zero-le}
+use native.Mathlib.Nat.{min-le-left, min-le-right, mod-lt}
+use native.Mathlib.Omega.{arith}
+use lib.Dec.{eqb, leb, lit<}
+use lib.ListN.{length, getD, length-take}
+use borrow.Author.Tests.{leb-true, le-leb}
+use Rattle.fields.specs.Field.{getBits}
+use Rattle.fields.proofs.Bools.{and-right, not-true, of-picked}
+use Rattle.fields.proofs.Overlay.{length-overlay}
+use Rattle.buffer.specs.Buffer.{Buffer, Sound, buffer, at, unread, unreadBytes, emptied, ready, given, readOff}
+use Rattle.buffer.proofs.Kept.{length-written, sound-written, length-filled, sound-filled, length-writtenAll, sound-writtenAll, sound-readOff, sound-emptied}
+use Rattle.answers.specs.declared.Endpoint.{Endpoint}
+use Rattle.answers.specs.Answers.{Told, no, endpointOf}
+use Rattle.ring.specs.declared.State.{State}
+use Rattle.ring.specs.declared.State.the-variants.{CommandTransfer, CommandTransferInvalid, DataTransferNoData, StatusTransfer, DataTransferToHost, DataTransferToHostStatusAwait, DataTransferToHostEnding, DataTransferFromHost, DataTransferFromHostEnding}
+use Rattle.ring.specs.Ring.{byDirection}
+use Rattle.wrapper.specs.declared.DataDirection.{DataDirection}
+use Rattle.wrapper.specs.declared.DataDirection.the-variants.{Out, In, NotExpected}
+use Rattle.wrapper.specs.declared.Wrapper.{Wrapper}
+use Rattle.wrapper.specs.declared.counters.Left.{Left}
+use Rattle.wrapper.specs.Status.{statusNumber, statusBytes}
+use Rattle.wrapper.specs.Wrapper.{isValid, wrapperOf}
+use Rattle.wrapper.proofs.Cbw.{is-valid}
+use Rattle.packets.specs.Packets.{handed, readTold, takesOne, brought, received, accepted, sentCount, sentOff, sentInto, filledUp, withStatus}
+use Rattle.packets.proofs.Laws.{moves-most}
+use Rattle.device.specs.declared.Status.{Status}
+use Rattle.device.specs.declared.Status.the-variants.{Absent, Present}
+use Rattle.device.specs.declared.Device.{Device}
+use Rattle.device.specs.Device.{isPresent, numbersOf, withLeft, withWrapper, entering0}
+use Rattle.device.specs.Broken.{statusFits, Whole, isWhole}
+use Rattle.device.proofs.Wholly.{is-whole, whole-is, whole-sound}
+use Rattle.bbb.specs.Poll.{Given, Polling, Point, point, bufferAt, reaching, leaving, lowered, counting, ending, statusBy, sendStatus, dataBy, sendData, offers, offeredBy, takeBy, takeData, statusPut, enterStatus, statusAwaitRule, noDataRule, toHostEndingRule, fallsShort, toHostRule, fromHostEndingRule, fromHostRule, startRule, messageAt, behind31, parseRule, readBy, readOneBy, readCbwRule, statusTransferRule, invalidRule, ruleIn, pollRule, Fits, isFitting, refusing, pollCall}
+use Rattle.bbb.proofs.Polling.{fits-all, is-fitting}
+
+-- ---- the buffer that a step leaves: its marks are sound, and it is as long as before
+
+record Follows (t s : Buffer) : Type 0 where
+  sound : Sound t
+  long : length (t .bytes) ≡ length (s .bytes)
+
+follows-sent : (p : ℕ) (e : Endpoint) (s : Buffer) → Sound s → Follows (sentOff p e s) s
+unfolding sentOff readOff
+follows-sent p e s h = record { sound = sound-readOff (accepted e p) s h; long = refl }
+
+follows-received : (p : ℕ) (e : Endpoint) (packet : List ℕ) (s : Buffer) → Sound s → Follows (received p e packet s) s
+unfolding received
+follows-received p e packet s h = record { sound = sound-writtenAll p (handed e packet) s h; long = length-writtenAll p (handed e packet) s h }
+
+follows-filled : (p : ℕ) (left : Left) (s : Buffer) → Sound s → Follows (filledUp p left s) s
+unfolding filledUp
+follows-filled p left s h = record { sound = sound-filled 0xFF _ s h; long = length-filled 0xFF _ s h }
+
+follows-status : (tag : ℕ) (status : Status) (s : Buffer) → Follows (statusPut tag status s) s
+unfolding statusPut withStatus emptied
+follows-status tag Absent s = record { sound = sound-emptied s; long = refl }
+follows-status tag (Present status residue) s =
+    let ys : List ℕ = statusBytes tag residue (statusNumber status) in
+    record { sound = sound-written ys (emptied s) (sound-emptied s); long = length-written ys (emptied s) (sound-emptied s) }
+
+follows-31 : (s : Buffer) → Sound s → 31 ≤ unread s → Follows (behind31 s) s
+follows-31 s h k = record { sound = record { order = omega (arith, h .order); within = h .within }; long = refl }
+
+follows-clean : (s : Buffer) → Follows (buffer (s .bytes) (at 0 0)) s
+follows-clean s = record { sound = record { order = zero-le; within = zero-le }; long = refl }
+
+-- ---- a packet that is sent
+
+sent-most : (p : ℕ) (e : Endpoint) (s : Buffer) → sentCount p e s ≤ p
+unfolding sentCount ready
+sent-most p e s = omega (arith, min-le-right (unread s) (accepted e p), moves-most e p refl)
+
+sent-length : (p : ℕ) (e : Endpoint) (s : Buffer) (packet : List ℕ) → p ≤ length packet → length (sentInto p e s packet) ≡ length packet
+unfolding sentInto sentCount given
+sent-length p e s packet h =
+    length-overlay packet 0 (given (accepted e p) s)
+    (omega (arith, sent-most p e s, length-take (ready (accepted e p) s) (unreadBytes s), min-le-left (ready (accepted e p) s) (length (unreadBytes s))))
+
+-- ---- a wrapper that is valid
+
+block-most : (m : List ℕ) → isValid m ≡ true → wrapperOf m .blocklength ≤ 16
+unfolding wrapperOf
+block-most m h = is-valid m h .most
+
+lun-most : (m : List ℕ) → wrapperOf m .lun ≤ 15
+unfolding wrapperOf getBits
+lun-most m = omega (arith, mod-lt (getD m 13 0 / 2 ^ 0) {m = 2 ^ 4} (lit< tt))
+
+-- ---- the points of a poll of d, over an IO buffer of len bytes: all that makes a record whole but the status, which goes by the state
+-- where the poll ends; and what never changes
+
+record Standing (d : Device) (len p top bytes : ℕ) (s : Buffer) (unit blocklength : ℕ) : Type 0 where
+  packetsize : p ≡ d .packetsize
+  maxlun : top ≡ d .maxlun
+  size : bytes ≡ d .size
+  long : length (s .bytes) ≡ len
+  sound : Sound s
+  lun : unit ≤ 15
+  block : blocklength ≤ 16
+
+abbrev Stands : Device → ℕ → Point → Type 0
+Stands d len x = Standing d len (x .device .packetsize) (x .device .maxlun) (x .device .size) (bufferAt x) (x .device .wrapper .lun) (x .device .wrapper .blocklength)
+
+-- whether the state where a poll ends fits the status
+abbrev Fitting : Point → Type 0
+Fitting x = statusFits (x .device .state) (isPresent (x .device .status)) ≡ true
+
+-- What no poll of d changes, over an IO buffer of len bytes and with a packet buffer of n; and how much it takes and sends at most.
+pub record Sizes (d : Device) (len n : ℕ) (o : Polling) : Type 0 where
+  pub packetsize : o .device .packetsize ≡ d .packetsize
+  pub maxlun : o .device .maxlun ≡ d .maxlun
+  pub size : o .device .size ≡ d .size
+  pub io : length (o .io) ≡ len
+  pub packet : length (o .packet) ≡ n
+  pub taken : o .taken ≤ 2
+  pub sent : o .sent ≤ d .packetsize
+
+-- What every rule keeps.
+record Kept (d : Device) (len n : ℕ) (o : Polling) : Type 0 where
+  whole : Whole (numbersOf (o .device)) (length (o .io))
+  sizes : d .packetsize ≤ n → Sizes d len n o
+
+module _ (d : Device) (len : ℕ) (w : Whole (numbersOf d) len) (g : Given) where
+  abbrev Keeps : Polling → Type 0
+  Keeps o = Kept d len (length (g .packet)) o
+
+  stands-left : (x : Point) (b : Buffer) → Stands d len x → Follows b (bufferAt x) → Stands d len (leaving b x)
+  stands-left x b h f = record { packetsize = h .packetsize; maxlun = h .maxlun; size = h .size; long = f .long ∙ h .long; sound = f .sound; lun = h .lun; block = h .block }
+
+  -- ---- the ends
+
+  kept-end : (x : Point) → Stands d len x → Fitting x → x .taken ≤ 2 → (t : Told) (k : ℕ) → k ≤ d .packetsize → (stalled : Bool) (packet : List ℕ)
+      → (d .packetsize ≤ length (g .packet) → length packet ≡ length (g .packet)) → Keeps (ending x t k stalled packet)
+  kept-end x h f taken t k sent stalled packet same = record {
+    whole = record {
+      lent = h .size ∙ w .lent ∙ sym (h .long);
+      created = rw (h .packetsize, h .maxlun, h .size) (w .created);
+      order = h .sound .order;
+      within = omega (arith, h .sound .within, h .long, h .size, w .lent);
+      block = h .block;
+      lun = h .lun;
+      status = f;
+    };
+    sizes = λ into. record { packetsize = h .packetsize; maxlun = h .maxlun; size = h .size; io = h .long; packet = same into; taken = taken; sent = sent };
+  }
+
+  kept-rest : (x : Point) → Stands d len x → Fitting x → x .taken ≤ 2 → (t : Told) (stalled : Bool) → Keeps (ending x t 0 stalled (g .packet))
+  kept-rest x h f taken t stalled = kept-end x h f taken t 0 zero-le stalled (g .packet) (λ _. refl)
+
+  module _ (x : Point) (h : Stands d len x) (f : Fitting x) (once : x .taken ≤ 1) where
+    sends : (p : ℕ) (e : Endpoint) → p ≡ d .packetsize → (sentCount p e (bufferAt x) ≤ d .packetsize) × (d .packetsize ≤ length (g .packet) → length (sentInto p e (bufferAt x) (g .packet)) ≡ length (g .packet))
+    sends p e q = rw q (sent-most (d .packetsize) e (bufferAt x), sent-length (d .packetsize) e (bufferAt x) (g .packet))
+
+    kept-status : Keeps (sendStatus g x)
+    unfolding sendStatus statusBy
+    kept-status =
+        let e : Endpoint = endpointOf (g .turn .write) in
+        let s = sends (x .device .packetsize) e (h .packetsize) in
+        kept-end (leaving (sentOff (x .device .packetsize) e (bufferAt x)) x) (stands-left x _ h (follows-sent (x .device .packetsize) e (bufferAt x) (h .sound))) f (omega arith) _ _ (s .0) false _ (s .1)
+
+    kept-data : Keeps (sendData g x)
+    unfolding sendData dataBy
+    kept-data =
+        let e : Endpoint = endpointOf (g .turn .write) in
+        let s = sends (x .device .packetsize) e (h .packetsize) in
+        kept-end (lowered (sentCount (x .device .packetsize) e (bufferAt x)) (leaving (sentOff (x .device .packetsize) e (bufferAt x)) x)) (stands-left x _ h (follows-sent (x .device .packetsize) e (bufferAt x) (h .sound))) f (omega arith) _ _ (s .0) false _ (s .1)
+
+    kept-take : Keeps (takeData g x)
+    unfolding takeData takeBy
+    kept-take =
+        let p : ℕ = x .device .packetsize in
+        let e : Endpoint = offeredBy (x .taken) (g .turn) in
+        let packet : List ℕ = offers (x .taken) (g .one) (g .two) in
+        let s : Buffer = bufferAt x in
+        kept-rest (counting (takesOne p e s) (lowered (brought p e packet s) (leaving (received p e packet s) x)))
+        (stands-left x _ h (follows-received p e packet s (h .sound))) f
+        (of-picked (λ (n : ℕ). n ≤ 2) (takesOne p e s) (λ _. omega arith) (λ _. omega arith)) _ false
+
+  -- ---- the states
+
+  module _ (x : Point) (h : Stands d len x) (once : x .taken ≤ 1) where
+    kept-enter : isPresent (x .device .status) ≡ true → Keeps (enterStatus g x)
+    unfolding enterStatus
+    kept-enter present =
+        let t : Buffer = statusPut (x .device .wrapper .tag) (x .device .status) (bufferAt x) in
+        kept-status (reaching StatusTransfer (leaving t x)) (stands-left x t h (follows-status (x .device .wrapper .tag) (x .device .status) (bufferAt x))) present once
+
+    kept-await : Keeps (statusAwaitRule g x)
+    unfolding statusAwaitRule
+    kept-await = of-picked Keeps (isPresent (x .device .status)) kept-enter (λ _. kept-rest (reaching DataTransferToHostStatusAwait x) h refl (omega arith) (no 0) false)
+
+    kept-to-ending : isPresent (x .device .status) ≡ true → Keeps (toHostEndingRule g x)
+    unfolding toHostEndingRule
+    kept-to-ending present =
+        let t : Buffer = filledUp (x .device .packetsize) (x .device .left) (bufferAt x) in
+        of-picked Keeps (eqb (x .device .left .0) 0) (λ _. kept-enter present)
+        (λ _. kept-data (reaching DataTransferToHostEnding (leaving t x)) (stands-left x t h (follows-filled (x .device .packetsize) (x .device .left) (bufferAt x) (h .sound))) present once)
+
+    kept-to : Keeps (toHostRule g x)
+    unfolding toHostRule
+    kept-to =
+        of-picked Keeps (eqb (x .device .left .0) 0) (λ _. kept-await)
+        (λ _. of-picked Keeps (isPresent (x .device .status)) kept-to-ending
+        (λ _. of-picked Keeps (fallsShort (x .device .packetsize) (x .device .left) (unread (bufferAt x)))
+        (λ _. kept-rest (reaching DataTransferToHost x) h refl (omega arith) (no 4) false)
+        (λ _. kept-data (reaching DataTransferToHost x) h refl once)))
+
+    kept-from-ending : isPresent (x .device .status) ≡ true → Keeps (fromHostEndingRule g x)
+    unfolding fromHostEndingRule
+    kept-from-ending present =
+        let t : Buffer = buffer (x .io) (at 0 0) in
+        of-picked Keeps (eqb (x .device .left .0) 0) (λ _. kept-enter present)
+        (λ _. kept-take (reaching DataTransferFromHostEnding (leaving t x)) (stands-left x t h (follows-clean (bufferAt x))) present once)
+
+    kept-from : Keeps (fromHostRule g x)
+    unfolding fromHostRule
+    kept-from =
+        of-picked Keeps (eqb (x .device .left .0) 0) (λ _. kept-await)
+        (λ _. of-picked Keeps (isPresent (x .device .status)) kept-from-ending (λ _. kept-take (reaching DataTransferFromHost x) h refl once))
+
+  -- ---- behind a packet that brought a wrapper
+
+  directed : (q : DataDirection) {a b c : Polling} → Keeps a → Keeps b → Keeps c → Keeps (byDirection q a b c)
+  directed Out a b c = a
+  directed In a b c = b
+  directed NotExpected a b c = c
+
+  kept-start : (v : Wrapper) → v .lun ≤ 15 → v .blocklength ≤ 16 → (x : Point) → Stands d len x → x .taken ≤ 1 → Keeps (startRule v g x)
+  unfolding startRule noDataRule
+  kept-start v lun block x h once =
+      let y : Point = point (withLeft (record { 0 = v .length }) (withWrapper v (x .device))) (x .io) (x .taken) (x .unstalled) in
+      let k : Stands d len y = record { packetsize = h .packetsize; maxlun = h .maxlun; size = h .size; long = h .long; sound = h .sound; lun = lun; block = block } in
+      directed (v .direction) (kept-from y k once) (kept-to y k once) (kept-await y k once)
+
+  module _ (x : Point) (h : Stands d len x) (absent : isPresent (x .device .status) ≡ false) where
+    kept-parse : x .taken ≤ 1 → 31 ≤ unread (bufferAt x) → Keeps (parseRule g x)
+    unfolding parseRule
+    kept-parse once ripe =
+        let m : List ℕ = messageAt (bufferAt x) in
+        let t : Buffer = behind31 (bufferAt x) in
+        let k : Stands d len (leaving t x) = stands-left x t h (follows-31 (bufferAt x) (h .sound) ripe) in
+        of-picked Keeps (isValid m)
+        (λ v. kept-start (wrapperOf m) (lun-most m) (block-most m v) (leaving t x) k once)
+        (λ _. kept-rest (reaching CommandTransferInvalid (leaving t x)) k (rw absent) (omega arith) (no 0) true)
+
+    kept-by : Fitting x → x .taken ≤ 1 → (took : Bool) (t : Told) → Keeps (readBy took t g x)
+    unfolding readBy
+    kept-by f once took t =
+        let ripe : Bool = leb 31 (unread (bufferAt x)) in
+        of-picked Keeps (took && ripe) (λ e. kept-parse once (leb-true _ _ (and-right took ripe e))) (λ _. kept-rest x h f (omega arith) t false)
+
+  kept-read : (x : Point) → Stands d len x → isPresent (x .device .status) ≡ false → Fitting x → x .taken ≡ 0 → Keeps (readCbwRule g x)
+  unfolding readCbwRule readOneBy
+  kept-read x h absent f none =
+      let p : ℕ = x .device .packetsize in
+      let e : Endpoint = endpointOf (g .turn .first) in
+      let took : Bool = takesOne p e (bufferAt x) in
+      let t : Buffer = received p e (g .one) (bufferAt x) in
+      kept-by (counting took (leaving t x)) (stands-left x t h (follows-received p e (g .one) (bufferAt x) (h .sound))) absent f
+      (of-picked (λ (n : ℕ). n ≤ 1) took (λ _. omega arith) (λ _. omega arith)) took (readTold p e (bufferAt x))
+
+  -- ---- all states
+
+  kept-in : (s : State) (x : Point) → Stands d len x → Fitting x → x .device .state ≡ s → x .taken ≡ 0 → Keeps (ruleIn s g x)
+  unfolding ruleIn invalidRule noDataRule statusTransferRule
+  kept-in CommandTransfer x h f e none = kept-read x h (not-true _ (rw e at f)) f none
+  kept-in CommandTransferInvalid x h f e none = kept-rest x h f (omega arith) (no 0) true
+  kept-in DataTransferNoData x h f e none = kept-await x h (omega arith)
+  kept-in StatusTransfer x h f e none =
+      of-picked Keeps (eqb (unread (bufferAt x)) 0)
+      (λ _. kept-read (point (entering0 (x .device)) (x .io) (x .taken) true) h refl refl none)
+      (λ _. kept-status x h f (omega arith))
+  kept-in DataTransferToHost x h f e none = kept-to x h (omega arith)
+  kept-in DataTransferToHostStatusAwait x h f e none = kept-await x h (omega arith)
+  kept-in DataTransferToHostEnding x h f e none = kept-to-ending x h (omega arith) (rw e at f)
+  kept-in DataTransferFromHost x h f e none = kept-from x h (omega arith)
+  kept-in DataTransferFromHostEnding x h f e none = kept-from-ending x h (omega arith) (rw e at f)
+
+-- ---- a poll, and the call
+
+module _ (d : Device) (io : List ℕ) (g : Given) where
+  kept : Whole (numbersOf d) (length io) → Kept d (length io) (length (g .packet)) (pollRule d io g)
+  unfolding pollRule
+  kept w =
+      kept-in d (length io) w g (d .state) (point d io 0 false)
+      (record { packetsize = refl; maxlun = refl; size = refl; long = refl; sound = whole-sound (numbersOf d) io w; lun = w .lun; block = w .block })
+      (w .status) refl refl
+
+  -- a poll leaves a whole record over the IO buffer that it leaves
+  pub poll-whole : Whole (numbersOf d) (length io) → Whole (numbersOf (pollRule d io g .device)) (length (pollRule d io g .io))
+  poll-whole w = kept w .whole
+
+  pub poll-sizes : Whole (numbersOf d) (length io) → d .packetsize ≤ length (g .packet) → Sizes d (length io) (length (g .packet)) (pollRule d io g)
+  poll-sizes w = kept w .sizes
+
+  -- a whole record and packets that fit: the call is the poll
+  pub call-done : Whole (numbersOf d) (length io) → Fits (d .packetsize) (g .packet) (g .one) (g .two) → pollCall d io g ≡ pollRule d io g
+  unfolding pollCall
+  call-done w f = rw (whole-is (numbersOf d) (length io) w, ← fits-all (d .packetsize) (length (g .packet)) (length (g .one)) (length (g .two)) (f .first) (f .second), le-leb _ _ (f .into))
+
+  -- what holds of a refusal, and of a poll of a whole record whose packets fit, holds of the call
+  by-call : (P : Polling → Type 0) → ((n : ℕ) → P (refusing d io g n)) → (Whole (numbersOf d) (length io) → Fits (d .packetsize) (g .packet) (g .one) (g .two) → P (pollRule d io g)) → P (pollCall d io g)
+  unfolding pollCall
+  by-call P p q =
+      of-picked P (isWhole (numbersOf d) (length io))
+      (λ w. of-picked P (isFitting (d .packetsize) (length (g .packet)) (length (g .one)) (length (g .two)))
+      (λ f. q (is-whole (numbersOf d) (length io) w) (is-fitting (d .packetsize) (g .packet) (g .one) (g .two) refl f))
+      (λ _. p 11))
+      (λ _. p 10)
+
+  -- the call leaves a whole record whole
+  pub call-whole : Whole (numbersOf d) (length io) → Whole (numbersOf (pollCall d io g .device)) (length (pollCall d io g .io))
+  call-whole w = by-call (λ (o : Polling). Whole (numbersOf (o .device)) (length (o .io))) (λ _. w) (λ v _. poll-whole v)
+
+  -- for every record and all packets
+  pub call-sizes : Sizes d (length io) (length (g .packet)) (pollCall d io g)
+  call-sizes =
+      by-call (Sizes d (length io) (length (g .packet)))
+      (λ _. record { packetsize = refl; maxlun = refl; size = refl; io = refl; packet = refl; taken = zero-le; sent = zero-le })
+      (λ w f. poll-sizes w (f .into))
