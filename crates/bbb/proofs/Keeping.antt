@@ -1,6 +1,7 @@
 -- What no poll changes, whatever its state and the endpoints' answers: one fact for all of it, carried through every rule.
 --     poll-whole, call-whole    a whole record stays whole, over the IO buffer that a poll leaves
 --     poll-sizes, call-sizes    P, max LUN, the recorded size and the lengths of both buffers stay; at most two packets are taken, P bytes sent
+--     Follows, follows-..       the buffer that a step leaves has sound marks, and is as long as before
 --     call-done                 on a whole record, with packets that fit, the call is the poll
 -- Assumes nothing.
 use mathlib.Core.Path.{_≡_, refl, sym, _∙_}
@@ -42,30 +43,30 @@ use Rattle.bbb.proofs.Polling.{fits-all, is-fitting}
 
 -- ---- the buffer that a step leaves: its marks are sound, and it is as long as before
 
-record Follows (t s : Buffer) : Type 0 where
-  sound : Sound t
-  long : length (t .bytes) ≡ length (s .bytes)
+pub record Follows (t s : Buffer) : Type 0 where
+  pub sound : Sound t
+  pub long : length (t .bytes) ≡ length (s .bytes)
 
-follows-sent : (p : ℕ) (e : Endpoint) (s : Buffer) → Sound s → Follows (sentOff p e s) s
+pub follows-sent : (p : ℕ) (e : Endpoint) (s : Buffer) → Sound s → Follows (sentOff p e s) s
 unfolding sentOff readOff
 follows-sent p e s h = record { sound = sound-readOff (accepted e p) s h; long = refl }
 
-follows-received : (p : ℕ) (e : Endpoint) (packet : List ℕ) (s : Buffer) → Sound s → Follows (received p e packet s) s
+pub follows-received : (p : ℕ) (e : Endpoint) (packet : List ℕ) (s : Buffer) → Sound s → Follows (received p e packet s) s
 unfolding received
 follows-received p e packet s h = record { sound = sound-writtenAll p (handed e packet) s h; long = length-writtenAll p (handed e packet) s h }
 
-follows-filled : (p : ℕ) (left : Left) (s : Buffer) → Sound s → Follows (filledUp p left s) s
+pub follows-filled : (p : ℕ) (left : Left) (s : Buffer) → Sound s → Follows (filledUp p left s) s
 unfolding filledUp
 follows-filled p left s h = record { sound = sound-filled 0xFF _ s h; long = length-filled 0xFF _ s h }
 
-follows-status : (tag : ℕ) (status : Status) (s : Buffer) → Follows (statusPut tag status s) s
+pub follows-status : (tag : ℕ) (status : Status) (s : Buffer) → Follows (statusPut tag status s) s
 unfolding statusPut withStatus emptied
 follows-status tag Absent s = record { sound = sound-emptied s; long = refl }
 follows-status tag (Present status residue) s =
     let ys : List ℕ = statusBytes tag residue (statusNumber status) in
     record { sound = sound-written ys (emptied s) (sound-emptied s); long = length-written ys (emptied s) (sound-emptied s) }
 
-follows-31 : (s : Buffer) → Sound s → 31 ≤ unread s → Follows (behind31 s) s
+pub follows-31 : (s : Buffer) → Sound s → 31 ≤ unread s → Follows (behind31 s) s
 follows-31 s h k = record { sound = record { order = omega (arith, h .order); within = h .within }; long = refl }
 
 follows-clean : (s : Buffer) → Follows (buffer (s .bytes) (at 0 0)) s
