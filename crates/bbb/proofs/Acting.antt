@@ -1,17 +1,16 @@
 -- Laws of an act: what each way through its functions owes (`ways`). Assumes nothing.
-use mathlib.Core.Path.{_≡_, refl, sym, ap, _∙_}
-use mathlib.Core.Bool.{Bool, true, false, cond}
+use mathlib.Core.Path.{_≡_, refl, ap}
+use mathlib.Core.Bool.{Bool, true, false}
 use mathlib.Core.List.{List}
 use Prim.Native.Nat.{ℕ, _+_, _-_, _≤_, _<_, zero-le}
-use lib.Dec.{eqb, ltb, leb}
-use lib.ListN.{length}
+use lib.Dec.{ltb}
 use borrow.Author.Tests.{eq-eqb, ne-eqb, le-leb, lt-leb}
 use Rattle.buffer.specs.declared.Marks.{Marks}
-use Rattle.buffer.specs.Buffer.{Buffer, Sound, Leaves, buffer, at, unread, emptied}
+use Rattle.buffer.specs.Buffer.{Buffer, Sound, Leaves, buffer, at, emptied}
 use Rattle.answers.specs.declared.Answer.the-variants.{FullPacketExpected}
 use Rattle.answers.specs.declared.Endpoint.{Endpoint}
 use Rattle.answers.specs.declared.Outcome.{Outcome}
-use Rattle.answers.specs.Answers.{told, plainly, no, endpointOf}
+use Rattle.answers.specs.Answers.{plainly, endpointOf}
 use Rattle.answers.proofs.Laws.{tells}
 use Rattle.ring.specs.declared.Before.{Before}
 use Rattle.ring.specs.declared.Before.the-variants as before
@@ -24,7 +23,7 @@ use Rattle.wrapper.specs.Counters.{fallen}
 use Rattle.wrapper.specs.Status.{statusNumber}
 use Rattle.packets.specs.declared.Received.{Received}
 use Rattle.packets.specs.declared.Sent.{Sent}
-use Rattle.packets.specs.Packets.{Reads, Sends, received, sentOff, filledUp, withStatus}
+use Rattle.packets.specs.Packets.{Reads, Sends, withStatus}
 use Rattle.device.specs.declared.Numbers.{Numbers}
 use Rattle.device.specs.declared.Status.{Status}
 use Rattle.device.specs.declared.Status.the-variants.{Absent, Present}
@@ -32,7 +31,7 @@ use Rattle.bbb.specs.declared.Turn.{Turn}
 use Rattle.bbb.specs.declared.open.Opened.{Opened}
 use Rattle.bbb.specs.declared.act.Did.{Did}
 use Rattle.bbb.specs.Poll.{Given, fallsShort, offers, offeredBy, statusPut}
-use Rattle.bbb.specs.Phases.{openOf, done, doneOf, Acts, restDid, rested, emptiedMarks, oneMore, tookFrom, took, refuses, readied, leftThen, sentFrom, sentBy, sentPacket, acted, actedPacket}
+use Rattle.bbb.specs.Phases.{openOf, doneOf, Acts, restDid, emptiedMarks, oneMore, tookFrom, took, refuses, readied, leftThen, sentFrom, sentBy, sentPacket, acted, actedPacket}
 
 -- ---- small tests and picks
 

@@ -1,23 +1,26 @@
--- What is unread, left and sent after each way in which a poll ends, over the rules. (`x` is the point from which a rule starts.)
---     data-..      a packet of data is sent
---     status-..    a packet of the status is sent, and the status is entered
---     fill-..      the fill of 6
---     take-..      a packet of data is read
---     read-..      a packet is read in 0, and what it brought is parsed
---     full-due     answer 4
+-- What is unread, left and sent after each way in which a poll ends: laws of the rules, for any point x from which one starts.
+--     data-..               a packet of data is sent; with nothing unread, or with IN busy or failing, nothing changes
+--     status-..             the same of a packet of the status
+--     fill-.., ending-..    the fill of 6: how many 0xFF, and what 6 sends then
+--     stated-.., enter-..   what is unread once the status is put in, and what entering 3 sends of it
+--     take-..               a packet of data is read; with no room, or with OUT busy or failing, nothing crosses the wire (Idle)
+--     read-..               the same in 0, with fewer than 31 bytes unread and with more
+--     parse-..              the 31 bytes that are parsed, and what is unread behind them
+--     full-due              answer 4
 -- Assumes nothing.
 use mathlib.Core.Path.{_≡_, refl, sym, ap, _∙_}
-use mathlib.Core.Bool.{Bool, true, false, cond, _&&_}
+use mathlib.Core.Bool.{Bool, true, false, cond}
 use mathlib.Core.List.{List, _++_, append-nil}
-use Prim.Native.Nat.{ℕ, _+_, _-_, _≤_, min, max, zero-le}
-use native.Mathlib.Nat.{add-zero, sub-zero, min-comm, min-le-left, min-le-right, min-eq-right, max-eq-left}
+use Prim.Native.Nat.{ℕ, _+_, _-_, _≤_, _<_, min, max, zero-le}
+use native.Mathlib.Nat.{add-zero, add-comm, sub-zero, sub-add-eq-max, min-comm, min-le-right, min-eq-right, max-eq-left}
 use native.Mathlib.Omega.{arith}
-use lib.Dec.{eqb, leb}
-use lib.ListN.{length, take, drop, replicate, take-append-drop, length-append, length-replicate}
-use lib.Seq.{length-take-le, take-length, take-take}
-use borrow.Author.Tests.{eq-eqb, ne-eqb, le-leb, lt-leb}
+use lib.Dec.{eqb}
+use lib.ListN.{length, take, drop, replicate, take-append-drop, length-append, length-drop, length-replicate}
+use lib.Seq.{length-take-le, take-length, take-take, drop-drop}
+use borrow.Author.Tests.{eq-eqb, ne-eqb, le-leb, lt-leb, lt-ltb}
 use Rattle.fields.specs.Overlay.{overlay}
 use Rattle.fields.proofs.Bools.{of-picked}
+use Rattle.fields.proofs.Seq.{drop-take}
 use Rattle.fields.proofs.Overlay.{overlay-nothing, part-inside}
 use Rattle.buffer.specs.Buffer.{Buffer, Sound, buffer, unread, unreadBytes, emptied, fitting, lacksRoom, ready, given, readOff}
 use Rattle.buffer.proofs.Kept.{length-unread, ready-most, sound-emptied}
@@ -26,19 +29,20 @@ use Rattle.buffer.proofs.Unread.{unread-written, unread-filled, unread-writtenA
 use Rattle.answers.specs.declared.Endpoint.{Endpoint}
 use Rattle.answers.specs.declared.Endpoint.the-variants.{Served, Busy, Failed}
 use Rattle.answers.specs.Answers.{Told, no, endpointOf, serves, answeredBy}
-use Rattle.ring.specs.declared.State.the-variants.{StatusTransfer}
+use Rattle.ring.specs.declared.State.the-variants.{CommandTransferInvalid, StatusTransfer, DataTransferToHost, DataTransferToHostEnding}
 use Rattle.wrapper.specs.declared.counters.Left.{Left}
 use Rattle.wrapper.specs.declared.counters.Residue.{Residue}
 use Rattle.wrapper.specs.declared.status.CommandStatus.{CommandStatus}
 use Rattle.wrapper.specs.Counters.{fallen}
 use Rattle.wrapper.specs.Status.{statusNumber, statusBytes}
+use Rattle.wrapper.specs.Wrapper.{isValid, wrapperOf}
 use Rattle.wrapper.proofs.Csw.{length-status}
 use Rattle.packets.specs.Packets.{handed, readTold, takesOne, brought, received, accepted, sendTold, sentCount, sentOff, sentInto, filledUp, withStatus}
 use Rattle.packets.proofs.Laws.{handed-most}
 use Rattle.device.specs.declared.Status.the-variants.{Present}
-use Rattle.device.specs.Device.{withMarks, withLeft}
-use Rattle.bbb.specs.Poll.{Given, Polling, Point, bufferAt, reaching, leaving, ends, statusBy, sendStatus, dataBy, sendData, offers, offeredBy, takeBy, takeData, statusPut, enterStatus}
-use Rattle.bbb.proofs.Keeping.{Follows, follows-status}
+use Rattle.device.specs.Device.{isPresent, inState, withMarks, withLeft}
+use Rattle.bbb.specs.Poll.{Given, Polling, Point, bufferAt, reaching, leaving, counting, ending, ends, statusBy, sendStatus, dataBy, sendData, offers, offeredBy, takeBy, takeData, statusPut, enterStatus, toHostEndingRule, fallsShort, toHostRule, startRule, messageAt, behind31, parseRule, readBy, readOneBy, readCbwRule}
+use Rattle.bbb.proofs.Keeping.{follows-received, follows-filled, follows-status}
 
 -- the buffer that a poll leaves
 abbrev pub bufferAfter : Polling → Buffer
@@ -60,7 +64,7 @@ offered g x = offers (x .taken) (g .one) (g .two)
 abbrev pub firstFor : Given → Endpoint
 firstFor g = endpointOf (g .turn .first)
 
--- Nothing crosses the wire: of all that a poll leaves only the marks may have changed, by a move, and no unread byte.
+-- Nothing crosses the wire: at most the unread bytes were moved, and of the record only the marks changed.
 pub record Idle (g : Given) (x : Point) (o : Polling) : Type 0 where
   pub unread : unreadBytes (bufferAfter o) ≡ unreadBytes (bufferAt x)
   pub device : withMarks (x .device .marks) (o .device) ≡ x .device
@@ -81,6 +85,7 @@ module _ (p : ℕ) (e : Endpoint) (s : Buffer) where
       let front : take k (overlay packet 0 ys) ≡ ys = rw long at (part-inside packet 0 ys zero-le) in
       rw (front, unread-readOff (accepted e p) s h) (take-append-drop k (unreadBytes s))
 
+  -- min(P, unread) where the endpoint does its part
   sent-all : serves e ≡ true → sentCount p e s ≡ min p (unread s)
   unfolding sentCount ready accepted
   sent-all serving = rw serving (min-comm (unread s) p)
@@ -94,6 +99,7 @@ module _ (p : ℕ) (e : Endpoint) (s : Buffer) where
   unfolding sentCount ready accepted
   sent-unserved idle = rw idle (omega (arith, min-le-right (unread s) 0))
 
+  -- then the buffer and the packet buffer stay
   module _ (k : sentCount p e s ≡ 0) where
     off-nothing : sentOff p e s ≡ s
     unfolding sentCount sentOff readOff
@@ -140,11 +146,12 @@ module _ (g : Given) (x : Point) where
   unfolding sendData dataBy
   data-keeps = refl
 
-  -- where IN does its part: min(P, unread) bytes, and 0
+  -- "send min(P, unread)", where IN does its part
   pub data-sent : serves (inFor g) ≡ true → sendData g x .sent ≡ min (P x) (unread (bufferAt x))
   unfolding sendData dataBy
   data-sent serving = sent-all (P x) (inFor g) (bufferAt x) serving
 
+  -- and the answer is 0
   pub data-told : serves (inFor g) ≡ true → sendData g x .told ≡ no 0
   unfolding sendData dataBy
   data-told serving = told-served (inFor g) (unread (bufferAt x)) serving
@@ -157,23 +164,26 @@ module _ (g : Given) (x : Point) where
   pub data-nothing : unread (bufferAt x) ≡ 0 → sendData g x ≡ ends g x (no 0)
   data-nothing none = data-ends (sent-nothing (P x) (inFor g) (bufferAt x) none) ∙ ap (ends g x) (told-nothing (inFor g) (unread (bufferAt x)) none)
 
-  -- 6 and 7: where IN does not do its part, nothing changes
+  -- 6 and 7: nothing changes where IN is asked and does not do its part
   pub data-unserved : serves (inFor g) ≡ false → (unread (bufferAt x) ≡ 0 → ⊥) → sendData g x ≡ ends g x (answeredBy (inFor g))
   data-unserved idle some = data-ends (sent-unserved (P x) (inFor g) (bufferAt x) idle) ∙ ap (ends g x) (told-something (inFor g) (unread (bufferAt x)) some)
 
-  -- the same of a packet of the status, but nothing falls
+  -- of the status: the bytes sent, and then those still unread, are those that were unread
   pub status-unread : Sound (bufferAt x) → take (sendStatus g x .sent) (sendStatus g x .packet) ++ unreadBytes (bufferAfter (sendStatus g x)) ≡ unreadBytes (bufferAt x)
   unfolding sendStatus statusBy
   status-unread h = sent-split (P x) (inFor g) (bufferAt x) (g .packet) h
 
+  -- of the record only marks change, and left does not fall
   pub status-keeps : withMarks (x .device .marks) (sendStatus g x .device) ≡ x .device
   unfolding sendStatus statusBy
   status-keeps = refl
 
+  -- min(P, unread) bytes, where IN does its part
   pub status-sent : serves (inFor g) ≡ true → sendStatus g x .sent ≡ min (P x) (unread (bufferAt x))
   unfolding sendStatus statusBy
   status-sent serving = sent-all (P x) (inFor g) (bufferAt x) serving
 
+  -- and the answer is 0
   pub status-told : serves (inFor g) ≡ true → sendStatus g x .told ≡ no 0
   unfolding sendStatus statusBy
   status-told serving = told-served (inFor g) (unread (bufferAt x)) serving
@@ -182,9 +192,11 @@ module _ (g : Given) (x : Point) where
   unfolding sendStatus statusBy
   status-ends k = rw (off-nothing (P x) (inFor g) (bufferAt x) k, into-nothing (P x) (inFor g) (bufferAt x) k (g .packet), k)
 
+  -- nothing unread: answer 0, and nothing changes
   pub status-nothing : unread (bufferAt x) ≡ 0 → sendStatus g x ≡ ends g x (no 0)
   status-nothing none = status-ends (sent-nothing (P x) (inFor g) (bufferAt x) none) ∙ ap (ends g x) (told-nothing (inFor g) (unread (bufferAt x)) none)
 
+  -- 6 and 7: nothing changes where IN is asked and does not do its part
   pub status-unserved : serves (inFor g) ≡ false → (unread (bufferAt x) ≡ 0 → ⊥) → sendStatus g x ≡ ends g x (answeredBy (inFor g))
   status-unserved idle some = status-ends (sent-unserved (P x) (inFor g) (bufferAt x) idle) ∙ ap (ends g x) (told-something (inFor g) (unread (bufferAt x)) some)
 
@@ -203,10 +215,37 @@ module _ (p : ℕ) (left : Left) (s : Buffer) (h : Sound s) where
       let all : fitting n s ≡ n = fitting-by-unread n s h ∙ min-eq-right (omega (arith, min-le-right (left .0) p)) in
       fill-unread ∙ ap (λ (k : ℕ). unreadBytes s ++ replicate k 0xFF) all
 
+  -- then min(left, P) bytes are unread, or as many as there were
+  pub fill-count : p ≤ length (s .bytes) → unread (filledUp p left s) ≡ max (min (left .0) p) (unread s)
+  fill-count wide =
+      let n : ℕ = min (left .0) p - unread s in
+      sym (length-unread (filledUp p left s) (follows-filled p left s h .sound))
+      ∙ ap length (fill-exact wide)
+      ∙ length-append (unreadBytes s) (replicate n 0xFF)
+      ∙ rw (length-unread s h, length-replicate {A = ℕ} n 0xFF, add-comm (unread s) n) (sub-add-eq-max (min (left .0) p) (unread s))
+
+-- the point at which 6 sends
+abbrev pub topped : Point → Point
+topped x = reaching DataTransferToHostEnding (leaving (filledUp (P x) (x .device .left) (bufferAt x)) x)
+
+module _ (g : Given) (x : Point) (some : x .device .left .0 ≡ 0 → ⊥) where
+  -- "6: left 0 goes to 3. Otherwise .. send"
+  pub fill-sends : toHostEndingRule g x ≡ sendData g (topped x)
+  unfolding toHostEndingRule
+  fill-sends = rw (ne-eqb _ _ some)
+
+  -- the bytes sent, and then those still unread, are those that were unread and the 0xFF behind them
+  pub ending-unread : Sound (bufferAt x) → P x ≤ length (x .io) → take (toHostEndingRule g x .sent) (toHostEndingRule g x .packet) ++ unreadBytes (bufferAfter (toHostEndingRule g x))
+      ≡ unreadBytes (bufferAt x) ++ replicate (min (x .device .left .0) (P x) - unread (bufferAt x)) 0xFF
+  ending-unread h wide = rw fill-sends (data-unread g (topped x) (follows-filled (P x) (x .device .left) (bufferAt x) h .sound) ∙ fill-exact (P x) (x .device .left) (bufferAt x) h wide)
+
+  -- so many bytes 6 sends, where IN does its part
+  pub ending-sent : Sound (bufferAt x) → P x ≤ length (x .io) → serves (inFor g) ≡ true → toHostEndingRule g x .sent ≡ min (P x) (max (min (x .device .left .0) (P x)) (unread (bufferAt x)))
+  ending-sent h wide serving = rw fill-sends (data-sent g (topped x) serving ∙ ap (min (P x)) (fill-count (P x) (x .device .left) (bufferAt x) h wide))
+
 -- ---- the status
 
--- what is unread, once the status is put in: its 13 bytes
-pub status-put : (tag : ℕ) (status : CommandStatus) (residue : Residue) (s : Buffer) → 13 ≤ length (s .bytes) → unreadBytes (statusPut tag (Present status residue) s) ≡ statusBytes tag residue (statusNumber status)
+status-put : (tag : ℕ) (status : CommandStatus) (residue : Residue) (s : Buffer) → 13 ≤ length (s .bytes) → unreadBytes (statusPut tag (Present status residue) s) ≡ statusBytes tag residue (statusNumber status)
 unfolding statusPut withStatus emptied
 status-put tag status residue s wide =
     let ys : List ℕ = statusBytes tag residue (statusNumber status) in
@@ -214,29 +253,47 @@ status-put tag status residue s wide =
     let all : fitting (length ys) (emptied s) ≡ length ys = fitting-by-unread (length ys) (emptied s) (sound-emptied s) ∙ min-eq-right (omega arith) in
     unread-written ys (emptied s) (sound-emptied s) ∙ rw (all, unread-emptied s) (take-length ys)
 
-module _ (g : Given) (x : Point) (status : CommandStatus) (residue : Residue) (here : x .device .status ≡ Present status residue) (wide : 13 ≤ length (x .io)) where
-  abbrev readied : Buffer
-  readied = statusPut (x .device .wrapper .tag) (x .device .status) (bufferAt x)
+-- the point at which 3, entered, sends
+abbrev pub stated : Point → Point
+stated x = reaching StatusTransfer (leaving (statusPut (x .device .wrapper .tag) (x .device .status) (bufferAt x)) x)
 
-  readied-unread : unreadBytes readied ≡ statusBytes (x .device .wrapper .tag) residue (statusNumber status)
-  readied-unread = rw here (status-put (x .device .wrapper .tag) status residue (bufferAt x) wide)
+-- its marks are sound
+pub stated-sound : (x : Point) → Sound (bufferAt (stated x))
+stated-sound x = follows-status (x .device .wrapper .tag) (x .device .status) (bufferAt x) .sound
 
-  readied-sound : Sound readied
-  readied-sound = follows-status (x .device .wrapper .tag) (x .device .status) (bufferAt x) .sound
+-- of the record only marks and state change
+pub enter-keeps : (g : Given) (x : Point) → withMarks (x .device .marks) (enterStatus g x .device) ≡ inState StatusTransfer (x .device)
+unfolding enterStatus sendStatus statusBy
+enter-keeps g x = refl
 
-  -- the bytes sent, and then those still unread, are the 13 of the status
-  pub enter-unread : take (enterStatus g x .sent) (enterStatus g x .packet) ++ unreadBytes (bufferAfter (enterStatus g x)) ≡ statusBytes (x .device .wrapper .tag) residue (statusNumber status)
-  unfolding enterStatus
-  enter-unread = status-unread g (reaching StatusTransfer (leaving readied x)) readied-sound ∙ readied-unread
+-- with a status present, and a buffer that holds one
+module _ (x : Point) (status : CommandStatus) (residue : Residue) (here : x .device .status ≡ Present status residue) (wide : 13 ≤ length (x .io)) where
+  -- its 13 bytes are unread before the send
+  pub stated-unread : unreadBytes (bufferAt (stated x)) ≡ statusBytes (x .device .wrapper .tag) residue (statusNumber status)
+  stated-unread = rw here (status-put (x .device .wrapper .tag) status residue (bufferAt x) wide)
 
-  pub enter-sent : serves (inFor g) ≡ true → enterStatus g x .sent ≡ min (P x) 13
-  unfolding enterStatus
-  enter-sent serving =
-      let all : unread readied ≡ 13 = sym (length-unread readied readied-sound) ∙ ap length readied-unread ∙ length-status (x .device .wrapper .tag) residue (statusNumber status) in
-      status-sent g (reaching StatusTransfer (leaving readied x)) serving ∙ ap (min (P x)) all
+  stated-count : unread (bufferAt (stated x)) ≡ 13
+  stated-count = sym (length-unread (bufferAt (stated x)) (stated-sound x)) ∙ ap length stated-unread ∙ length-status (x .device .wrapper .tag) residue (statusNumber status)
+
+  module _ (g : Given) where
+    -- the bytes sent, and then those still unread, are the 13 of the status
+    pub enter-unread : take (enterStatus g x .sent) (enterStatus g x .packet) ++ unreadBytes (bufferAfter (enterStatus g x)) ≡ statusBytes (x .device .wrapper .tag) residue (statusNumber status)
+    unfolding enterStatus
+    enter-unread = status-unread g (stated x) (stated-sound x) ∙ stated-unread
+
+    -- min(P, 13) of them are sent, where IN does its part
+    pub enter-sent : serves (inFor g) ≡ true → enterStatus g x .sent ≡ min (P x) 13
+    unfolding enterStatus
+    enter-sent serving = status-sent g (stated x) serving ∙ ap (min (P x)) stated-count
+
+    -- 6 and 7: the status bytes stay unread, in 3
+    pub enter-unserved : serves (inFor g) ≡ false → enterStatus g x ≡ ends g (stated x) (answeredBy (inFor g))
+    unfolding enterStatus
+    enter-unserved idle = status-unserved g (stated x) idle (λ (none : unread (bufferAt (stated x)) ≡ 0). omega (arith, stated-count))
 
 -- ---- a packet that is read
 
+-- what is unread then, where the packet fits: by whether there is room, and by what OUT says
 module _ (p : ℕ) (e : Endpoint) (packet : List ℕ) (s : Buffer) (h : Sound s) (fits : length packet ≤ p) where
   received-by : unreadBytes (received p e packet s) ≡ cond (lacksRoom p s) (unreadBytes s) (unreadBytes s ++ handed e packet)
   unfolding received
@@ -259,6 +316,11 @@ module _ (g : Given) (x : Point) where
   unfolding takeData takeBy
   take-keeps = refl
 
+  -- nothing is sent
+  pub take-sends : (takeData g x .sent ≡ 0) × (takeData g x .packet ≡ g .packet)
+  unfolding takeData takeBy
+  take-sends = (refl, refl)
+
   take-idle : takesOne (P x) (outFor g x) (bufferAt x) ≡ false → brought (P x) (outFor g x) (offered g x) (bufferAt x) ≡ 0
       → unreadBytes (received (P x) (outFor g x) (offered g x) (bufferAt x)) ≡ unreadBytes (bufferAt x) → Idle g x (takeData g x)
   unfolding takeData takeBy
@@ -267,18 +329,22 @@ module _ (g : Given) (x : Point) where
   module _ (h : Sound (bufferAt x)) (fits : length (offered g x) ≤ P x) where
     -- where there is room and OUT does its part
     module _ (room : lacksRoom (P x) (bufferAt x) ≡ false) (serving : serves (outFor g x) ≡ true) where
+      -- the packet comes behind the unread bytes
       pub take-unread : unreadBytes (bufferAfter (takeData g x)) ≡ unreadBytes (bufferAt x) ++ offered g x
       unfolding takeData takeBy
       take-unread = received-all (P x) (outFor g x) (offered g x) (bufferAt x) h fits room serving
 
+      -- left falls by its length
       pub take-left : takeData g x .device .left .0 ≡ x .device .left .0 - length (offered g x)
       unfolding takeData takeBy fallen brought handed
       take-left = rw (room, serving)
 
+      -- one packet more
       pub take-taken : takeData g x .taken ≡ x .taken + 1
       unfolding takeData takeBy takesOne
       take-taken = rw (room, serving)
 
+      -- and the answer is 0
       pub take-told : takeData g x .told ≡ no 0
       unfolding takeData takeBy readTold
       take-told = rw room (answers-0 (outFor g x) serving)
@@ -288,7 +354,87 @@ module _ (g : Given) (x : Point) where
     unfolding takeData takeBy readTold takesOne brought
     take-full full = (rw full, take-idle (rw full) (rw full) (received-full (P x) (outFor g x) (offered g x) (bufferAt x) h fits full))
 
-    -- 6 and 7
+    -- 6 and 7: room, but OUT does not do its part
     pub take-unserved : lacksRoom (P x) (bufferAt x) ≡ false → serves (outFor g x) ≡ false → (takeData g x .told ≡ answeredBy (outFor g x)) × Idle g x (takeData g x)
     unfolding takeData takeBy readTold takesOne brought handed
     take-unserved room idle = (rw room, take-idle (rw (room, idle)) (rw (room, idle)) (received-unserved (P x) (outFor g x) (offered g x) (bufferAt x) h fits room idle))
+
+-- ---- a packet that is read in 0, and the wrapper
+
+module _ (g : Given) (x : Point) where
+  -- the point behind the packet that was taken
+  abbrev pub arrived : Point
+  arrived = counting true (leaving (received (P x) (firstFor g) (g .one) (bufferAt x)) x)
+
+  read-idle : takesOne (P x) (firstFor g) (bufferAt x) ≡ false → unreadBytes (received (P x) (firstFor g) (g .one) (bufferAt x)) ≡ unreadBytes (bufferAt x) → Idle g x (readCbwRule g x)
+  unfolding readCbwRule readOneBy readBy
+  read-idle none same = record { unread = rw none same; device = rw none; taken = rw none; sent = rw none; packet = rw none }
+
+  module _ (h : Sound (bufferAt x)) (fits : length (g .one) ≤ P x) where
+    -- where there is room and OUT does its part
+    module _ (room : lacksRoom (P x) (bufferAt x) ≡ false) (serving : serves (firstFor g) ≡ true) where
+      -- the packet comes behind the unread bytes
+      pub read-unread : unreadBytes (bufferAt arrived) ≡ unreadBytes (bufferAt x) ++ g .one
+      read-unread = received-all (P x) (firstFor g) (g .one) (bufferAt x) h fits room serving
+
+      read-count : unread (bufferAt arrived) ≡ unread (bufferAt x) + length (g .one)
+      read-count =
+          sym (length-unread (bufferAt arrived) (follows-received (P x) (firstFor g) (g .one) (bufferAt x) h .sound))
+          ∙ ap length read-unread
+          ∙ length-append (unreadBytes (bufferAt x)) (g .one)
+          ∙ ap (λ (n : ℕ). n + length (g .one)) (length-unread (bufferAt x) h)
+
+      -- fewer than 31 unread: the poll ends there, in the state in which it was
+      pub read-short : unread (bufferAt x) + length (g .one) < 31 → readCbwRule g x ≡ ends g arrived (no 0)
+      unfolding readCbwRule readOneBy readBy takesOne readTold
+      read-short few = rw (room, serving, lt-leb 31 (unread (bufferAt arrived)) (omega (arith, read-count))) (ap (ends g arrived) (answers-0 (firstFor g) serving))
+
+      -- "with 31 or more unread parse"
+      pub read-ripe : 31 ≤ unread (bufferAt x) + length (g .one) → readCbwRule g x ≡ parseRule g arrived
+      unfolding readCbwRule readOneBy readBy takesOne
+      read-ripe ripe = rw (room, serving, le-leb 31 (unread (bufferAt arrived)) (omega (arith, read-count)))
+
+    -- 1: no room for P bytes
+    pub read-full : lacksRoom (P x) (bufferAt x) ≡ true → (readCbwRule g x .told ≡ no 1) × Idle g x (readCbwRule g x)
+    unfolding readCbwRule readOneBy readBy takesOne readTold
+    read-full full = (rw full, read-idle (rw full) (received-full (P x) (firstFor g) (g .one) (bufferAt x) h fits full))
+
+    -- 6 and 7: room, but OUT does not do its part
+    pub read-unserved : lacksRoom (P x) (bufferAt x) ≡ false → serves (firstFor g) ≡ false → (readCbwRule g x .told ≡ answeredBy (firstFor g)) × Idle g x (readCbwRule g x)
+    unfolding readCbwRule readOneBy readBy takesOne readTold
+    read-unserved room idle = (rw (room, idle), read-idle (rw (room, idle)) (received-unserved (P x) (firstFor g) (g .one) (bufferAt x) h fits room idle))
+
+module _ (s : Buffer) (ripe : 31 ≤ unread s) where
+  -- the first 31 unread bytes are parsed
+  pub parse-message : messageAt s ≡ take 31 (unreadBytes s)
+  unfolding messageAt unreadBytes
+  parse-message = sym (take-take 31 (unread s) (drop (s .marks .read) (s .bytes)) ripe)
+
+  -- and exactly those count as read
+  pub parse-rest : Sound s → unreadBytes (behind31 s) ≡ drop 31 (unreadBytes s)
+  unfolding unreadBytes
+  parse-rest h =
+      let r : ℕ = s .marks .read in
+      let fewer : unread (behind31 s) ≡ unread s - 31 = omega arith in
+      rw (fewer, ← drop-drop 31 r (s .bytes))
+      (sym (drop-take 31 (unread s) (drop r (s .bytes)) ripe (omega (arith, length-drop r (s .bytes), h .order, h .within))))
+
+module _ (g : Given) (x : Point) where
+  -- a valid wrapper starts its data phase
+  pub parse-valid : isValid (messageAt (bufferAt x)) ≡ true → parseRule g x ≡ startRule (wrapperOf (messageAt (bufferAt x))) g (leaving (behind31 (bufferAt x)) x)
+  unfolding parseRule
+  parse-valid v = rw v
+
+  -- an invalid one ends in 1, both endpoints stalled; of the record only marks and state change
+  pub parse-invalid : isValid (messageAt (bufferAt x)) ≡ false → parseRule g x ≡ ending (reaching CommandTransferInvalid (leaving (behind31 (bufferAt x)) x)) (no 0) 0 true (g .packet)
+  unfolding parseRule
+  parse-invalid v = rw v
+
+-- ---- answer 4
+
+-- "no status, left at least P, unread below P": nothing changes but the state reached
+pub full-due : (g : Given) (x : Point) → isPresent (x .device .status) ≡ false → P x ≤ x .device .left .0 → unread (bufferAt x) < P x → toHostRule g x ≡ ends g (reaching DataTransferToHost x) (no 4)
+unfolding toHostRule fallsShort
+full-due g x absent due few =
+    let some : x .device .left .0 ≡ 0 → ⊥ = λ (none : x .device .left .0 ≡ 0). omega arith in
+    rw (ne-eqb _ _ some, absent, le-leb _ _ due, lt-ltb _ _ few)

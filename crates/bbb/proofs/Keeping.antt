@@ -1,6 +1,6 @@
 -- What no poll changes, whatever its state and the endpoints' answers: one fact for all of it, carried through every rule.
 --     poll-whole, call-whole    a whole record stays whole, over the IO buffer that a poll leaves
---     poll-sizes, call-sizes    P, max LUN, the recorded size and the lengths of both buffers stay; at most two packets are taken, P bytes sent
+--     poll-sizes, call-sizes    P, max LUN, the recorded size and the lengths of both buffers stay; at most two packets are taken, P bytes sent (Sizes)
 --     Follows, follows-..       the buffer that a step leaves has sound marks, and is as long as before
 --     call-done                 on a whole record, with packets that fit, the call is the poll
 -- Assumes nothing.
@@ -27,6 +27,7 @@ use Rattle.wrapper.specs.declared.DataDirection.{DataDirection}
 use Rattle.wrapper.specs.declared.DataDirection.the-variants.{Out, In, NotExpected}
 use Rattle.wrapper.specs.declared.Wrapper.{Wrapper}
 use Rattle.wrapper.specs.declared.counters.Left.{Left}
+use Rattle.wrapper.specs.Counters.{fallen}
 use Rattle.wrapper.specs.Status.{statusNumber, statusBytes}
 use Rattle.wrapper.specs.Wrapper.{isValid, wrapperOf}
 use Rattle.wrapper.proofs.Cbw.{is-valid}
@@ -35,7 +36,7 @@ use Rattle.packets.proofs.Laws.{moves-most}
 use Rattle.device.specs.declared.Status.{Status}
 use Rattle.device.specs.declared.Status.the-variants.{Absent, Present}
 use Rattle.device.specs.declared.Device.{Device}
-use Rattle.device.specs.Device.{isPresent, numbersOf, withLeft, withWrapper, entering0}
+use Rattle.device.specs.Device.{isPresent, numbersOf, withMarks, withLeft, withWrapper, entering0}
 use Rattle.device.specs.Broken.{statusFits, Whole, isWhole}
 use Rattle.device.proofs.Wholly.{is-whole, whole-is, whole-sound}
 use Rattle.bbb.specs.Poll.{Given, Polling, Point, point, bufferAt, reaching, leaving, lowered, counting, ending, statusBy, sendStatus, dataBy, sendData, offers, offeredBy, takeBy, takeData, statusPut, enterStatus, statusAwaitRule, noDataRule, toHostEndingRule, fallsShort, toHostRule, fromHostEndingRule, fromHostRule, startRule, messageAt, behind31, parseRule, readBy, readOneBy, readCbwRule, statusTransferRule, invalidRule, ruleIn, pollRule, Fits, isFitting, refusing, pollCall}
@@ -137,6 +138,7 @@ module _ (d : Device) (len : ℕ) (w : Whole (numbersOf d) len) (g : Given) wher
 
   -- ---- the ends
 
+  -- with an answer and k bytes sent; with nothing sent
   kept-end : (x : Point) → Stands d len x → Fitting x → x .taken ≤ 2 → (t : Told) (k : ℕ) → k ≤ d .packetsize → (stalled : Bool) (packet : List ℕ)
       → (d .packetsize ≤ length (g .packet) → length packet ≡ length (g .packet)) → Keeps (ending x t k stalled packet)
   kept-end x h f taken t k sent stalled packet same = record {
@@ -156,22 +158,24 @@ module _ (d : Device) (len : ℕ) (w : Whole (numbersOf d) len) (g : Given) wher
   kept-rest x h f taken t stalled = kept-end x h f taken t 0 zero-le stalled (g .packet) (λ _. refl)
 
   module _ (x : Point) (h : Stands d len x) (f : Fitting x) (once : x .taken ≤ 1) where
-    sends : (p : ℕ) (e : Endpoint) → p ≡ d .packetsize → (sentCount p e (bufferAt x) ≤ d .packetsize) × (d .packetsize ≤ length (g .packet) → length (sentInto p e (bufferAt x) (g .packet)) ≡ length (g .packet))
-    sends p e q = rw q (sent-most (d .packetsize) e (bufferAt x), sent-length (d .packetsize) e (bufferAt x) (g .packet))
+    -- where a packet was sent, and l bytes are left then
+    abbrev behind : Endpoint → Left → Point
+    behind e l = point (withLeft l (withMarks (sentOff (x .device .packetsize) e (bufferAt x) .marks) (x .device))) (sentOff (x .device .packetsize) e (bufferAt x) .bytes) (x .taken) (x .unstalled)
+
+    sends : (e : Endpoint) (l : Left) (t : Told) → Keeps (ending (behind e l) t (sentCount (x .device .packetsize) e (bufferAt x)) false (sentInto (x .device .packetsize) e (bufferAt x) (g .packet)))
+    sends e l t =
+        let p : ℕ = x .device .packetsize in
+        kept-end (behind e l) (stands-left x (sentOff p e (bufferAt x)) h (follows-sent p e (bufferAt x) (h .sound))) f (omega arith) t _
+        (rw (← h .packetsize) (sent-most p e (bufferAt x))) false _
+        (rw (← h .packetsize) (sent-length p e (bufferAt x) (g .packet)))
 
     kept-status : Keeps (sendStatus g x)
     unfolding sendStatus statusBy
-    kept-status =
-        let e : Endpoint = endpointOf (g .turn .write) in
-        let s = sends (x .device .packetsize) e (h .packetsize) in
-        kept-end (leaving (sentOff (x .device .packetsize) e (bufferAt x)) x) (stands-left x _ h (follows-sent (x .device .packetsize) e (bufferAt x) (h .sound))) f (omega arith) _ _ (s .0) false _ (s .1)
+    kept-status = sends (endpointOf (g .turn .write)) (x .device .left) _
 
     kept-data : Keeps (sendData g x)
     unfolding sendData dataBy
-    kept-data =
-        let e : Endpoint = endpointOf (g .turn .write) in
-        let s = sends (x .device .packetsize) e (h .packetsize) in
-        kept-end (lowered (sentCount (x .device .packetsize) e (bufferAt x)) (leaving (sentOff (x .device .packetsize) e (bufferAt x)) x)) (stands-left x _ h (follows-sent (x .device .packetsize) e (bufferAt x) (h .sound))) f (omega arith) _ _ (s .0) false _ (s .1)
+    kept-data = sends (endpointOf (g .turn .write)) (fallen (x .device .left) _) _
 
     kept-take : Keeps (takeData g x)
     unfolding takeData takeBy
@@ -298,6 +302,7 @@ module _ (d : Device) (io : List ℕ) (g : Given) where
   pub poll-whole : Whole (numbersOf d) (length io) → Whole (numbersOf (pollRule d io g .device)) (length (pollRule d io g .io))
   poll-whole w = kept w .whole
 
+  -- and changes no size; the packet buffer stays as long where it holds P bytes
   pub poll-sizes : Whole (numbersOf d) (length io) → d .packetsize ≤ length (g .packet) → Sizes d (length io) (length (g .packet)) (pollRule d io g)
   poll-sizes w = kept w .sizes
 
@@ -320,7 +325,7 @@ module _ (d : Device) (io : List ℕ) (g : Given) where
   pub call-whole : Whole (numbersOf d) (length io) → Whole (numbersOf (pollCall d io g .device)) (length (pollCall d io g .io))
   call-whole w = by-call (λ (o : Polling). Whole (numbersOf (o .device)) (length (o .io))) (λ _. w) (λ v _. poll-whole v)
 
-  -- for every record and all packets
+  -- and changes no size, for every record and all packets
   pub call-sizes : Sizes d (length io) (length (g .packet)) (pollCall d io g)
   call-sizes =
       by-call (Sizes d (length io) (length (g .packet)))

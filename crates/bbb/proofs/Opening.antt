@@ -1,6 +1,6 @@
 -- Laws of opening: what each way through its functions owes (`ways`). Assumes nothing.
 use mathlib.Core.Path.{_≡_, refl, sym, ap, _∙_}
-use mathlib.Core.Bool.{Bool, true, false, cond, _&&_}
+use mathlib.Core.Bool.{Bool, true, false, _&&_}
 use mathlib.Core.List.{List}
 use Prim.Native.Nat.{ℕ, _+_, _-_, _≤_}
 use native.Mathlib.Omega.{arith}
@@ -12,11 +12,11 @@ use Rattle.fields.proofs.Bools.{and-right}
 use Rattle.fields.proofs.Overlay.{overlay-whole}
 use Rattle.fields.proofs.Seq.{length-part}
 use Rattle.buffer.specs.declared.Marks.{Marks}
-use Rattle.buffer.specs.Buffer.{Buffer, Sound, Leaves, buffer, at, unread}
+use Rattle.buffer.specs.Buffer.{Buffer, Sound, buffer, at, unread}
 use Rattle.answers.specs.declared.Answer.the-variants.{Done}
 use Rattle.answers.specs.declared.Endpoint.{Endpoint}
 use Rattle.answers.specs.declared.Outcome.{Outcome}
-use Rattle.answers.specs.Answers.{told, plainly, endpointOf}
+use Rattle.answers.specs.Answers.{plainly, endpointOf}
 use Rattle.answers.proofs.Laws.{tells}
 use Rattle.ring.specs.declared.Found.the-variants.{Nothing, Invalid, Valid}
 use Rattle.ring.specs.States.{stateNumber}
@@ -31,7 +31,7 @@ use Rattle.device.specs.Broken.{Whole}
 use Rattle.device.proofs.Wholly.{whole-sound}
 use Rattle.bbb.specs.declared.open.Opened.{Opened}
 use Rattle.bbb.specs.Poll.{messageAt}
-use Rattle.bbb.specs.Phases.{Open, openOf, Opens, behind, parsedOpen, parsedMessage, countOf, openAfter, messageAfter, readOpen, readIo, readMessage, opens, leftWhen, isOpening, opened, openedIo, openedMessage}
+use Rattle.bbb.specs.Phases.{Opens, behind, parsedOpen, parsedMessage, countOf, openAfter, messageAfter, readOpen, readIo, readMessage, opens, leftWhen, isOpening, opened, openedIo, openedMessage}
 
 -- ---- small tests
 

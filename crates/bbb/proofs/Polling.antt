@@ -1,5 +1,5 @@
 -- Laws of a poll: what each way through its functions owes (`ways`). Assumes nothing.
-use mathlib.Core.Path.{_≡_, refl, sym, ap, _∙_}
+use mathlib.Core.Path.{_≡_, refl, sym, _∙_}
 use mathlib.Core.Bool.{Bool, true, false, cond, _&&_}
 use mathlib.Core.List.{List}
 use Prim.Native.Nat.{ℕ, _-_, _≤_, _<_}
@@ -12,7 +12,7 @@ use Rattle.answers.specs.declared.Answer.the-variants.{BrokenRecord, PacketRefu
 use Rattle.answers.specs.declared.Outcome.{Outcome}
 use Rattle.answers.specs.declared.Stalls.{Stalls}
 use Rattle.answers.specs.declared.Stalls.the-variants.{Kept}
-use Rattle.answers.specs.Answers.{told, plainly, no, number, endpointOf, stallsOf}
+use Rattle.answers.specs.Answers.{plainly, endpointOf, stallsOf}
 use Rattle.answers.proofs.Laws.{tells}
 use Rattle.ring.specs.declared.Act.{Act}
 use Rattle.ring.specs.declared.Row.{Row}
@@ -25,14 +25,14 @@ use Rattle.device.specs.declared.Numbers.{Numbers}
 use Rattle.device.specs.declared.Status.{Status}
 use Rattle.device.specs.declared.Status.the-variants.{Absent}
 use Rattle.device.specs.Device.{isPresent, numbersOf}
-use Rattle.device.specs.Broken.{Whole, isWhole}
+use Rattle.device.specs.Broken.{isWhole}
 use Rattle.device.proofs.Wholly.{tested, absent-in-0}
 use Rattle.bbb.specs.declared.Change.{Change}
 use Rattle.bbb.specs.declared.Polled.{Polled}
 use Rattle.bbb.specs.declared.open.Opened.{Opened}
 use Rattle.bbb.specs.declared.act.Did.{Did}
-use Rattle.bbb.specs.Poll.{Given, Fits, isFitting, refusedBy, pollingOf, refusing, pollRule, pollCall}
-use Rattle.bbb.specs.Phases.{openOf, Opens, Acts, acted, actedPacket, isValidFound, Ended, endedOf, endsWith, goneOn, opened, openedIo, openedMessage, ran, Runs, changedBy}
+use Rattle.bbb.specs.Poll.{Given, Fits, isFitting, refusedBy, pollingOf, pollRule, pollCall}
+use Rattle.bbb.specs.Phases.{openOf, Opens, Acts, acted, actedPacket, isValidFound, endedOf, endsWith, goneOn, opened, openedIo, openedMessage, ran, Runs, changedBy}
 use Rattle.bbb.proofs.Same.{finish, same}
 
 -- ---- small picks

@@ -16,7 +16,7 @@ use Rattle.ring.specs.declared.Found.the-variants.{Nothing, Invalid, Valid}
 use Rattle.ring.specs.declared.Act.{Act}
 use Rattle.ring.specs.declared.Act.the-variants.{Stay, Stall, Next, Enter, Send, Wait, Fill, Take, Drop}
 use Rattle.ring.specs.States.{rowOf}
-use Rattle.ring.specs.Ring.{statusAwaitAct, noDataAct, toHostEndingAct, toHostAct, fromHostEndingAct, fromHostAct, byDirection, startAct, readCbwAct, statusTransferAct, settled}
+use Rattle.ring.specs.Ring.{statusAwaitAct, noDataAct, toHostEndingAct, toHostAct, fromHostEndingAct, fromHostAct, byDirection, startAct, readCbwAct, statusTransferAct}
 use Rattle.wrapper.specs.declared.DataDirection.{DataDirection}
 use Rattle.wrapper.specs.declared.DataDirection.the-variants.{Out, In, NotExpected}
 use Rattle.wrapper.specs.declared.Wrapper.{Wrapper}
@@ -26,7 +26,7 @@ use Rattle.packets.specs.Packets.{readTold, takesOne, received, filledUp}
 use Rattle.device.specs.declared.Status.the-variants.{Absent}
 use Rattle.device.specs.declared.Device.{Device}
 use Rattle.device.specs.Device.{isPresent, numbersOf, inState}
-use Rattle.bbb.specs.Poll.{Given, Polling, Point, point, bufferAt, reaching, leaving, ending, ends, statusBy, sendStatus, dataBy, sendData, takeBy, takeData, enterStatus, statusAwaitRule, noDataRule, toHostEndingRule, fallsShort, toHostRule, fromHostEndingRule, fromHostRule, startRule, messageAt, behind31, parseRule, readBy, readOneBy, readCbwRule, statusTransferRule, invalidRule, ruleIn}
+use Rattle.bbb.specs.Poll.{Given, Polling, Point, point, reaching, leaving, ending, ends, statusBy, sendStatus, dataBy, sendData, takeBy, takeData, enterStatus, statusAwaitRule, noDataRule, toHostEndingRule, fallsShort, toHostRule, fromHostEndingRule, fromHostRule, startRule, messageAt, behind31, parseRule, readBy, readOneBy, readCbwRule, statusTransferRule, invalidRule, ruleIn}
 use Rattle.bbb.specs.Phases.{Open, opening, behind, parsedOpen, parsedMessage, openAfter, messageAfter, readOpen, readMessage, opens, isOpening, opened, openedIo, openedMessage, Done, tookFrom, took, sentFrom, sentBy, sentPacket, acted, actedPacket, isValidFound, Ended, endedBy, endsWith, goneOn, ran}
 
 -- the record with what changed, and what is reported; μ are the lent 31 bytes

@@ -25,7 +25,6 @@ use Rattle.device.specs.declared.Status.{Status}
 use Rattle.device.specs.declared.Status.the-variants.{Absent, Present}
 use Rattle.device.specs.Create.{isPacketSize, creation, newDevice}
 use Rattle.device.specs.Broken.{commandFits, isWhole}
-use Rattle.bbb.specs.declared.Turn.{Turn}
 use Rattle.bbb.specs.Poll.{Given, given, Polling, statusBy, sendStatus, dataBy, sendData, offers, offeredBy, takeBy, takeData, statusPut, enterStatus, statusAwaitRule, noDataRule, toHostEndingRule, fallsShort, toHostRule, fromHostEndingRule, fromHostRule, startRule, messageAt, parseRule, readBy, readOneBy, readCbwRule, statusTransferRule, invalidRule, ruleIn, pollRule, isFitting, pollCall}
 
 -- a poll with a packet on OUT, the second OUT busy, and IN that does its part; the packet buffer has 64 bytes of 7

@@ -20,7 +20,7 @@ use wrapper::counters::left_after;
 ghost use mathlib.Core.Path.{_≡_};
 ghost use Prim.Native.Nat.{_≤_};
 ghost use lib.ListN.{length};
-ghost use Rattle.buffer.specs.Buffer.{Sound, Leaves, buffer, at};
+ghost use Rattle.buffer.specs.Buffer.{Sound, Leaves, buffer};
 ghost use Rattle.answers.specs.Answers.{endpointOf};
 ghost use Rattle.packets.specs.Packets.{Reads};
 ghost use Rattle.bbb.specs.Poll.{given, Fits, fallsShort, offers, offeredBy, statusPut};

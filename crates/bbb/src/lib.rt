@@ -32,7 +32,6 @@ ghost use Prim.Native.Nat.{_≤_};
 ghost use lib.ListN.{length};
 ghost use Rattle.buffer.specs.Buffer.{Sound, buffer};
 ghost use Rattle.device.specs.declared.Status.the-variants.{Absent};
-ghost use Rattle.device.specs.Device.{numbersOf};
 ghost use Rattle.device.specs.Broken.{Whole};
 ghost use Rattle.wrapper.specs.Wrapper.{wrapperOf};
 ghost use Rattle.bbb.specs.Poll.{given, Fits, isFitting, refusedBy, pollingOf, pollCall};

@@ -2,7 +2,6 @@
 use buffer::span::put;
 use wrapper::DataDirection;
 use wrapper::Wrapper;
-use wrapper::status::CommandStatus;
 use wrapper::status::StatusByte;
 use wrapper::verdict::Verdict;
 ghost use mathlib.Core.Path.{_≡_};

@@ -1,5 +1,5 @@
 -- Laws of the record: what each way through a function owes (`ways`). Assumes nothing.
-use mathlib.Core.Path.{_≡_, refl, sym, _∙_}
+use mathlib.Core.Path.{_≡_, refl}
 use mathlib.Core.Bool.{Bool, true, false, not, cond}
 use Prim.Native.Nat.{ℕ, _≤_, _<_}
 use lib.Dec.{eqb, ltb, leb}
@@ -8,16 +8,14 @@ use Rattle.fields.proofs.Bools.{not-true, not-false}
 use Rattle.buffer.specs.Buffer.{isSound, at}
 use Rattle.answers.specs.declared.Answer.{Answer}
 use Rattle.answers.specs.Answers.{number}
-use Rattle.ring.specs.declared.State.{State}
 use Rattle.ring.specs.declared.State.the-variants.{CommandTransfer}
 use Rattle.wrapper.specs.declared.Wrapper.{Wrapper}
 use Rattle.wrapper.specs.Wrapper.{blank}
 use Rattle.device.specs.declared.Device.{Device}
 use Rattle.device.specs.declared.Numbers.{Numbers}
 use Rattle.device.specs.declared.Status.the-variants.{Absent}
-use Rattle.device.specs.declared.create.Created.{Created}
 use Rattle.device.specs.Device.{isPresent}
-use Rattle.device.specs.Create.{isPacketSize, creation, newDevice, Creation, createdOf, createCall}
+use Rattle.device.specs.Create.{isPacketSize, creation, newDevice, createdOf, createCall}
 use Rattle.device.specs.Broken.{commandFits, statusFits, isWhole}
 
 -- ---- the packet size

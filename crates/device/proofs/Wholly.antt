@@ -3,15 +3,15 @@
 --     whole-sound           its marks are sound over the lent buffer
 --     absent-in-0           in 0 no status is present
 -- Assumes nothing.
-use mathlib.Core.Path.{_≡_, refl, sym, _∙_}
-use mathlib.Core.Bool.{Bool, true, false, not, _&&_}
+use mathlib.Core.Path.{_≡_, sym, _∙_}
+use mathlib.Core.Bool.{Bool, true, false, _&&_}
 use mathlib.Core.List.{List}
-use Prim.Native.Nat.{ℕ, _≤_}
+use Prim.Native.Nat.{ℕ}
 use native.Mathlib.Omega.{arith}
 use lib.Dec.{eqb, leb}
 use lib.ListN.{length}
 use borrow.Author.Tests.{eq-eqb, eqb-true, leb-true, le-leb}
-use Rattle.fields.proofs.Bools.{and-left, and-right, not-true, not-false}
+use Rattle.fields.proofs.Bools.{and-left, and-right, not-true}
 use Rattle.buffer.specs.Buffer.{Sound, isSound, buffer}
 use Rattle.ring.specs.declared.State.the-variants.{CommandTransfer}
 use Rattle.device.specs.declared.Numbers.{Numbers}

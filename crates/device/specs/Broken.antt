@@ -1,7 +1,7 @@
 -- "Broken means: ..", rule by rule. A record that is not broken is whole. Assumes nothing: these are definitions.
 use mathlib.Core.Path.{_≡_}
 use Prim.Native.Nat.{ℕ, _≤_}
-use mathlib.Core.Bool.{Bool, true, false, not, _&&_}
+use mathlib.Core.Bool.{Bool, true, not, _&&_}
 use lib.Dec.{eqb, leb}
 use Rattle.buffer.specs.Buffer.{isSound}
 use Rattle.ring.specs.declared.State.{State}

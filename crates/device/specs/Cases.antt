@@ -1,6 +1,6 @@
 -- Document 01's cases of creation, and ours of broken records: one table, and one statement, which antt computes. Assumes nothing.
 use mathlib.Core.Path.{refl}
-use mathlib.Core.Bool.{Bool, true, false}
+use mathlib.Core.Bool.{true, false}
 use mathlib.Core.List.{List, [], _∷_}
 use Prim.Native.Nat.{ℕ}
 use Rattle.fields.specs.Case.{Case, case, AllHold}

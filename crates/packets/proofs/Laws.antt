@@ -5,7 +5,6 @@ use mathlib.Core.List.{List, []}
 use Prim.Native.Nat.{ℕ, _-_, _≤_, min, max, zero-le}
 use native.Mathlib.Omega.{arith}
 use native.Mathlib.Nat.{max-eq-left}
-use lib.Dec.{eqb}
 use lib.ListN.{length, take}
 use lib.Seq.{take-length}
 use borrow.Author.Tests.{eq-eqb, ne-eqb}
@@ -20,8 +19,6 @@ use Rattle.answers.proofs.Laws.{tells}
 use Rattle.wrapper.specs.declared.counters.Left.{Left}
 use Rattle.wrapper.specs.declared.counters.Residue.{Residue}
 use Rattle.wrapper.specs.Status.{statusBytes}
-use Rattle.packets.specs.declared.Received.{Received}
-use Rattle.packets.specs.declared.Sent.{Sent}
 use Rattle.packets.specs.Packets.{handed, readTold, takesOne, brought, received, Reads, accepted, sendTold, sentCount, sentOff, sentInto, Sends, filledUp, withStatus}
 
 -- ---- how much moves

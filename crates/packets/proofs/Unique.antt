@@ -1,6 +1,6 @@
 -- No second answer satisfies a promise, and no second content of the slice that it may write to. `Post` is the contract itself, as the
 -- check reads it. Assumes nothing.
-use mathlib.Core.Path.{_≡_, refl, sym, ap, _∙_}
+use mathlib.Core.Path.{_≡_, sym, ap, _∙_}
 use mathlib.Core.Bool.{Bool}
 use mathlib.Core.List.{List}
 use Prim.Native.Nat.{ℕ}

@@ -1,6 +1,6 @@
 -- One packet: what a read, a send, the fill and the status leave, over the buffer's definitions. Assumes nothing: these are definitions.
 use mathlib.Core.Path.{_≡_}
-use mathlib.Core.Bool.{Bool, true, false, cond}
+use mathlib.Core.Bool.{Bool, false, cond}
 use mathlib.Core.List.{List, []}
 use Prim.Native.Nat.{ℕ, _-_, min}
 use lib.Dec.{eqb}

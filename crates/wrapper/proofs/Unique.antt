@@ -20,6 +20,10 @@ use Rattle.wrapper.proofs.status.status_bytes.Kinds as status-bytes-kin
 use Rattle.wrapper.proofs.status.status_bytes.Reads as status-bytes
 use Rattle.wrapper.proofs.valid.Kinds as valid-kinds
 use Rattle.wrapper.proofs.valid.Reads as valid
+use Rattle.wrapper.proofs.head_of.Kinds as head-of-kinds
+use Rattle.wrapper.proofs.head_of.Reads as head-of
+use Rattle.wrapper.proofs.read_wrapper.Kinds as read-wrapper-kinds
+use Rattle.wrapper.proofs.read_wrapper.Reads as read-wrapper
 use Rattle.wrapper.proofs.no_wrapper.Kinds as no-wrapper-kinds
 use Rattle.wrapper.proofs.no_wrapper.Reads as no-wrapper
 use Rattle.wrapper.proofs.parse.Kinds as parse-kinds
@@ -55,6 +59,12 @@ status-bytes-only κs a x y s t p q = (p ∙ sym q, refl)
 
 pub valid-only : Only 1 valid-kinds.ps valid-kinds.r valid.Post (λ κs s. tt {0})
 valid-only κs a x y s t p q = (p ∙ sym q, refl)
+
+pub head-of-only : Only 1 head-of-kinds.ps head-of-kinds.r head-of.Post (λ κs s. tt {0})
+head-of-only κs a x y s t p q = (p ∙ sym q, refl)
+
+pub read-wrapper-only : Only 1 read-wrapper-kinds.ps read-wrapper-kinds.r read-wrapper.Post (λ κs s. tt {0})
+read-wrapper-only κs a x y s t p q = (p ∙ sym q, refl)
 
 pub no-wrapper-only : Only 0 no-wrapper-kinds.ps no-wrapper-kinds.r no-wrapper.Post (λ κs s. tt {0})
 no-wrapper-only κs a x y s t p q = (p ∙ sym q, refl)

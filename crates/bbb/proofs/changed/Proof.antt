@@ -1,4 +1,4 @@
--- `bbb::changed` meets its contract. Assumes nothing.
+-- `bbb::changed` meets its contract: field by field. Assumes nothing.
 use borrow.Author.Needs.{needs}
 use Rattle.bbb.proofs.Polling.{ways}
 use Rattle.bbb.proofs.changed.Statement.{statement}

@@ -1,4 +1,4 @@
--- `bbb::poll` meets its contract. Assumes nothing.
+-- `bbb::poll` meets its contract: 10, 11, or what ran, which `Same` shows to be 01's rule. Assumes nothing.
 use borrow.Author.Needs.{needs}
 use Rattle.bbb.proofs.Polling.{tells-10, tells-11, polls, ways}
 use Rattle.bbb.proofs.poll.Statement.{statement}

@@ -1,4 +1,4 @@
--- `bbb::refused` meets its contract. Assumes nothing.
+-- `bbb::refused` meets its contract: all as before. Assumes nothing.
 use borrow.Author.Needs.{needs}
 use Rattle.bbb.proofs.Polling.{ways}
 use Rattle.bbb.proofs.refused.Statement.{statement}

@@ -1,4 +1,4 @@
--- `bbb::run` meets its contract. Assumes nothing.
+-- `bbb::run` meets its contract: what opening left is what the ring and the act go on from. Assumes nothing.
 use borrow.Author.Needs.{needs}
 use Rattle.bbb.proofs.Polling.{ways}
 use Rattle.bbb.proofs.run.Statement.{statement}

@@ -1,4 +1,4 @@
--- `bbb::wrapper_then` meets its contract. Assumes nothing.
+-- `bbb::wrapper_then` meets its contract: the parsed wrapper, or the one before. Assumes nothing.
 use borrow.Author.Needs.{needs}
 use Rattle.bbb.proofs.Polling.{ways}
 use Rattle.bbb.proofs.wrapper_then.Statement.{statement}

@@ -1,4 +1,4 @@
--- `device::creatable` meets its contract. Assumes nothing.
+-- `device::creatable` meets its contract: each rule in turn. Assumes nothing.
 use borrow.Author.Needs.{needs}
 use Rattle.device.proofs.Laws.{ways}
 use Rattle.device.proofs.creatable.Statement.{statement}

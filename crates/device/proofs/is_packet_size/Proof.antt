@@ -1,4 +1,4 @@
--- `device::is_packet_size` meets its contract. Assumes nothing.
+-- `device::is_packet_size` meets its contract: the four sizes. Assumes nothing.
 use Rattle.device.proofs.Laws.{ways}
 use Rattle.device.proofs.is_packet_size.Statement.{statement}
 use Rattle.device.proofs.is_packet_size.Tie as tie

@@ -1,4 +1,4 @@
--- `packets::moved` meets its contract. Assumes nothing.
+-- `packets::moved` meets its contract: all or none, by the endpoint. Assumes nothing.
 use borrow.Author.Needs.{needs}
 use Rattle.packets.proofs.Laws.{ways}
 use Rattle.packets.proofs.moved.Statement.{statement}

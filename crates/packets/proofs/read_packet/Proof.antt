@@ -1,4 +1,4 @@
--- `packets::read_packet` meets its contract. Assumes nothing.
+-- `packets::read_packet` meets its contract: room first, then the endpoint. Assumes nothing.
 use mathlib.Core.Path.{sym}
 use borrow.Author.Needs.{needs}
 use Rattle.packets.proofs.Laws.{length-cut, ways}

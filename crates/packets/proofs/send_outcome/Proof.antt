@@ -1,4 +1,4 @@
--- `packets::send_outcome` meets its contract. Assumes nothing.
+-- `packets::send_outcome` meets its contract: with nothing unread the endpoint is not asked. Assumes nothing.
 use borrow.Author.Needs.{needs}
 use Rattle.packets.proofs.Laws.{ways}
 use Rattle.packets.proofs.send_outcome.Statement.{statement}

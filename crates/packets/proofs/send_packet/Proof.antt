@@ -1,4 +1,4 @@
--- `packets::send_packet` meets its contract. Assumes nothing.
+-- `packets::send_packet` meets its contract: the first unread bytes, as many as the endpoint takes. Assumes nothing.
 use borrow.Author.Needs.{needs}
 use Rattle.packets.proofs.Laws.{ways}
 use Rattle.packets.proofs.send_packet.Statement.{statement}

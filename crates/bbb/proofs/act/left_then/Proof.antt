@@ -1,4 +1,4 @@
--- `bbb::act::left_then` meets its contract. Assumes nothing.
+-- `bbb::act::left_then` meets its contract: left falls, or stays. Assumes nothing.
 use borrow.Author.Needs.{needs}
 use Rattle.bbb.proofs.Acting.{ways}
 use Rattle.bbb.proofs.act.left_then.Statement.{statement}

@@ -1,4 +1,4 @@
--- `bbb::open::reaches` meets its contract. Assumes nothing.
+-- `bbb::open::reaches` meets its contract: in 0, and in 3 with nothing unread. Assumes nothing.
 use Rattle.bbb.proofs.Opening.{ways}
 use Rattle.bbb.proofs.open.reaches.Statement.{statement}
 use Rattle.bbb.proofs.open.reaches.Tie as tie

@@ -1,4 +1,4 @@
--- `bbb::open::ripe` meets its contract. Assumes nothing.
+-- `bbb::open::ripe` meets its contract: a packet came, and 31 bytes are unread. Assumes nothing.
 use borrow.Author.Needs.{needs}
 use Rattle.bbb.proofs.Opening.{ways}
 use Rattle.bbb.proofs.open.ripe.Statement.{statement}

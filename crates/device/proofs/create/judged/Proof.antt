@@ -1,4 +1,4 @@
--- `device::create::judged` meets its contract. Assumes nothing.
+-- `device::create::judged` meets its contract: 01's order of the rules. Assumes nothing.
 use borrow.Author.Needs.{needs}
 use Rattle.device.proofs.Laws.{ways}
 use Rattle.device.proofs.create.judged.Statement.{statement}
