@@ -2,21 +2,22 @@
 --     is-whole, whole-is    the test says whether a record is whole
 --     whole-sound           its marks are sound over the lent buffer
 --     absent-in-0           in 0 no status is present
+--     wrapper-fits, packet-fits, packet-bounds   the buffer holds a wrapper and a packet, and P is 8 to 64
 -- Assumes nothing.
-use mathlib.Core.Path.{_≡_, sym, _∙_}
-use mathlib.Core.Bool.{Bool, true, false, _&&_}
+use mathlib.Core.Path.{_≡_, refl, sym, _∙_}
+use mathlib.Core.Bool.{Bool, true, false, cond, _&&_, _||_}
 use mathlib.Core.List.{List}
-use Prim.Native.Nat.{ℕ}
+use Prim.Native.Nat.{ℕ, _≤_}
 use native.Mathlib.Omega.{arith}
-use lib.Dec.{eqb, leb}
+use lib.Dec.{eqb, ltb, leb}
 use lib.ListN.{length}
-use borrow.Author.Tests.{eq-eqb, eqb-true, leb-true, le-leb}
+use borrow.Author.Tests.{eq-eqb, eqb-true, leb-true, le-leb, ltb-false}
 use Rattle.fields.proofs.Bools.{and-left, and-right, not-true}
 use Rattle.buffer.specs.Buffer.{Sound, isSound, buffer}
 use Rattle.ring.specs.declared.State.the-variants.{CommandTransfer}
 use Rattle.device.specs.declared.Numbers.{Numbers}
 use Rattle.device.specs.Device.{isPresent}
-use Rattle.device.specs.Create.{creation}
+use Rattle.device.specs.Create.{isPacketSize, creation}
 use Rattle.device.specs.Broken.{commandFits, statusFits, Whole, isWhole}
 
 -- the rules, as facts, from the tests
@@ -58,3 +59,43 @@ whole-sound n io w = record { order = w .order; within = omega (arith, w .within
 
 pub absent-in-0 : (n : Numbers) (len : ℕ) → Whole n len → n .state ≡ CommandTransfer → isPresent (n .status) ≡ false
 absent-in-0 n len w e = not-true (isPresent (n .status)) (rw e at (w .status))
+
+-- ---- the packet size and the buffer
+
+-- no creation rule is violated: each of the tests
+unviolated : (a b c d e : Bool) → _≡_ {A = ℕ} (cond a 2 (cond (b || c) 5 (cond d (cond e 9 0) 8))) 0 → (b ≡ false) × (c ≡ false) × (d ≡ true)
+unviolated true b c d e h = absurd (omega (arith, h))
+unviolated false true c d e h = absurd (omega (arith, h))
+unviolated false false true d e h = absurd (omega (arith, h))
+unviolated false false false true e h = (refl, refl, refl)
+unviolated false false false false e h = absurd (omega (arith, h))
+
+module _ (n : Numbers) (len : ℕ) (w : Whole n len) where
+  rules : (ltb (n .size) 31 ≡ false) × (ltb (n .size) (n .packetsize) ≡ false) × (isPacketSize (n .packetsize) ≡ true)
+  unfolding creation
+  rules = unviolated (ltb 15 (n .maxlun)) (ltb (n .size) 31) (ltb (n .size) (n .packetsize)) (isPacketSize (n .packetsize)) (ltb 65536 (n .size)) (w .created)
+
+  -- a wrapper fits into the buffer, and so does a packet
+  pub wrapper-fits : 31 ≤ len
+  wrapper-fits = omega (arith, ltb-false (n .size) 31 (rules .0), w .lent)
+
+  pub packet-fits : n .packetsize ≤ len
+  packet-fits = omega (arith, ltb-false (n .size) (n .packetsize) (rules .1), w .lent)
+
+  pub packet-known : isPacketSize (n .packetsize) ≡ true
+  packet-known = rules .2
+
+-- what is one of four has what each of them has
+or-true : (a b : Bool) {A : Type 0} → (a ≡ true → A) → (b ≡ true → A) → (a || b) ≡ true → A
+or-true true b f g h = f refl
+or-true false b f g h = g h
+
+within : (p k : ℕ) → 8 ≤ k → k ≤ 64 → eqb p k ≡ true → (8 ≤ p) × (p ≤ 64)
+within p k a b h = let e = eqb-true p k h in (omega arith, omega arith)
+
+pub packet-bounds : (p : ℕ) → isPacketSize p ≡ true → (8 ≤ p) × (p ≤ 64)
+unfolding isPacketSize
+packet-bounds p h =
+    or-true (eqb p 8) _ (within p 8 (omega arith) (omega arith))
+    (or-true (eqb p 16) _ (within p 16 (omega arith) (omega arith))
+    (or-true (eqb p 32) _ (within p 32 (omega arith) (omega arith)) (within p 64 (omega arith) (omega arith)))) h
