@@ -4,8 +4,10 @@ use mathlib.Core.Path.{_≡_, refl, sym, ap, _∙_}
 use mathlib.Core.Bool.{Bool, true, false, cond}
 use mathlib.Core.List.{List, [], _++_}
 use Prim.Native.Nat.{ℕ, _+_, _-_, _≤_, max, zero-le}
+use native.Mathlib.Nat.{add-zero, min-zero}
 use native.Mathlib.Omega.{arith}
 use lib.Dec.{ltb}
+use borrow.Author.Tests.{le-ltb}
 use lib.ListN.{length, take, drop, replicate, length-drop}
 use lib.Seq.{drop-drop, drop-append-le, length-take-le}
 use Rattle.fields.specs.Overlay.{overlay}
@@ -57,6 +59,11 @@ unread-written ys s g = behind (length ys) (take (fitting (length ys) s) ys) s g
 pub unread-filled : (v n : ℕ) (s : Buffer) → Sound s → unreadBytes (filled v n s) ≡ unreadBytes s ++ replicate (fitting n s) v
 unfolding filled
 unread-filled v n s g = behind n (replicate (fitting n s) v) s g (filled-fits v n s)
+
+-- filling by none changes nothing
+pub filled-none : (v : ℕ) (s : Buffer) → filled v 0 s ≡ s
+unfolding filled fitting withRoom appended
+filled-none v s = rw (le-ltb (room s) 0 zero-le, min-zero (room s), overlay-nothing, add-zero)
 
 picked : (b : Bool) (s t : Buffer) {x y : List ℕ} → unreadBytes s ≡ x → (b ≡ false → unreadBytes t ≡ y) → unreadBytes (cond b s t) ≡ cond b x y
 picked true s t p q = p

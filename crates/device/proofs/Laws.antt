@@ -8,6 +8,7 @@ use Rattle.fields.proofs.Bools.{not-true, not-false}
 use Rattle.buffer.specs.Buffer.{isSound, at}
 use Rattle.answers.specs.declared.Answer.{Answer}
 use Rattle.answers.specs.Answers.{number}
+use Rattle.ring.specs.declared.State.{State}
 use Rattle.ring.specs.declared.State.the-variants.{CommandTransfer}
 use Rattle.wrapper.specs.declared.Wrapper.{Wrapper}
 use Rattle.wrapper.specs.Wrapper.{blank}
@@ -116,6 +117,10 @@ module _ (lun blocklength : ℕ) where
   unfolding commandFits
   command-long h = rw (lt-leb _ _ h)
 
+-- with a status, and without
+pub fits-by : (s : State) (b c : Bool) {r : Bool} → b ≡ c → r ≡ statusFits s c → r ≡ statusFits s b
+fits-by s b c q k = rw q k
+
 module _ (n : Numbers) (len : ℕ) where
   pub breaks-lent : (n .size ≡ len → ⊥) → false ≡ isWhole n len
   unfolding isWhole
@@ -140,4 +145,4 @@ module _ (n : Numbers) (len : ℕ) where
         unfolding isWhole
         keeps q hf hr = rw (eq-eqb _ _ a, ← hb, not-false b tb, ← hc, not-false c tc, ← hd, not-false d q, ← hf) hr
 
-pub ruleset ways = (size-8, size-16, size-32, size-64, gives-2, gives-5, gives-5-too, gives-8, gives-9, gives-0, refuses-2, refuses-5, refuses-5-too, too-large, by-size, makes, makes-none, news, command-short, command-long, breaks-lent, breaks-creation, breaks-marks, breaks-command, keeps)
+pub ruleset ways = (size-8, size-16, size-32, size-64, gives-2, gives-5, gives-5-too, gives-8, gives-9, gives-0, refuses-2, refuses-5, refuses-5-too, too-large, by-size, makes, makes-none, news, command-short, command-long, fits-by, breaks-lent, breaks-creation, breaks-marks, breaks-command, keeps)

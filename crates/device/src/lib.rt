@@ -9,6 +9,7 @@ use wrapper::counters::Left;
 use wrapper::counters::Residue;
 use wrapper::status::CommandStatus;
 ghost use mathlib.Core.Path.{_≡_};
+ghost use mathlib.Core.Bool.{true, false};
 ghost use lib.Dec.{eqb};
 ghost use Rattle.device.specs.Device.{isPresent, numbersOf};
 ghost use Rattle.device.specs.Create.{isPacketSize, creation};
@@ -119,21 +120,47 @@ fn command_fits(lun: u8, blocklength: u8) -> bool
     false
 }
 
-// Whether a status may be there, or be missing, in a state.
+// Whether a status may be there in a state.
+fn takes_one(state: State) -> bool
+    ensures { λ r. ⌜ r ≡ statusFits state true ⌝ }
+{
+    match state {
+        State::CommandTransfer => false,
+        State::CommandTransferInvalid => false,
+        State::DataTransferNoData => true,
+        State::StatusTransfer => true,
+        State::DataTransferToHost => true,
+        State::DataTransferToHostStatusAwait => true,
+        State::DataTransferToHostEnding => true,
+        State::DataTransferFromHost => true,
+        State::DataTransferFromHostEnding => true,
+    }
+}
+
+// Whether a status may be missing in a state.
+fn does_without(state: State) -> bool
+    ensures { λ r. ⌜ r ≡ statusFits state false ⌝ }
+{
+    match state {
+        State::CommandTransfer => true,
+        State::CommandTransferInvalid => true,
+        State::DataTransferNoData => true,
+        State::StatusTransfer => false,
+        State::DataTransferToHost => true,
+        State::DataTransferToHostStatusAwait => true,
+        State::DataTransferToHostEnding => false,
+        State::DataTransferFromHost => true,
+        State::DataTransferFromHostEnding => false,
+    }
+}
+
 fn status_fits(state: State, present: bool) -> bool
     ensures { λ r. ⌜ r ≡ statusFits state present ⌝ }
 {
-    match state {
-        State::CommandTransfer => !present,
-        State::CommandTransferInvalid => !present,
-        State::DataTransferNoData => true,
-        State::StatusTransfer => present,
-        State::DataTransferToHost => true,
-        State::DataTransferToHostStatusAwait => true,
-        State::DataTransferToHostEnding => present,
-        State::DataTransferFromHost => true,
-        State::DataTransferFromHostEnding => present,
+    if present {
+        return takes_one(state);
     }
+    does_without(state)
 }
 
 // Not broken, over an IO buffer of so many bytes.

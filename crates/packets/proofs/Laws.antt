@@ -11,6 +11,7 @@ use borrow.Author.Tests.{eq-eqb, ne-eqb}
 use Rattle.fields.specs.Overlay.{overlay}
 use Rattle.buffer.specs.declared.Marks.{Marks}
 use Rattle.buffer.specs.Buffer.{Buffer, Sound, Leaves, buffer, at, unread, lacksRoom, writtenAll, filled, written, emptied, ready, given, readOff}
+use Rattle.buffer.proofs.Unread.{filled-none}
 use Rattle.answers.specs.declared.Answer.the-variants.{Done, IoBufferOverflow}
 use Rattle.answers.specs.declared.Endpoint.{Endpoint}
 use Rattle.answers.specs.declared.Outcome.{Outcome}
@@ -129,9 +130,16 @@ sends p e s packet hn ho hk hl hp = record { outcome = ho; count = rw hn at hk; 
 
 -- ---- what is written before
 
-pub fills-up : (p : ℕ) (left : Left) (s : Buffer) {w n : ℕ} {t : Buffer} → w ≡ min (left .0) p → n ≡ w - unread s → Leaves t (filled 0xFF n s) → Leaves t (filledUp p left s)
-unfolding filledUp
-fills-up p left s hw hn h = rw (hn, hw) at h
+module _ (p : ℕ) (left : Left) (s : Buffer) {w : ℕ} (hw : w ≡ min (left .0) p) where
+  pub fills-up : {t : Buffer} → Leaves t (filled 0xFF (w - unread s) s) → Leaves t (filledUp p left s)
+  unfolding filledUp
+  fills-up h = rw hw at h
+
+  pub fills-none : Sound s → w ≤ unread s → Leaves s (filledUp p left s)
+  unfolding filledUp
+  fills-none g h =
+      let none : min (left .0) p - unread s ≡ 0 = omega arith in
+      record { same = rw (none, filled-none 0xFF s); sound = g }
 
 pub puts-status : (tag : ℕ) (residue : Residue) (status : ℕ) (io : List ℕ) {ys : List ℕ} {m : Marks} {t : Buffer}
     → ys ≡ statusBytes tag residue status → m ≡ at 0 0 → Leaves t (written ys (buffer io m)) → Leaves t (withStatus tag residue status (buffer io (at 0 0)))
@@ -141,4 +149,4 @@ puts-status tag residue status io hy hm h = rw (hy, hm) at h
 pub sound-clean : (io : List ℕ) {m : Marks} → m ≡ at 0 0 → Sound (buffer io m)
 sound-clean io h = rw h (record { order = zero-le; within = zero-le })
 
-pub ruleset ways = (moves-all, moves-none, moves-most, moves-within, reads-taken, reads-refused, sends-nothing, sends-something, sends, fills-up, puts-status, sound-clean)
+pub ruleset ways = (moves-all, moves-none, moves-most, moves-within, reads-taken, reads-refused, sends-nothing, sends-something, sends, fills-up, fills-none, puts-status, sound-clean)

@@ -11,7 +11,7 @@ use wrapper::counters::Left;
 use wrapper::counters::Residue;
 use wrapper::status::CommandStatus;
 ghost use mathlib.Core.Path.{_≡_};
-ghost use Prim.Native.Nat.{_-_, _≤_, min};
+ghost use Prim.Native.Nat.{_≤_, min};
 ghost use lib.ListN.{length};
 ghost use Rattle.buffer.specs.Buffer.{Sound, Leaves, buffer, at};
 ghost use Rattle.answers.specs.Answers.{told};
@@ -37,13 +37,6 @@ fn least(a: usize, b: usize) -> usize
     ensures { λ r. ⌜ r ≡ min a b ⌝ }
 {
     if a < b { a } else { b }
-}
-
-// How far `have` falls short of `want`.
-fn lacking(want: usize, have: usize) -> usize
-    ensures { λ r. ⌜ r ≡ want - have ⌝ }
-{
-    if have < want { want - have } else { 0 }
 }
 
 // All of n where the endpoint does its part, otherwise none.
@@ -108,8 +101,12 @@ pub fn fill(io: &mut [u8], m: Marks, p: usize, left: Left) -> Marks
     ensures { λ r. ⌜ Leaves (buffer (now (io .exit)) r) (filledUp p left (buffer (now (io .entry)) m)) ⌝ }
 {
     let want = least(left.0 as usize, p);
-    let t = marked::fill_up_to(io, m, 0xFF, lacking(want, m.write - m.read));
-    t.marks
+    let have = m.write - m.read;
+    if have < want {
+        let t = marked::fill_up_to(io, m, 0xFF, want - have);
+        return t.marks;
+    }
+    m
 }
 
 // The buffer is emptied and the status written into it.

@@ -1,4 +1,4 @@
--- `packets::fill` meets its contract: by as many as `min(left, p)` lacks. Assumes nothing.
+-- `packets::fill` meets its contract: by as many as `min(left, p)` lacks, or by none. Assumes nothing.
 use borrow.Author.Needs.{needs}
 use Rattle.packets.proofs.Laws.{ways}
 use Rattle.packets.proofs.fill.Statement.{statement}
@@ -10,11 +10,11 @@ cast-least c = search needs
 least-requires : tie.Need-least-requires
 least-requires c κs = search needs
 
-sub-lacking : tie.Need-sub-lacking
-sub-lacking c = search needs
+sub-have : tie.Need-sub-have
+sub-have c = search needs
 
-lacking-requires : tie.Need-lacking-requires
-lacking-requires c κs = search needs
+sub-fill-up-to : tie.Need-sub-fill-up-to
+sub-fill-up-to c = search needs
 
 fill-up-to-requires : tie.Need-fill-up-to-requires
 fill-up-to-requires c κs = search needs
@@ -25,5 +25,8 @@ same-length c = search needs
 returns : tie.Need-returns
 returns c = search (ways, needs)
 
+returns-2 : tie.Need-returns-2
+returns-2 c = search (ways, needs)
+
 pub fill-spec : {M : Type 1} → statement M
-fill-spec = tie.close (tie.spec cast-least least-requires sub-lacking lacking-requires fill-up-to-requires same-length returns)
+fill-spec = tie.close (tie.spec cast-least least-requires sub-have sub-fill-up-to fill-up-to-requires same-length returns returns-2)
