@@ -173,13 +173,13 @@ fromHostRule g x =
     (statusAwaitRule g x)
     (cond (isPresent (x .device .status)) (fromHostEndingRule g x) (takeData g (reaching DataTransferFromHost x)))
 
--- "Valid goes on to 7, 4 or, through 2, to 5", with its length left.
+-- the point with a new wrapper, and its length left
+abbrev pub ordered : Wrapper → Point → Point
+ordered w x = point (withLeft (record { 0 = w .length }) (withWrapper w (x .device))) (x .io) (x .taken) (x .unstalled)
+
+-- "Valid goes on to 7, 4 or, through 2, to 5."
 unfoldable pub startRule : Wrapper → Given → Point → Polling
-startRule w g x =
-    byDirection (w .direction)
-    (fromHostRule g (point (withLeft (record { 0 = w .length }) (withWrapper w (x .device))) (x .io) (x .taken) (x .unstalled)))
-    (toHostRule g (point (withLeft (record { 0 = w .length }) (withWrapper w (x .device))) (x .io) (x .taken) (x .unstalled)))
-    (noDataRule g (point (withLeft (record { 0 = w .length }) (withWrapper w (x .device))) (x .io) (x .taken) (x .unstalled)))
+startRule w g x = byDirection (w .direction) (fromHostRule g (ordered w x)) (toHostRule g (ordered w x)) (noDataRule g (ordered w x))
 
 -- the first 31 unread bytes, and the marks behind them
 unfoldable pub messageAt : Buffer → List ℕ
@@ -205,9 +205,13 @@ readOneBy p e s g x = readBy (takesOne p e s) (readTold p e s) g (counting (take
 unfoldable pub readCbwRule : Given → Point → Polling
 readCbwRule g x = readOneBy (x .device .packetsize) (endpointOf (g .turn .first)) (bufferAt x) g x
 
--- "Later polls in 3 send the next packet; with nothing unread, enter 0 and read." "Entering 0 clears status and left and unstalls both".
+-- "Entering 0 clears status and left and unstalls both; it does not empty the buffer."
+abbrev pub entering : Point → Point
+entering x = point (entering0 (x .device)) (x .io) (x .taken) true
+
+-- "Later polls in 3 send the next packet; with nothing unread, enter 0 and read."
 unfoldable pub statusTransferRule : Given → Point → Polling
-statusTransferRule g x = cond (eqb (unread (bufferAt x)) 0) (readCbwRule g (point (entering0 (x .device)) (x .io) (x .taken) true)) (sendStatus g x)
+statusTransferRule g x = cond (eqb (unread (bufferAt x)) 0) (readCbwRule g (entering x)) (sendStatus g x)
 
 -- "1: stall both again; no traffic."
 unfoldable pub invalidRule : Given → Point → Polling
