@@ -1,5 +1,6 @@
 // The wrapper (CBW) of document 01, after bbb.rs. Beside it the status (CSW), the two counters, and BOT's verdict on a message.
-// Every public call of this crate takes any bytes of any length and any number, and ends with an answer.
+// Every entry of this crate takes any bytes of any length and any number, and ends with an answer. Two functions are inner ones for the
+// layers above and require 31 bytes that were tested: `head_of` and `read_wrapper`.
 pub mod counters;
 pub mod status;
 pub mod verdict;
