@@ -9,6 +9,8 @@ use Rattle.answers.specs.declared.Answer.{Answer}
 use Rattle.answers.specs.declared.Answer.the-variants.{Done, IoBufferOverflow, InvalidMaxLun, InvalidState, FullPacketExpected, BufferTooSmall, WouldBlock, EndpointError, PacketSizeRefused, BufferTooLarge, BrokenRecord, PacketRefused, StatusRefused, EmptyBlock}
 use Rattle.answers.specs.declared.Outcome.{Outcome}
 use Rattle.answers.specs.Answers.{number, Told, told}
+use Rattle.answers.proofs.answer_number.Kinds as answer-number-kinds
+use Rattle.answers.proofs.answer_number.Reads as answer-number
 use Rattle.answers.proofs.endpoint_of.Kinds as endpoint-of-kinds
 use Rattle.answers.proofs.endpoint_of.Reads as endpoint-of
 use Rattle.answers.proofs.served.Kinds as served-kinds
@@ -62,6 +64,9 @@ untold-told o = rw (named-number (o .answer))
 
 pub told-once : (x y : Outcome) {t : Told} → told x ≡ t → told y ≡ t → x ≡ y
 told-once x y p q = once told untold untold-told x y p q
+
+pub answer-number-only : Only 0 answer-number-kinds.ps answer-number-kinds.r answer-number.Post (λ κs s. tt {0})
+answer-number-only κs a x y s t p q = (p ∙ sym q, refl)
 
 pub endpoint-of-only : Only 0 endpoint-of-kinds.ps endpoint-of-kinds.r endpoint-of.Post (λ κs s. tt {0})
 endpoint-of-only κs a x y s t p q = (p ∙ sym q, refl)

@@ -1,6 +1,6 @@
 // What endpoints and calls answer: document 01's numbers, by name.
 ghost use mathlib.Core.Path.{_≡_};
-ghost use Rattle.answers.specs.Answers.{told, plainly, endpointOf, serves, answeredBy, stallsOf};
+ghost use Rattle.answers.specs.Answers.{number, told, plainly, endpointOf, serves, answeredBy, stallsOf};
 
 // What an endpoint does when it is asked: its part, nothing since it is busy, or it fails with a number of its own.
 pub enum Endpoint {
@@ -39,6 +39,28 @@ pub enum Stalls {
     Stalled,
     Unstalled,
     UnstalledStalled,
+}
+
+// Document 01's number of an answer.
+pub fn answer_number(answer: Answer) -> u8
+    ensures { λ r. ⌜ r ≡ number answer ⌝ }
+{
+    match answer {
+        Answer::Done => 0,
+        Answer::IoBufferOverflow => 1,
+        Answer::InvalidMaxLun => 2,
+        Answer::InvalidState => 3,
+        Answer::FullPacketExpected => 4,
+        Answer::BufferTooSmall => 5,
+        Answer::WouldBlock => 6,
+        Answer::EndpointError => 7,
+        Answer::PacketSizeRefused => 8,
+        Answer::BufferTooLarge => 9,
+        Answer::BrokenRecord => 10,
+        Answer::PacketRefused => 11,
+        Answer::StatusRefused => 12,
+        Answer::EmptyBlock => 13,
+    }
 }
 
 // What an endpoint's byte stands for: 0 does its part, 1 busy, others errors.

@@ -1,0 +1,120 @@
+-- The call that each kind of event stands for, and what a line shows of it. Assumes nothing: these are definitions.
+use Prim.Native.Nat.{ℕ, _+_}
+use mathlib.Core.Bool.{cond}
+use mathlib.Core.List.{List, [], _∷_, _++_}
+use lib.Dec.{eqb}
+use lib.ListN.{length, take, drop}
+use Rattle.fields.specs.Overlay.{overlay}
+use Rattle.fields.specs.Field.{get}
+use Rattle.answers.specs.declared.Stalls.{Stalls}
+use Rattle.answers.specs.declared.Stalls.the-variants.{Kept}
+use Rattle.answers.specs.Answers.{number}
+use Rattle.wrapper.specs.declared.Wrapper.{Wrapper}
+use Rattle.device.specs.declared.Device.{Device}
+use Rattle.bbb.specs.declared.Turn.{Turn}
+use Rattle.bbb.specs.Poll.{Polling, given, pollCall}
+use Rattle.calls.specs.declared.Figure.{Figure}
+use Rattle.calls.specs.declared.Request.{Request}
+use Rattle.calls.specs.Status.{Stating, setStatusCall}
+use Rattle.calls.specs.Data.{Moving, readCall, writeCall, writeAllCall}
+use Rattle.calls.specs.Bus.{Handling, resetCall, controlCall}
+use Rattle.calls.specs.Command.{Offered, Stepping, stepCall}
+use Rattle.benchfile.specs.Event.{inAnswer, firstAnswer, secondAnswer, firstPacket, secondPacket, statusByte, figure, room, requestType, request}
+use Rattle.benchact.specs.declared.Acted.{Acted}
+
+-- What a call left and told: the record, 01's number, "count (packets taken, bytes read or written, else 0)", stalls, and how many bytes
+-- the line shows; the IO buffer, and the lent bytes, whose first ones are shown.
+pub record Acting : Type 0 where
+  pub device : Device
+  pub number : ℕ
+  pub count : ℕ
+  pub stalls : Stalls
+  pub shown : ℕ
+  pub io : List ℕ
+  pub lent : List ℕ
+
+abbrev pub actingOf : Acted → List ℕ → List ℕ → Acting
+actingOf r io lent = record { device = r .device; number = number (r .answer); count = r .count; stalls = r .stalls; shown = r .shown; io = io; lent = lent }
+
+-- ---- 1 poll: "sent"
+
+unfoldable pub turnOf : List ℕ → Turn
+turnOf body = record { first = get firstAnswer body; second = get secondAnswer body; write = get inAnswer body }
+
+unfoldable pub polled : Polling → Acting
+polled o = record { device = o .device; number = o .told .number; count = o .taken; stalls = o .stalls; shown = o .sent; io = o .io; lent = o .packet }
+
+-- The lent bytes are the packet buffer.
+unfoldable pub pollActs : List ℕ → Device → List ℕ → List ℕ → Acting
+pollActs body d io lent = polled (pollCall d io (given lent (firstPacket body) (secondPacket body) (turnOf body)))
+
+-- ---- 2 status
+
+unfoldable pub figureOf : List ℕ → Figure
+figureOf body = record { status = get statusByte body; processed = get figure body }
+
+unfoldable pub stated : List ℕ → List ℕ → Stating → Acting
+stated io lent o = record { device = o .device; number = o .number; count = 0; stalls = Kept; shown = 0; io = io; lent = lent }
+
+unfoldable pub statusActs : List ℕ → Device → List ℕ → List ℕ → Acting
+statusActs body d io lent = stated io lent (setStatusCall d io (figureOf body))
+
+-- ---- 3 `write_data`, 4 `try_write_data_all`: the n bytes are the source
+
+unfoldable pub written : List ℕ → Moving → Acting
+written lent o = record { device = o .device; number = o .number; count = o .count; stalls = Kept; shown = 0; io = o .bytes; lent = lent }
+
+unfoldable pub writeActs : List ℕ → Device → List ℕ → List ℕ → Acting
+writeActs body d io lent = written lent (writeCall d io body)
+
+unfoldable pub writeAllActs : List ℕ → Device → List ℕ → List ℕ → Acting
+writeAllActs body d io lent = written lent (writeAllCall d io body)
+
+-- ---- 5 `read_data`: "read". The first lent bytes, as many as the room says, are the destination.
+
+unfoldable pub readInto : List ℕ → List ℕ → ℕ → Moving → Acting
+readInto io lent n o = record { device = o .device; number = o .number; count = o .count; stalls = Kept; shown = o .count; io = io; lent = o .bytes ++ drop n lent }
+
+unfoldable pub readActs : List ℕ → Device → List ℕ → List ℕ → Acting
+readActs body d io lent = readInto io lent (get room body) (readCall d io (take (get room body) lent))
+
+-- ---- 6 reset, 7 control: "control answer"
+
+unfoldable pub handled : List ℕ → List ℕ → Handling → Acting
+handled io lent o = record { device = o .device; number = o .number; count = 0; stalls = o .stalls; shown = length (o .bytes); io = io; lent = overlay lent 0 (o .bytes) }
+
+unfoldable pub resetActs : Device → List ℕ → List ℕ → Acting
+resetActs d io lent = handled io lent (resetCall d io)
+
+unfoldable pub requestOf : List ℕ → Request
+requestOf body = record { requesttype = get requestType body; request = get request body }
+
+unfoldable pub controlActs : List ℕ → Device → List ℕ → List ℕ → Acting
+controlActs body d io lent = handled io lent (controlCall d io (requestOf body))
+
+-- ---- 8 command step: "LUN then block"; "nothing offered gives 0 and `-`, an empty block 13 and `-`"
+
+-- the block's bytes that count are shown; all 16 are put in
+unfoldable pub showsCommand : Wrapper → List Offered → List ℕ → ℕ × List ℕ
+showsCommand w [] lent = 0 , lent
+showsCommand w (o ∷ os) lent = 1 + w .blocklength , overlay lent 0 (o .lun ∷ w .block)
+
+unfoldable pub offeredBy : Device → List ℕ → List ℕ → Stepping → Acting
+offeredBy d io lent o = record { device = d; number = o .number; count = 0; stalls = Kept; shown = showsCommand (d .wrapper) (o .offers) lent .0; io = io; lent = showsCommand (d .wrapper) (o .offers) lent .1 }
+
+unfoldable pub commandActs : Device → List ℕ → List ℕ → Acting
+commandActs d io lent = offeredBy d io lent (stepCall d io)
+
+-- ---- the event
+
+-- an event behind the first, by its kind and its n bytes
+unfoldable pub actBy : ℕ → List ℕ → Device → List ℕ → List ℕ → Acting
+actBy kind body d io lent =
+    cond (eqb kind 1) (pollActs body d io lent)
+    (cond (eqb kind 2) (statusActs body d io lent)
+    (cond (eqb kind 3) (writeActs body d io lent)
+    (cond (eqb kind 4) (writeAllActs body d io lent)
+    (cond (eqb kind 5) (readActs body d io lent)
+    (cond (eqb kind 6) (resetActs d io lent)
+    (cond (eqb kind 7) (controlActs body d io lent)
+    (commandActs d io lent)))))))

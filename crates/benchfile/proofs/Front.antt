@@ -1,0 +1,134 @@
+-- What stands at the front of some bytes: what each way through `event::front` and `event::event_at` owes (`fronts`), and how `headOf`
+-- goes with `isEvent`. Assumes nothing.
+use mathlib.Core.Path.{_≡_, refl, sym, ap, _∙_}
+use mathlib.Core.Bool.{Bool, true, false, not, cond, _&&_}
+use mathlib.Core.List.{List, _++_}
+use Prim.Native.Nat.{ℕ, _+_, _-_, _≤_, _<_, min}
+use native.Mathlib.Omega.{arith}
+use native.Mathlib.Nat.{min-le-right, le-refl}
+use lib.Dec.{eqb, lit<}
+use lib.ListN.{length, take, drop, take-append-drop, length-take, length-drop, drop-of-length-le}
+use lib.Seq.{take-append-le, drop-append-le, take-at, length-take-le, take-all}
+use borrow.Author.Tests.{eq-eqb, ne-eqb, eqb-true}
+use Rattle.fields.specs.Field.{Field, bytesAt, get}
+use Rattle.fields.proofs.Bools.{and-left, and-right, not-true, not-false}
+use Rattle.fields.proofs.Seq.{drop-front}
+use Rattle.benchfile.specs.declared.event.Head.{Head}
+use Rattle.benchfile.specs.Event.{kindByte, lengthField, bodyOf, suits, mayStand, isEvent, frontOf, nothing, headOf, eventAt}
+
+-- ---- a field of e is the same where more bytes follow e
+
+pub get-append : (f : Field) (e ys : List ℕ) → f .start + f .width ≤ length e → get f (e ++ ys) ≡ get f e
+unfolding get bytesAt
+get-append f e ys h =
+    rw (drop-append-le (f .start) e ys (omega arith), take-append-le (f .width) (drop (f .start) e) ys (omega (arith, length-drop (f .start) e)))
+
+pub get-front : (f : Field) (n : ℕ) (xs : List ℕ) → f .start + f .width ≤ n → n ≤ length xs → get f (take n xs) ≡ get f xs
+get-front f n xs h k =
+    sym (get-append f (take n xs) (drop n xs) (omega (arith, length-take-le n xs k))) ∙ ap (get f) (take-append-drop n xs)
+
+-- ---- an event
+
+module _ (first : Bool) (e : List ℕ) (h : isEvent first e ≡ true) where
+  -- its length is the one that it says
+  pub event-long : length e ≡ 3 + get lengthField e
+  unfolding isEvent
+  event-long = eqb-true _ _ (and-left _ _ h)
+
+  pub event-suits : suits (get kindByte e) (bodyOf e) ≡ true
+  unfolding isEvent
+  event-suits =
+      and-right (mayStand first (get kindByte e)) _ (and-right (eqb (length e) (3 + get lengthField e)) _ h)
+
+  -- what stands at the front of bytes that begin with an event is that event
+  pub front-event : (ys : List ℕ) → frontOf (e ++ ys) ≡ e
+  unfolding frontOf
+  front-event ys =
+      rw (get-append lengthField e ys (omega (arith, event-long))) (take-at e ys (3 + get lengthField e) event-long)
+
+  pub head-event : (ys : List ℕ) → headOf first (e ++ ys) ≡ record { whole = true; kind = get kindByte e; length = get lengthField e }
+  unfolding headOf
+  head-event ys =
+      rw (front-event ys, h, get-append kindByte e ys (omega (arith, event-long)), get-append lengthField e ys (omega (arith, event-long)))
+
+-- ---- the front of any bytes
+
+module _ (first : Bool) (xs : List ℕ) where
+  no-event : isEvent first (frontOf xs) ≡ false → {r : Head} → r ≡ nothing → r ≡ headOf first xs
+  unfolding headOf
+  no-event e hr = rw (e, hr)
+
+  pub within : length (frontOf xs) ≤ length xs
+  unfolding frontOf
+  within = rw (length-take (3 + get lengthField xs) xs) (min-le-right (3 + get lengthField xs) (length xs))
+
+  pub front-short : length xs < 3 → {r : Head} → r ≡ nothing → r ≡ headOf first xs
+  unfolding isEvent
+  front-short h =
+      no-event (rw (ne-eqb (length (frontOf xs)) (3 + get lengthField (frontOf xs)) (λ q. absurd (omega (arith, q, within)))))
+
+  module _ (h : 3 ≤ length xs) {n : ℕ} (hn : n ≡ get lengthField xs) where
+    pub front-cut : length xs - 3 < n → {r : Head} → r ≡ nothing → r ≡ headOf first xs
+    unfolding isEvent frontOf
+    front-cut k =
+        no-event (rw (take-all (3 + get lengthField xs) xs (omega (arith, hn)), ne-eqb (length xs) (3 + get lengthField xs) (λ q. absurd (omega (arith, q, hn)))))
+
+    module _ (k : n ≤ length xs - 3) {kind : ℕ} (hk : kind ≡ get kindByte xs) where
+      front-there : isEvent first (frontOf xs) ≡ mayStand first kind && suits kind (take (3 + n - 3) (drop 3 xs))
+      unfolding isEvent frontOf bodyOf
+      front-there =
+          let whole : 3 + n ≤ length xs = omega (arith, k, h) in
+          let rest : 3 + n - 3 ≡ n = omega arith in
+          rw (← hn, length-take-le (3 + n) xs whole, get-front lengthField (3 + n) xs (omega arith) whole, ← hn, eq-eqb (3 + n) (3 + n) refl, get-front kindByte (3 + n) xs (omega arith) whole, ← hk, drop-front 3 n xs h, rest)
+
+      module _ {b : Bool} (hb : b ≡ mayStand first kind) where
+        pub front-misplaced : not b ≡ true → {r : Head} → r ≡ nothing → r ≡ headOf first xs
+        front-misplaced q = no-event (front-there ∙ rw (← hb, not-true b q))
+
+        module _ (q : not b ≡ false) {s : Bool} (hs : s ≡ suits kind (take (3 + n - 3) (drop 3 xs))) where
+          pub front-unsuited : s ≡ false → {r : Head} → r ≡ nothing → r ≡ headOf first xs
+          front-unsuited e = no-event (front-there ∙ rw (← hb, not-false b q, ← hs, e))
+
+          pub front-suited : s ≡ true → record { whole = true; kind = kind; length = n } ≡ headOf first xs
+          unfolding headOf
+          front-suited e = rw (front-there, ← hb, not-false b q, ← hs, e, hk, hn)
+
+module _ (xs : List ℕ) (at : ℕ) where
+  -- behind the end nothing stands
+  pub front-behind : length xs < at → {r : Head} → r ≡ nothing → r ≡ eventAt xs at
+  unfolding eventAt
+  front-behind h = front-short (eqb at 0) (drop at xs) (rw (drop-of-length-le xs {i = at} (omega arith)) (lit< tt))
+
+  pub front-at : {r : Head} → r ≡ headOf (eqb at 0) (take (length xs - at) (drop at xs)) → r ≡ eventAt xs at
+  unfolding eventAt
+  front-at e = e ∙ ap (headOf (eqb at 0)) (take-all (length xs - at) (drop at xs) (rw (length-drop at xs) (le-refl (length xs - at))))
+
+pub ruleset fronts = (front-short, front-cut, front-misplaced, front-unsuited, front-suited, front-behind, front-at)
+
+-- ---- the other way: where a head is whole, the bytes begin with an event
+
+module _ (first : Bool) (xs : List ℕ) (w : headOf first xs .whole ≡ true) where
+  pub whole-event : isEvent first (frontOf xs) ≡ true
+  unfolding headOf
+  whole-event = of-test (isEvent first (frontOf xs)) w
+    where
+      of-test : (b : Bool) → cond b (record { whole = true; kind = get kindByte xs; length = get lengthField xs }) nothing .whole ≡ true → b ≡ true
+      of-test true e = refl
+      of-test false e = e
+
+  pub whole-numbers : headOf first xs ≡ record { whole = true; kind = get kindByte xs; length = get lengthField xs }
+  unfolding headOf
+  whole-numbers = rw whole-event
+
+  -- it is not cut off
+  pub whole-long : length (frontOf xs) ≡ 3 + get lengthField xs
+  unfolding frontOf
+  whole-long =
+      let long : length (frontOf xs) ≡ 3 + get lengthField (frontOf xs) = event-long first (frontOf xs) whole-event in
+      let same : get lengthField (frontOf xs) ≡ get lengthField xs =
+          sym (get-append lengthField (frontOf xs) (drop (3 + get lengthField xs) xs) (omega (arith, long))) ∙ ap (get lengthField) (take-append-drop (3 + get lengthField xs) xs)
+      in
+      long ∙ ap (λ (n : ℕ). 3 + n) same
+
+  pub whole-within : 3 + get lengthField xs ≤ length xs
+  whole-within = omega (arith, whole-long, within first xs)

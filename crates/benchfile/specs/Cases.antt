@@ -1,0 +1,83 @@
+-- Cases of the bench file: the rules for events in one table, which antt computes, and two good files: the definitions can be met.
+-- Assumes nothing.
+use mathlib.Core.Path.{refl}
+use mathlib.Core.Bool.{true, false}
+use mathlib.Core.List.{List, [], _∷_, _++_}
+use Prim.Native.Nat.{ℕ}
+use lib.Dec.{lit≤}
+use lib.ListN.{replicate}
+use Rattle.fields.specs.Field.{bytesAt, counted, ordered, get}
+use Rattle.fields.specs.Case.{Case, case, AllHold}
+use Rattle.benchfile.specs.Event.{bodyOf, agrees, isPoll, isStatus, isLong, suits, mayStand, isEvent, frontOf, headOf, eventAt, nothing}
+use Rattle.benchfile.specs.File.{joined, areEvents, lastOffset, Good}
+
+-- ---- the events of 01's listing
+
+-- "create (64, 0, 64)"
+create : List ℕ
+create = 0x00 ∷ 0x07 ∷ 0x00 ∷ 0x40 ∷ 0x00 ∷ 0x00 ∷ 0x40 ∷ 0x00 ∷ 0x00 ∷ 0x00 ∷ []
+
+-- "poll with a tag 1, L = 0, block length 6 all-zero command, IN 0, second OUT busy"
+wrapperPoll : List ℕ
+wrapperPoll = (0x01 ∷ 0x24 ∷ 0x00 ∷ 0x00 ∷ 0x00 ∷ 0x01 ∷ 0x1F ∷ 0x00 ∷ 0x55 ∷ 0x53 ∷ 0x42 ∷ 0x43 ∷ 0x01 ∷ 0x00 ∷ 0x00 ∷ 0x00 ∷ 0x00 ∷ 0x00 ∷ 0x00 ∷ 0x00 ∷ 0x00 ∷ 0x00 ∷ 0x06 ∷ []) ++ replicate 16 0x00
+
+-- "status 0, figure 0"
+status : List ℕ
+status = 0x02 ∷ 0x05 ∷ 0x00 ∷ 0x00 ∷ 0x00 ∷ 0x00 ∷ 0x00 ∷ 0x00 ∷ []
+
+-- "poll with IN 0 and both OUT busy"
+busyPoll : List ℕ
+busyPoll = 0x01 ∷ 0x05 ∷ 0x00 ∷ 0x00 ∷ 0x01 ∷ 0x01 ∷ 0x00 ∷ 0x00 ∷ []
+
+pub listing : List (List ℕ)
+listing = create ∷ wrapperPoll ∷ status ∷ busyPoll ∷ busyPoll ∷ []
+
+-- 5 events, the last at 65, `BOT1`
+pub listingTrailer : List ℕ
+listingTrailer = 0x05 ∷ 0x00 ∷ 0x00 ∷ 0x00 ∷ 0x41 ∷ 0x00 ∷ 0x00 ∷ 0x00 ∷ 0x42 ∷ 0x4F ∷ 0x54 ∷ 0x31 ∷ []
+
+pub table : List Case
+table =
+    case (areEvents true listing) true
+    ∷ case (lastOffset listing) 65
+    ∷ case (eventAt (joined listing) 49) (record { whole = true; kind = 2; length = 5 })
+    -- between two events there is none
+    ∷ case (eventAt (joined listing) 50 .whole) false
+    -- "first and only first"
+    ∷ case (isEvent false create) false
+    ∷ case (isEvent true status) false
+    -- a length that says more than is there
+    ∷ case (headOf false (0x03 ∷ 0x02 ∷ 0x00 ∷ 0x55 ∷ [])) nothing
+    ∷ case (headOf false (0x03 ∷ 0x01 ∷ 0x00 ∷ 0x55 ∷ [])) (record { whole = true; kind = 3; length = 1 })
+    -- "a length is 0 unless its answer is 0"
+    ∷ case (isPoll (0x00 ∷ 0x01 ∷ 0x01 ∷ 0x01 ∷ 0x00 ∷ 0x55 ∷ [])) false
+    ∷ case (isPoll (0x00 ∷ 0x00 ∷ 0x01 ∷ 0x01 ∷ 0x00 ∷ 0x55 ∷ [])) true
+    -- "status (byte 0 to 2, ..)", and a kind that there is not
+    ∷ case (isStatus (0x03 ∷ 0x00 ∷ 0x00 ∷ 0x00 ∷ 0x00 ∷ [])) false
+    ∷ case (suits 9 []) false
+    ∷ []
+
+pub table-holds : AllHold table
+unfolding table listing create wrapperPoll status busyPoll bytesAt counted ordered get bodyOf agrees isPoll isStatus isLong suits mayStand isEvent frontOf headOf eventAt joined areEvents lastOffset
+table-holds = refl
+
+-- 01's listing is a good file, and so is "a file of none"
+pub listing-good : Good (joined listing ++ listingTrailer) listing
+unfolding listing create wrapperPoll status busyPoll listingTrailer bytesAt counted ordered get bodyOf agrees isPoll isStatus isLong suits mayStand isEvent joined areEvents lastOffset
+listing-good = record {
+  most = lit≤ tt;
+  are = refl;
+  trailer = listingTrailer;
+  parts = refl;
+  closes = record { twelve = refl; count = refl; last = refl; bot1 = refl };
+}
+
+pub none-good : Good (0x00 ∷ 0x00 ∷ 0x00 ∷ 0x00 ∷ 0x00 ∷ 0x00 ∷ 0x00 ∷ 0x00 ∷ 0x42 ∷ 0x4F ∷ 0x54 ∷ 0x31 ∷ []) []
+unfolding bytesAt counted ordered get joined areEvents lastOffset
+none-good = record {
+  most = lit≤ tt;
+  are = refl;
+  trailer = 0x00 ∷ 0x00 ∷ 0x00 ∷ 0x00 ∷ 0x00 ∷ 0x00 ∷ 0x00 ∷ 0x00 ∷ 0x42 ∷ 0x4F ∷ 0x54 ∷ 0x31 ∷ [];
+  parts = refl;
+  closes = record { twelve = refl; count = refl; last = refl; bot1 = refl };
+}

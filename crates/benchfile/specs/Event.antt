@@ -1,0 +1,126 @@
+-- Document 01, 'Bench file', on events: "An event is a kind byte, 2 bytes length n, n bytes. .. Numbers are little-endian." Here an
+-- event is a list: all of its bytes. Assumes nothing: these are definitions.
+use Prim.Native.Nat.{ℕ, _+_}
+use mathlib.Core.Bool.{Bool, true, false, cond, not, _&&_, _||_}
+use mathlib.Core.List.{List}
+use lib.Dec.{eqb, leb}
+use lib.ListN.{length, take, drop}
+use Rattle.fields.specs.Field.{Field, littleEndian, oneByte, get}
+use Rattle.benchfile.specs.declared.event.Head.{Head}
+
+abbrev pub kindByte : Field
+kindByte = oneByte 0
+
+abbrev pub lengthField : Field
+lengthField = littleEndian 1 2
+
+-- the n bytes behind the first three
+unfoldable pub bodyOf : List ℕ → List ℕ
+bodyOf e = drop 3 e
+
+-- ---- the fields in the n bytes
+
+-- "0 create (P 2, max LUN 1, buffer 4)"
+abbrev pub packetSize : Field
+packetSize = littleEndian 0 2
+
+abbrev pub maxLun : Field
+maxLun = oneByte 2
+
+abbrev pub bufferSize : Field
+bufferSize = littleEndian 3 4
+
+-- "1 poll (IN answer, two OUT answers, two packet lengths, 1 byte each, then the packets)"
+abbrev pub inAnswer : Field
+inAnswer = oneByte 0
+
+abbrev pub firstAnswer : Field
+firstAnswer = oneByte 1
+
+abbrev pub secondAnswer : Field
+secondAnswer = oneByte 2
+
+abbrev pub firstLength : Field
+firstLength = oneByte 3
+
+abbrev pub secondLength : Field
+secondLength = oneByte 4
+
+unfoldable pub firstPacket : List ℕ → List ℕ
+firstPacket body = take (get firstLength body) (drop 5 body)
+
+unfoldable pub secondPacket : List ℕ → List ℕ
+secondPacket body = drop (5 + get firstLength body) body
+
+-- "2 status (byte 0 to 2, figure 4)"
+abbrev pub statusByte : Field
+statusByte = oneByte 0
+
+abbrev pub figure : Field
+figure = littleEndian 1 4
+
+-- "5 `read_data` (room 2)"
+abbrev pub room : Field
+room = littleEndian 0 2
+
+-- "7 control (bmRequestType, request)"
+abbrev pub requestType : Field
+requestType = oneByte 0
+
+abbrev pub request : Field
+request = oneByte 1
+
+-- ---- the rules
+
+-- "a length is 0 unless its answer is 0"
+unfoldable pub agrees : ℕ → ℕ → Bool
+agrees answer len = eqb answer 0 || eqb len 0
+
+unfoldable pub isPoll : List ℕ → Bool
+isPoll body =
+    leb 5 (length body)
+    && (eqb (length body) (5 + get firstLength body + get secondLength body)
+    && (agrees (get firstAnswer body) (get firstLength body) && agrees (get secondAnswer body) (get secondLength body)))
+
+unfoldable pub isStatus : List ℕ → Bool
+isStatus body = eqb (length body) 5 && leb (get statusByte body) 2
+
+-- The other kinds go by their length alone. "3 `write_data`; 4 `try_write_data_all`" take any source; "6 reset"; "8 command step, n = 0".
+unfoldable pub isLong : ℕ → ℕ → Bool
+isLong kind n =
+    cond (eqb kind 0) (eqb n 7)
+    (cond (eqb kind 3) true
+    (cond (eqb kind 4) true
+    (cond (eqb kind 5) (eqb n 2)
+    (cond (eqb kind 6) (eqb n 0)
+    (cond (eqb kind 7) (eqb n 2)
+    (cond (eqb kind 8) (eqb n 0)
+    false))))))
+
+unfoldable pub suits : ℕ → List ℕ → Bool
+suits kind body = cond (eqb kind 1) (isPoll body) (cond (eqb kind 2) (isStatus body) (isLong kind (length body)))
+
+-- "0 create .., first and only first": whether this kind may stand first, or further on
+unfoldable pub mayStand : Bool → ℕ → Bool
+mayStand first kind = cond first (eqb kind 0) (not (eqb kind 0))
+
+-- Whether e is an event, the first one of its file or a later one.
+unfoldable pub isEvent : Bool → List ℕ → Bool
+isEvent first e =
+    eqb (length e) (3 + get lengthField e)
+    && (mayStand first (get kindByte e) && suits (get kindByte e) (bodyOf e))
+
+-- ---- what stands at an offset
+
+-- as many bytes of xs as an event in front would have
+unfoldable pub frontOf : List ℕ → List ℕ
+frontOf xs = take (3 + get lengthField xs) xs
+
+abbrev pub nothing : Head
+nothing = record { whole = false; kind = 0; length = 0 }
+
+unfoldable pub headOf : Bool → List ℕ → Head
+headOf first xs = cond (isEvent first (frontOf xs)) (record { whole = true; kind = get kindByte xs; length = get lengthField xs }) nothing
+
+unfoldable pub eventAt : List ℕ → ℕ → Head
+eventAt xs at = headOf (eqb at 0) (drop at xs)

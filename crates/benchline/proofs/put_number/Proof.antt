@@ -1,0 +1,25 @@
+use native.Mathlib.Omega.{arith}
+use borrow.Author.Needs.{needs}
+use Rattle.benchline.proofs.Text.{length-number}
+use Rattle.benchline.proofs.Ways.{ways}
+use Rattle.benchline.proofs.put_number.Statement.{statement}
+use Rattle.benchline.proofs.put_number.Tie as tie
+
+put-decimal-requires : tie.Need-put-decimal-requires
+put-decimal-requires c κs = omega (arith, length-number (c .before .before .args .n))
+
+slice-write-text : tie.Need-slice-write-text
+slice-write-text c = omega (arith, length-number (c .before .before .before .before .before .args .n))
+
+add-result : tie.Need-add-result
+add-result c = omega (arith, length-number (c .before .before .before .before .before .args .n))
+
+same-length : tie.Need-same-length
+same-length c = search needs
+
+returns : tie.Need-returns
+returns c = search (ways, needs)
+
+pub put-number-spec : {M : Type 1} → statement M
+put-number-spec =
+    tie.close (tie.spec put-decimal-requires slice-write-text add-result same-length returns)

@@ -1,0 +1,82 @@
+-- Document 01 on the lines of `bench`: "Fields per event, decimal: index, answer, state, left, unread, count .., stalls (`-`, `S`, `U`, `US`),
+-- bytes in lower-case hex .. or `-`." Assumes nothing: these are definitions.
+use Prim.Native.Nat.{ℕ, zero, suc, _+_, _*_, _/_, _%_}
+use mathlib.Core.Path.{_≡_}
+use mathlib.Core.Bool.{cond}
+use mathlib.Core.List.{List, [], _∷_, _++_}
+use lib.Dec.{ltb}
+use lib.ListN.{length}
+use Rattle.fields.specs.Overlay.{overlay}
+use Rattle.answers.specs.declared.Stalls.{Stalls}
+use Rattle.answers.specs.declared.Stalls.the-variants.{Kept, Stalled, Unstalled, UnstalledStalled}
+use Rattle.benchline.specs.declared.Line.{Line}
+
+-- text is ASCII: a space, `-`, the end of a line
+abbrev pub space : ℕ
+space = 0x20
+
+abbrev pub dash : ℕ
+dash = 0x2D
+
+abbrev pub newline : ℕ
+newline = 0x0A
+
+-- a digit below 16: `0` to `9`, then `a` to `f`
+unfoldable pub digit : ℕ → ℕ
+digit n = cond (ltb n 10) (0x30 + n) (0x57 + n)
+
+-- n in decimal, with at most so many digits; a 64-bit number has at most 20
+unfoldable pub decimalUpTo : ℕ → ℕ → List ℕ
+decimalUpTo zero n = []
+decimalUpTo (suc most) n = cond (ltb n 10) (digit n ∷ []) (decimalUpTo most (n / 10) ++ (digit (n % 10) ∷ []))
+
+unfoldable pub decimal : ℕ → List ℕ
+decimal n = decimalUpTo 20 n
+
+-- a number, and the space behind it
+unfoldable pub number : ℕ → List ℕ
+number n = decimal n ++ (space ∷ [])
+
+-- "decimal: index, answer, state, left, unread, count"
+unfoldable pub numbers : Line → List ℕ
+numbers l =
+    number (l .index)
+    ++ number (l .answer)
+    ++ number (l .state)
+    ++ number (l .left)
+    ++ number (l .unread)
+    ++ number (l .count)
+
+-- "stalls (`-`, `S`, `U`, `US`)"
+abbrev pub stallsText : Stalls → List ℕ
+stallsText Kept = dash ∷ []
+stallsText Stalled = 0x53 ∷ []
+stallsText Unstalled = 0x55 ∷ []
+stallsText UnstalledStalled = 0x55 ∷ 0x53 ∷ []
+
+-- two digits for each byte
+unfoldable pub hex : List ℕ → List ℕ
+hex [] = []
+hex (b ∷ bs) = digit (b / 16) ∷ digit (b % 16) ∷ hex bs
+
+-- "bytes in lower-case hex .. or `-`"
+unfoldable pub bytesText : List ℕ → List ℕ
+bytesText [] = dash ∷ []
+bytesText (b ∷ bs) = hex (b ∷ bs)
+
+-- what a line has before its bytes
+unfoldable pub fields : Line → List ℕ
+fields l = numbers l ++ stallsText (l .stalls) ++ (space ∷ [])
+
+-- the line of an event, with these bytes
+unfoldable pub lineOf : Line → List ℕ → List ℕ
+lineOf l bytes = fields l ++ bytesText bytes ++ (newline ∷ [])
+
+-- the most that a line with n bytes takes: six numbers of 20 digits, the spaces behind them, stalls, a space, the bytes, the end of the line
+unfoldable pub roomFor : ℕ → ℕ
+roomFor n = 131 + 2 * n
+
+-- A text was put in at an index, everything else stayed, and it ends there.
+pub record Puts (at : ℕ) (ys before after : List ℕ) (end : ℕ) : Type 0 where
+  pub ends : end ≡ at + length ys
+  pub text : after ≡ overlay before at ys
