@@ -638,6 +638,10 @@ fn commands() -> Vec<Named> {
             ]),
         ),
         named(
+            "command-12-of-four-bytes-is-unknown",
+            shown(&[&[0x12, 1, 0x80, 0]]),
+        ),
+        named(
             "command-blocks-as-linux-sends-them",
             shown(&[
                 &[0x12, 0, 0, 0, 36, 0],
@@ -821,8 +825,7 @@ fn differences() -> Vec<Named> {
             "diff-filler-goes-out-as-inquiry-data-with-a-residue",
             create(64, 0, 64)
                 .wrapper(Wrapper::new(1, &[0x12, 0, 0, 0, 36, 0]).with_data_in(36))
-                .write(&[0])
-                .status(0, 1)
+                .status(0, 0)
                 .polls(2),
         ),
         named(

@@ -76,6 +76,13 @@ impl Coverage {
         }
     }
 
+    /// What another set of files has reached, on top.
+    pub fn merge(&mut self, other: &Coverage) {
+        for (key, count) in &other.reached {
+            *self.reached.entry(key.clone()).or_insert(0) += count;
+        }
+    }
+
     pub fn misses(&self, key: &Key) -> bool {
         self.reached[key] == 0
     }

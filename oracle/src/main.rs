@@ -10,6 +10,7 @@ mod coverage;
 mod damage;
 mod decode;
 mod device;
+mod diff;
 mod endpoints;
 mod firmware;
 mod generator;
@@ -61,6 +62,9 @@ fn command(words: &[&str], flags: &[&str]) -> io::Result<ExitCode> {
         (["run"], ["--status"]) => by_line(codecs::status)?,
         (["gen", of @ ..], flags) => return generate(of, flags),
         (["vectors", folder], []) => vectors::write(folder)?,
+        (["diff", events, seed, folder, program @ ..], []) if !program.is_empty() => {
+            return diff::command(number(events)?, number(seed)?, folder, program);
+        }
         (["buffer-ops", seed, count, operations, results], []) => {
             bufferops::command(number(seed)?, number(count)? as usize, operations, results)?;
         }

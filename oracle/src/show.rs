@@ -26,7 +26,7 @@ pub fn step(text: &mut String, step: &Step) {
     text.push('\n');
 }
 
-fn event(text: &mut String, event: &Event) {
+pub fn event(text: &mut String, event: &Event) {
     match event {
         Event::Create {
             packet_size,

@@ -12,9 +12,13 @@ use Rattle.answers.specs.Answers.{number}
 use Rattle.wrapper.specs.declared.Wrapper.{Wrapper}
 use Rattle.device.specs.declared.Device.{Device}
 use Rattle.bbb.specs.declared.Turn.{Turn}
+use Rattle.bbb.specs.declared.Polled.{Polled}
 use Rattle.bbb.specs.Poll.{Polling, given, pollCall}
 use Rattle.calls.specs.declared.Figure.{Figure}
+use Rattle.calls.specs.declared.Stated.{Stated}
+use Rattle.calls.specs.declared.Moved.{Moved}
 use Rattle.calls.specs.declared.Request.{Request}
+use Rattle.calls.specs.declared.Handled.{Handled}
 use Rattle.calls.specs.Status.{Stating, setStatusCall}
 use Rattle.calls.specs.Data.{Moving, readCall, writeCall, writeAllCall}
 use Rattle.calls.specs.Bus.{Handling, resetCall, controlCall}
@@ -36,10 +40,22 @@ pub record Acting : Type 0 where
 abbrev pub actingOf : Acted → List ℕ → List ℕ → Acting
 actingOf r io lent = record { device = r .device; number = number (r .answer); count = r .count; stalls = r .stalls; shown = r .shown; io = io; lent = lent }
 
+-- how many of the lent bytes the line shows, and all of them
+pub record Front : Type 0 where
+  pub shown : ℕ
+  pub lent : List ℕ
+
+abbrev pub front : ℕ → List ℕ → Front
+front shown lent = record { shown = shown; lent = lent }
+
 -- ---- 1 poll: "sent"
 
 unfoldable pub turnOf : List ℕ → Turn
 turnOf body = record { first = get firstAnswer body; second = get secondAnswer body; write = get inAnswer body }
+
+-- what is returned of it
+abbrev pub polledBy : Polled → Acted
+polledBy r = record { device = r .device; answer = r .report .outcome .answer; count = r .report .taken; stalls = r .report .stalls; shown = r .report .sent }
 
 unfoldable pub polled : Polling → Acting
 polled o = record { device = o .device; number = o .told .number; count = o .taken; stalls = o .stalls; shown = o .sent; io = o .io; lent = o .packet }
@@ -53,6 +69,10 @@ pollActs body d io lent = polled (pollCall d io (given lent (firstPacket body) (
 unfoldable pub figureOf : List ℕ → Figure
 figureOf body = record { status = get statusByte body; processed = get figure body }
 
+-- what is returned of it
+abbrev pub statedBy : Stated → Acted
+statedBy r = record { device = r .device; answer = r .answer; count = 0; stalls = Kept; shown = 0 }
+
 unfoldable pub stated : List ℕ → List ℕ → Stating → Acting
 stated io lent o = record { device = o .device; number = o .number; count = 0; stalls = Kept; shown = 0; io = io; lent = lent }
 
@@ -60,6 +80,10 @@ unfoldable pub statusActs : List ℕ → Device → List ℕ → List ℕ → Ac
 statusActs body d io lent = stated io lent (setStatusCall d io (figureOf body))
 
 -- ---- 3 `write_data`, 4 `try_write_data_all`: the n bytes are the source
+
+-- what is returned of a write, and of a read that shows so many bytes
+abbrev pub movedBy : Moved → ℕ → Acted
+movedBy r shown = record { device = r .device; answer = r .report .answer; count = r .report .count; stalls = Kept; shown = shown }
 
 unfoldable pub written : List ℕ → Moving → Acting
 written lent o = record { device = o .device; number = o .number; count = o .count; stalls = Kept; shown = 0; io = o .bytes; lent = lent }
@@ -80,8 +104,16 @@ readActs body d io lent = readInto io lent (get room body) (readCall d io (take 
 
 -- ---- 6 reset, 7 control: "control answer"
 
+-- what is returned of either, with so many bytes shown
+abbrev pub handledBy : Handled → ℕ → Acted
+handledBy r shown = record { device = r .device; answer = r .report .answer; count = 0; stalls = r .report .stalls; shown = shown }
+
+-- these bytes are put in front, and all of them are shown
+unfoldable pub inFront : List ℕ → List ℕ → Front
+inFront bytes lent = front (length bytes) (overlay lent 0 bytes)
+
 unfoldable pub handled : List ℕ → List ℕ → Handling → Acting
-handled io lent o = record { device = o .device; number = o .number; count = 0; stalls = o .stalls; shown = length (o .bytes); io = io; lent = overlay lent 0 (o .bytes) }
+handled io lent o = record { device = o .device; number = o .number; count = 0; stalls = o .stalls; shown = inFront (o .bytes) lent .shown; io = io; lent = inFront (o .bytes) lent .lent }
 
 unfoldable pub resetActs : Device → List ℕ → List ℕ → Acting
 resetActs d io lent = handled io lent (resetCall d io)
@@ -94,16 +126,16 @@ controlActs body d io lent = handled io lent (controlCall d io (requestOf body))
 
 -- ---- 8 command step: "LUN then block"; "nothing offered gives 0 and `-`, an empty block 13 and `-`"
 
--- the block's bytes that count are shown; all 16 are put in
-unfoldable pub showsCommand : Wrapper → List Offered → List ℕ → ℕ × List ℕ
-showsCommand w [] lent = 0 , lent
-showsCommand w (o ∷ os) lent = 1 + w .blocklength , overlay lent 0 (o .lun ∷ w .block)
+-- the block's bytes that count are shown; all 16 are put in front
+unfoldable pub commandInFront : Wrapper → List Offered → List ℕ → Front
+commandInFront w [] lent = front 0 lent
+commandInFront w (o ∷ os) lent = front (1 + w .blocklength) (overlay lent 0 (o .lun ∷ w .block))
 
-unfoldable pub offeredBy : Device → List ℕ → List ℕ → Stepping → Acting
-offeredBy d io lent o = record { device = d; number = o .number; count = 0; stalls = Kept; shown = showsCommand (d .wrapper) (o .offers) lent .0; io = io; lent = showsCommand (d .wrapper) (o .offers) lent .1 }
+unfoldable pub stepped : Device → List ℕ → List ℕ → Stepping → Acting
+stepped d io lent o = record { device = d; number = o .number; count = 0; stalls = Kept; shown = commandInFront (d .wrapper) (o .offers) lent .shown; io = io; lent = commandInFront (d .wrapper) (o .offers) lent .lent }
 
 unfoldable pub commandActs : Device → List ℕ → List ℕ → Acting
-commandActs d io lent = offeredBy d io lent (stepCall d io)
+commandActs d io lent = stepped d io lent (stepCall d io)
 
 -- ---- the event
 

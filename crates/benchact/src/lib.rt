@@ -12,12 +12,15 @@ use device::Device;
 use fields::byte;
 use fields::le16;
 use fields::le32;
+use wrapper::Wrapper;
 ghost use mathlib.Core.Path.{_≡_};
 ghost use mathlib.Core.Bool.{true};
 ghost use Prim.Native.Nat.{_≤_};
 ghost use lib.ListN.{length};
+ghost use Rattle.calls.specs.Bus.{replied};
+ghost use Rattle.calls.specs.Command.{offers};
 ghost use Rattle.benchfile.specs.Event.{isPoll, suits};
-ghost use Rattle.benchact.specs.Act.{actingOf, pollActs, statusActs, writeActs, writeAllActs, readActs, resetActs, controlActs, commandActs, actBy};
+ghost use Rattle.benchact.specs.Act.{front, actingOf, turnOf, polledBy, pollActs, figureOf, statedBy, movedBy, readActs, handledBy, inFront, resetActs, requestOf, controlActs, commandInFront, commandActs, actBy};
 
 // What a call left and told: the record, the answer, the line's count, what was asked of the endpoints, and how many bytes are shown.
 pub struct Acted {
@@ -28,17 +31,22 @@ pub struct Acted {
     pub shown: usize,
 }
 
-fn poll(device: Device, io: &mut [u8], lent: &mut [u8], body: &[u8]) -> Acted
-    requires { ⌜ isPoll (now body) ≡ true ⌝ }
-    ensures { λ r. ⌜ actingOf r (now (io .exit)) (now (lent .exit)) ≡ pollActs (now (body .entry)) device (now (io .entry)) (now (lent .entry)) ⌝ }
+// ---- 1 poll
+
+fn turn_of(body: &[u8]) -> Turn
+    requires { ⌜ 5 ≤ length (now body) ⌝ }
+    ensures { λ r. ⌜ r ≡ turnOf (now (body .entry)) ⌝ }
 {
-    let end = 5 + (byte(body, 3) as usize);
-    let turn = Turn {
+    Turn {
         first: byte(body, 1),
         second: byte(body, 2),
         write: byte(body, 0),
-    };
-    let r = bbb::poll(device, io, lent, &body[5..end], &body[end..], turn);
+    }
+}
+
+fn polled(r: bbb::Polled) -> Acted
+    ensures { λ a. ⌜ a ≡ polledBy r ⌝ }
+{
     let d = r.device;
     let report = r.report;
     let outcome = report.outcome;
@@ -53,16 +61,31 @@ fn poll(device: Device, io: &mut [u8], lent: &mut [u8], body: &[u8]) -> Acted
     }
 }
 
-fn set_status(device: Device, io: &[u8], body: &[u8]) -> Acted
+// The second packet stands right behind the first.
+fn poll(device: Device, io: &mut [u8], lent: &mut [u8], body: &[u8]) -> Acted
+    requires { ⌜ isPoll (now body) ≡ true ⌝ }
+    ensures { λ r. ⌜ actingOf r (now (io .exit)) (now (lent .exit)) ≡ pollActs (now (body .entry)) device (now (io .entry)) (now (lent .entry)) ⌝ }
 {
-    let r = calls::set_status(
-        device,
-        io,
-        Figure {
-            status: byte(body, 0),
-            processed: le32(body, 1),
-        },
-    );
+    let turn = turn_of(body);
+    let end = 5 + (byte(body, 3) as usize);
+    polled(bbb::poll(device, io, lent, &body[5..end], &body[end..], turn))
+}
+
+// ---- 2 status
+
+fn figure_of(body: &[u8]) -> Figure
+    requires { ⌜ length (now body) ≡ 5 ⌝ }
+    ensures { λ r. ⌜ r ≡ figureOf (now (body .entry)) ⌝ }
+{
+    Figure {
+        status: byte(body, 0),
+        processed: le32(body, 1),
+    }
+}
+
+fn stated(r: calls::Stated) -> Acted
+    ensures { λ a. ⌜ a ≡ statedBy r ⌝ }
+{
     let d = r.device;
     let answer = r.answer;
     Acted {
@@ -74,7 +97,11 @@ fn set_status(device: Device, io: &[u8], body: &[u8]) -> Acted
     }
 }
 
+// ---- 3 write_data, 4 try_write_data_all, 5 read_data
+
+// Bytes were written or read, and so many are shown.
 fn moved(r: calls::Moved, shown: usize) -> Acted
+    ensures { λ a. ⌜ a ≡ movedBy r shown ⌝ }
 {
     let d = r.device;
     let report = r.report;
@@ -88,116 +115,135 @@ fn moved(r: calls::Moved, shown: usize) -> Acted
     }
 }
 
-fn write_data(device: Device, io: &mut [u8], body: &[u8]) -> Acted
-{
-    moved(calls::write_data(device, io, body), 0)
-}
-
-fn try_write_data_all(device: Device, io: &mut [u8], body: &[u8]) -> Acted
-{
-    moved(calls::try_write_data_all(device, io, body), 0)
-}
-
+// A room is a number of two bytes, so the lent bytes have it.
 fn read_data(device: Device, io: &[u8], lent: &mut [u8], body: &[u8]) -> Acted
+    requires { ⌜ (length (now body) ≡ 2) × (65535 ≤ length (now lent)) ⌝ }
+    ensures { λ r. ⌜ actingOf r (now (io .entry)) (now (lent .exit)) ≡ readActs (now (body .entry)) device (now (io .entry)) (now (lent .entry)) ⌝ }
 {
     let room = le16(body, 0) as usize;
     let r = calls::read_data(device, &mut lent[..room], io);
     let report = r.report;
-    let n = report.count;
-    moved(r, n)
+    moved(r, report.count)
 }
 
-fn handled(r: calls::Handled, lent: &mut [u8]) -> Acted
+// ---- 6 reset, 7 control
+
+// The answer goes to the front of `lent`; says how many bytes it has.
+fn put_reply(reply: Reply, lent: &mut [u8]) -> usize
+    requires { ⌜ 1 ≤ length (now lent) ⌝ }
+    ensures { λ r. ⌜ front r (now (lent .exit)) ≡ inFront (replied reply) (now (lent .entry)) ⌝ }
+{
+    match reply {
+        Reply::Nothing => 0,
+        Reply::MaxLun(most) => {
+            lent[0] = most;
+            1
+        }
+    }
+}
+
+fn handled(r: calls::Handled, shown: usize) -> Acted
+    ensures { λ a. ⌜ a ≡ handledBy r shown ⌝ }
 {
     let d = r.device;
     let report = r.report;
     let answer = report.answer;
     let stalls = report.stalls;
-    let reply = report.reply;
-    match reply {
-        Reply::Nothing => Acted {
-            device: d,
-            answer: answer,
-            count: 0,
-            stalls: stalls,
-            shown: 0,
-        },
-        Reply::MaxLun(lun) => {
-            lent[0] = lun;
-            Acted {
-                device: d,
-                answer: answer,
-                count: 0,
-                stalls: stalls,
-                shown: 1,
-            }
-        }
+    Acted {
+        device: d,
+        answer: answer,
+        count: 0,
+        stalls: stalls,
+        shown: shown,
     }
 }
 
 fn reset(device: Device, io: &[u8], lent: &mut [u8]) -> Acted
+    requires { ⌜ 1 ≤ length (now lent) ⌝ }
+    ensures { λ r. ⌜ actingOf r (now (io .entry)) (now (lent .exit)) ≡ resetActs device (now (io .entry)) (now (lent .entry)) ⌝ }
 {
-    handled(calls::reset(device, io), lent)
+    let r = calls::reset(device, io);
+    let report = r.report;
+    let reply = report.reply;
+    let shown = put_reply(reply, lent);
+    handled(r, shown)
+}
+
+fn request_of(body: &[u8]) -> Request
+    requires { ⌜ length (now body) ≡ 2 ⌝ }
+    ensures { λ r. ⌜ r ≡ requestOf (now (body .entry)) ⌝ }
+{
+    Request {
+        requesttype: byte(body, 0),
+        request: byte(body, 1),
+    }
 }
 
 fn control(device: Device, io: &[u8], lent: &mut [u8], body: &[u8]) -> Acted
+    requires { ⌜ (length (now body) ≡ 2) × (1 ≤ length (now lent)) ⌝ }
+    ensures { λ r. ⌜ actingOf r (now (io .entry)) (now (lent .exit)) ≡ controlActs (now (body .entry)) device (now (io .entry)) (now (lent .entry)) ⌝ }
 {
-    handled(
-        calls::control(
-            device,
-            io,
-            Request {
-                requesttype: byte(body, 0),
-                request: byte(body, 1),
-            },
-        ),
-        lent,
-    )
+    let r = calls::control(device, io, request_of(body));
+    let report = r.report;
+    let reply = report.reply;
+    let shown = put_reply(reply, lent);
+    handled(r, shown)
 }
 
-fn command(device: Device, io: &[u8], lent: &mut [u8]) -> Acted
+// ---- 8 command step
+
+// LUN and block go to the front of `lent`; says how many bytes are shown. Of the block all 16 bytes go there.
+fn put_command(offer: Offer, w: Wrapper, lent: &mut [u8]) -> usize
+    requires { ⌜ 17 ≤ length (now lent) ⌝ }
+    ensures { λ r. ⌜ front r (now (lent .exit)) ≡ commandInFront w (offers offer) (now (lent .entry)) ⌝ }
 {
-    let r = calls::command::command_step(device, io);
-    let answer = r.answer;
-    let offer = r.offer;
     match offer {
-        Offer::Nothing => Acted {
-            device: device,
-            answer: answer,
-            count: 0,
-            stalls: Stalls::Kept,
-            shown: 0,
-        },
+        Offer::Nothing => 0,
         Offer::Command(lun, _) => {
-            let w = device.wrapper;
             let block = w.block;
             lent[0] = lun;
             span::put(lent, 1, &block);
-            Acted {
-                device: device,
-                answer: answer,
-                count: 0,
-                stalls: Stalls::Kept,
-                shown: 1 + (w.blocklength as usize),
-            }
+            1 + (w.blocklength as usize)
         }
     }
 }
 
-// The call of an event behind the first one: kinds 1 to 8.
+fn command(device: Device, io: &[u8], lent: &mut [u8]) -> Acted
+    requires { ⌜ 17 ≤ length (now lent) ⌝ }
+    ensures { λ r. ⌜ actingOf r (now (io .entry)) (now (lent .exit)) ≡ commandActs device (now (io .entry)) (now (lent .entry)) ⌝ }
+{
+    let r = calls::command::command_step(device, io);
+    let answer = r.answer;
+    let offer = r.offer;
+    let w = device.wrapper;
+    let shown = put_command(offer, w, lent);
+    Acted {
+        device: device,
+        answer: answer,
+        count: 0,
+        stalls: Stalls::Kept,
+        shown: shown,
+    }
+}
+
+// ---- the event
+
+// The call of an event behind the first one: kinds 1 to 7, else 8.
 pub fn act(kind: u8, body: &[u8], device: Device, io: &mut [u8], lent: &mut [u8]) -> Acted
+    requires { ⌜ (suits kind (now body) ≡ true) × (65535 ≤ length (now lent)) ⌝ }
+    ensures { λ r. ⌜ actingOf r (now (io .exit)) (now (lent .exit)) ≡ actBy kind (now (body .entry)) device (now (io .entry)) (now (lent .entry)) ⌝ }
 {
     if kind == 1 {
         return poll(device, io, lent, body);
     }
     if kind == 2 {
-        return set_status(device, io, body);
+        return stated(calls::set_status(device, io, figure_of(body)));
     }
     if kind == 3 {
-        return write_data(device, io, body);
+        return moved(calls::write_data(device, io, body), 0);
     }
     if kind == 4 {
-        return try_write_data_all(device, io, body);
+        return moved(calls::try_write_data_all(device, io, body), 0);
     }
     if kind == 5 {
         return read_data(device, io, lent, body);

@@ -8,13 +8,13 @@ use native.Mathlib.Omega.{arith}
 use native.Mathlib.Nat.{min-le-right, le-refl}
 use lib.Dec.{eqb, lit<}
 use lib.ListN.{length, take, drop, take-append-drop, length-take, length-drop, drop-of-length-le}
-use lib.Seq.{take-append-le, drop-append-le, take-at, length-take-le, take-all}
+use lib.Seq.{take-append-le, drop-append-le, take-at, length-take-le, take-all, drop-drop}
 use borrow.Author.Tests.{eq-eqb, ne-eqb, eqb-true}
 use Rattle.fields.specs.Field.{Field, bytesAt, get}
 use Rattle.fields.proofs.Bools.{and-left, and-right, not-true, not-false}
 use Rattle.fields.proofs.Seq.{drop-front}
 use Rattle.benchfile.specs.declared.event.Head.{Head}
-use Rattle.benchfile.specs.Event.{kindByte, lengthField, bodyOf, suits, mayStand, isEvent, frontOf, nothing, headOf, eventAt}
+use Rattle.benchfile.specs.Event.{kindByte, lengthField, bodyOf, isLong, suits, mayStand, isEvent, frontOf, nothing, headOf, eventAt}
 
 -- ---- a field of e is the same where more bytes follow e
 
@@ -126,9 +126,51 @@ module _ (first : Bool) (xs : List ℕ) (w : headOf first xs .whole ≡ true) wh
   whole-long =
       let long : length (frontOf xs) ≡ 3 + get lengthField (frontOf xs) = event-long first (frontOf xs) whole-event in
       let same : get lengthField (frontOf xs) ≡ get lengthField xs =
-          sym (get-append lengthField (frontOf xs) (drop (3 + get lengthField xs) xs) (omega (arith, long))) ∙ ap (get lengthField) (take-append-drop (3 + get lengthField xs) xs)
+      sym (get-append lengthField (frontOf xs) (drop (3 + get lengthField xs) xs) (omega (arith, long))) ∙ ap (get lengthField) (take-append-drop (3 + get lengthField xs) xs)
       in
       long ∙ ap (λ (n : ℕ). 3 + n) same
 
   pub whole-within : 3 + get lengthField xs ≤ length xs
   whole-within = omega (arith, whole-long, within first xs)
+
+-- ---- for callers: what stands at an offset, if it is an event
+
+module _ (xs : List ℕ) (at : ℕ) (w : eventAt xs at .whole ≡ true) where
+  there : headOf (eqb at 0) (drop at xs) .whole ≡ true
+  unfolding eventAt
+  there = w
+
+  numbers : eventAt xs at ≡ record { whole = true; kind = get kindByte (drop at xs); length = get lengthField (drop at xs) }
+  unfolding eventAt
+  numbers = whole-numbers (eqb at 0) (drop at xs) there
+
+  -- all of it is there
+  pub whole-fits : at + 3 + eventAt xs at .length ≤ length xs
+  whole-fits = omega (arith, ap (λ (x : Head). x .length) numbers, whole-within (eqb at 0) (drop at xs) there, length-drop at xs)
+
+  -- its bytes are as its kind asks
+  pub whole-suits : suits (eventAt xs at .kind) (take (eventAt xs at .length) (drop (at + 3) xs)) ≡ true
+  unfolding frontOf bodyOf
+  whole-suits =
+      rw (numbers, ← drop-drop 3 at xs, ← drop-front 3 (get lengthField (drop at xs)) (drop at xs) (omega (arith, whole-within (eqb at 0) (drop at xs) there)), ← same-kind)
+      (event-suits (eqb at 0) (frontOf (drop at xs)) (whole-event (eqb at 0) (drop at xs) there))
+    where
+      same-kind : get kindByte (take (3 + get lengthField (drop at xs)) (drop at xs)) ≡ get kindByte (drop at xs)
+      same-kind = get-front kindByte (3 + get lengthField (drop at xs)) (drop at xs) (omega arith) (whole-within (eqb at 0) (drop at xs) there)
+
+-- the first event is a creation, with 7 bytes behind its first three
+seven : (kind : ℕ) (body : List ℕ) → kind ≡ 0 → suits kind body ≡ true → length body ≡ 7
+unfolding suits isLong
+seven kind body e h = eqb-true (length body) 7 (sym (ap (λ (k : ℕ). suits k body) e) ∙ h)
+
+creation-long : (e : List ℕ) → isEvent true e ≡ true → length e ≡ 10
+unfolding isEvent mayStand bodyOf
+creation-long e h =
+    let kind : get kindByte e ≡ 0 =
+    eqb-true _ _ (and-left (eqb (get kindByte e) 0) (suits (get kindByte e) (bodyOf e)) (and-right (eqb (length e) (3 + get lengthField e)) _ h))
+    in
+    omega (arith, seven (get kindByte e) (bodyOf e) kind (event-suits true e h), length-drop 3 e)
+
+pub first-long : (xs : List ℕ) → eventAt xs 0 .whole ≡ true → 10 ≤ length xs
+first-long xs w =
+    omega (arith, creation-long (frontOf (drop 0 xs)) (whole-event true (drop 0 xs) (there xs 0 w)), within true (drop 0 xs))

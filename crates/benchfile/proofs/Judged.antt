@@ -116,22 +116,24 @@ module _ (file : List ℕ) (short : length file ≤ 65536) (enough : 12 ≤ leng
       let behind0 = and-right (t .filled) _ q in
       let behind1 = and-right (eqb (get countField trailer) (t .count)) _ behind0 in
       let f = walked .found (and-left _ _ q) in
-      let twelve : length trailer ≡ 12 = cut-behind file enough in
-      (f .0, record {
-        most = short;
-        are = f .1 .are;
-        trailer = trailer;
-        parts =
-            sym (take-append-drop (length file - 12) file)
-            ∙ ap (λ (xs : List ℕ). xs ++ drop (length file - 12) file) (f .1 .bytes)
-            ∙ ap (λ (xs : List ℕ). joined (f .0) ++ xs) (sym trailed);
-        closes = record {
-          twelve = twelve;
-          count = eqb-true _ _ (and-left _ _ behind0) ∙ ap (λ (x : Tally). x .count) (f .2);
-          last = eqb-true _ _ (and-left _ _ behind1) ∙ ap (λ (x : Tally). x .last) (f .2);
-          bot1 = magic-found (drop 8 trailer) (length-drop 8 trailer ∙ omega (arith, twelve)) (and-right (eqb (get lastField trailer) (t .last)) _ behind1);
-        };
-      })
+      let twelve : length trailer ≡ 12 = cut-behind file enough in (
+        f .0,
+        record {
+          most = short;
+          are = f .1 .are;
+          trailer = trailer;
+          parts =
+              sym (take-append-drop (length file - 12) file)
+              ∙ ap (λ (xs : List ℕ). xs ++ drop (length file - 12) file) (f .1 .bytes)
+              ∙ ap (λ (xs : List ℕ). joined (f .0) ++ xs) (sym trailed);
+          closes = record {
+            twelve = twelve;
+            count = eqb-true _ _ (and-left _ _ behind0) ∙ ap (λ (x : Tally). x .count) (f .2);
+            last = eqb-true _ _ (and-left _ _ behind1) ∙ ap (λ (x : Tally). x .last) (f .2);
+            bot1 = magic-found (drop 8 trailer) (length-drop 8 trailer ∙ omega (arith, twelve)) (and-right (eqb (get lastField trailer) (t .last)) _ behind1);
+          };
+        },
+      )
 
   accepts-each : (events : List (List ℕ)) → Good file events → agreesWith t trailer ≡ true
   unfolding agreesWith
@@ -139,10 +141,10 @@ module _ (file : List ℕ) (short : length file ≤ 65536) (enough : 12 ≤ leng
       let k = g .closes in
       let seam : length (joined events) ≡ length file - 12 = omega (arith, ap length (g .parts), length-append (joined events) (g .trailer), k .twelve) in
       let before : take (length file - 12) file ≡ joined events =
-          ap (take (length file - 12)) (g .parts) ∙ take-at (joined events) (g .trailer) (length file - 12) seam
+      ap (take (length file - 12)) (g .parts) ∙ take-at (joined events) (g .trailer) (length file - 12) seam
       in
       let behind : trailer ≡ g .trailer =
-          trailed ∙ ap (drop (length file - 12)) (g .parts) ∙ drop-at (joined events) (g .trailer) (length file - 12) seam
+      trailed ∙ ap (drop (length file - 12)) (g .parts) ∙ drop-at (joined events) (g .trailer) (length file - 12) seam
       in
       let same : t ≡ tallyOf events = walked .only events (record { bytes = before; are = g .are }) in
       rw (behind, same, eq-eqb _ _ (k .count), eq-eqb _ _ (k .last), magic-tested (drop 8 (g .trailer)) (k .bot1))
@@ -151,3 +153,10 @@ module _ (file : List ℕ) (short : length file ≤ 65536) (enough : 12 ≤ leng
   judges-by e = record { accepted = λ q. accepts-only (sym e ∙ q); accepts = λ events g. e ∙ accepts-each events g }
 
 pub ruleset judges = (magic-0, magic-1, magic-2, magic-3, closes-unfilled, closes-miscounted, closes-misplaced, closes-by, judges-long, judges-short, cut-before, cut-behind, judges-by)
+
+-- ---- for callers: a good file has its trailer
+
+pub accepted-long : (file : List ℕ) {r : Bool} → Judges r file → r ≡ true → 12 ≤ length file
+accepted-long file j q =
+    let g = j .accepted q .1 in
+    omega (arith, ap length (g .parts), length-append (joined (j .accepted q .0)) (g .trailer), g .closes .twelve)

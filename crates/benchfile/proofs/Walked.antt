@@ -138,7 +138,7 @@ module _ (xs : List ℕ) (at : ℕ) {count last : ℕ} (w : Walked xs at count l
           let s = standing h all f in
           let bytes : drop at xs ≡ s .event ++ joined (s .others) = b .bytes ∙ ap joined (s .split) in
           let there : head .whole ≡ true =
-              ap (λ (x : Head). x .whole) (e ∙ ap (headOf (eqb at 0)) bytes ∙ head-event (eqb at 0) (s .event) (s .is) (joined (s .others)))
+          ap (λ (x : Head). x .whole) (e ∙ ap (headOf (eqb at 0)) bytes ∙ head-event (eqb at 0) (s .event) (s .is) (joined (s .others)))
           in
           absurd (clash (sym there ∙ not-true (head .whole) q));
     }
@@ -150,7 +150,7 @@ module _ (xs : List ℕ) (at : ℕ) {count last : ℕ} (w : Walked xs at count l
     only = λ all f.
         let b = w .behind all f in
         let none : b .rest ≡ [] =
-            none-joined (eqb at 0) (b .rest) (b .are) (omega (arith, ap length (b .bytes), length-drop at xs, h))
+        none-joined (eqb at 0) (b .rest) (b .are) (omega (arith, ap length (b .bytes), length-drop at xs, h))
         in
         let same : all ≡ w .events = b .split ∙ ap (λ (r : List (List ℕ)). w .events ++ r) none ∙ append-nil (w .events) in
         rw (same, w .counts, w .lasts);

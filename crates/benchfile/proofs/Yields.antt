@@ -77,10 +77,10 @@ joined-once first (e ∷ es) (f ∷ fs) h k q =
     let is-f : isEvent first f ≡ true = and-left (isEvent first f) (areEvents false fs) k in
     let same : e ≡ f = sym (front-event first e is-e (joined es)) ∙ ap frontOf q ∙ front-event first f is-f (joined fs) in
     let rest : joined es ≡ joined fs =
-        sym (drop-at e (joined es) (length e) refl) ∙ ap (drop (length e)) q ∙ drop-at f (joined fs) (length e) (ap length (sym same))
+    sym (drop-at e (joined es) (length e) refl) ∙ ap (drop (length e)) q ∙ drop-at f (joined fs) (length e) (ap length (sym same))
     in
     let tails : es ≡ fs =
-        joined-once false es fs (and-right (isEvent first e) (areEvents false es) h) (and-right (isEvent first f) (areEvents false fs) k) rest
+    joined-once false es fs (and-right (isEvent first e) (areEvents false es) h) (and-right (isEvent first f) (areEvents false fs) k) rest
     in
     rw (same, tails)
 
@@ -88,9 +88,9 @@ pub events-once : (file : List ℕ) (es fs : List (List ℕ)) → Good file es �
 events-once file es fs g h =
     let parts : joined es ++ g .trailer ≡ joined fs ++ h .trailer = sym (g .parts) ∙ h .parts in
     let long : length (joined es) ≡ length (joined fs) =
-        omega (arith, ap length parts, length-append (joined es) (g .trailer), length-append (joined fs) (h .trailer), g .closes .twelve, h .closes .twelve)
+    omega (arith, ap length parts, length-append (joined es) (g .trailer), length-append (joined fs) (h .trailer), g .closes .twelve, h .closes .twelve)
     in
     let same : joined es ≡ joined fs =
-        sym (take-at (joined es) (g .trailer) (length (joined es)) refl) ∙ ap (take (length (joined es))) parts ∙ take-at (joined fs) (h .trailer) (length (joined es)) (sym long)
+    sym (take-at (joined es) (g .trailer) (length (joined es)) refl) ∙ ap (take (length (joined es))) parts ∙ take-at (joined fs) (h .trailer) (length (joined es)) (sym long)
     in
     joined-once true es fs (g .are) (h .are) same

@@ -11,6 +11,7 @@ ghost use Rattle.benchfile.specs.File.{Judges};
 ghost use Rattle.benchfile.specs.Walk.{Tallies, isMagic, agreesWith};
 
 const LONGEST: usize = 65536;
+
 const TRAILER: usize = 12;
 
 // Whether events fill the bytes; how many there are, and the offset of the last one.

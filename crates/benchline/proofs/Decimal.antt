@@ -39,9 +39,9 @@ steady (suc most) n h =
     by-size n
     (λ l. one (suc (suc most)) n l ∙ sym (one (suc most) n l))
     (λ l.
-      more (suc (suc most)) n l
-      ∙ ap (λ (t : List ℕ). t ++ ((0x30 + n % 10) ∷ [])) (steady most (n / 10) (tenth (suc most) n h))
-      ∙ sym (more (suc most) n l))
+    more (suc (suc most)) n l
+    ∙ ap (λ (t : List ℕ). t ++ ((0x30 + n % 10) ∷ [])) (steady most (n / 10) (tenth (suc most) n h))
+    ∙ sym (more (suc most) n l))
 
 pub one-digit : (n : ℕ) → n < 10 → decimal n ≡ (0x30 + n) ∷ []
 unfolding decimal
@@ -70,10 +70,10 @@ value (suc most) n h =
     by-size n
     (λ l. ap (readOn 0) (one most n l) ∙ omega arith)
     (λ l.
-      ap (readOn 0) (more most n l)
-      ∙ read-last 0 (decimalUpTo most (n / 10)) (0x30 + n % 10)
-      ∙ ap (λ (k : ℕ). 10 * k + (0x30 + n % 10 - 0x30)) (value most (n / 10) (tenth most n h))
-      ∙ omega (arith, div-add-mod n 10))
+    ap (readOn 0) (more most n l)
+    ∙ read-last 0 (decimalUpTo most (n / 10)) (0x30 + n % 10)
+    ∙ ap (λ (k : ℕ). 10 * k + (0x30 + n % 10 - 0x30)) (value most (n / 10) (tenth most n h))
+    ∙ omega (arith, div-add-mod n 10))
 
 pub decimal-value : (n : ℕ) → n < 10 ^ 20 → readOn 0 (decimal n) ≡ n
 unfolding decimal
@@ -101,10 +101,11 @@ first (suc most) n h e =
     by-size n
     (λ l. omega (arith, rw (one (suc most) n l) at e))
     (λ l.
-      omega
-      (arith,
+    omega (
+      arith,
       first most (n / 10) (tenth (suc most) n h)
-      (sym (List·getD-append (decimalUpTo (suc most) (n / 10)) ((0x30 + n % 10) ∷ []) 0 0 (some most (n / 10))) ∙ rw (more (suc most) n l) at e)))
+          (sym (List·getD-append (decimalUpTo (suc most) (n / 10)) ((0x30 + n % 10) ∷ []) 0 0 (some most (n / 10))) ∙ rw (more (suc most) n l) at e),
+    ))
 
 pub some-digit : (n : ℕ) → 0 < length (decimal n)
 unfolding decimal

@@ -1,6 +1,8 @@
 -- Laws of texts that are put one behind the other, and of how long they are.
 --     then-put, then-store, store    a text or one byte right behind a text; one byte alone
---     length-more, length-number, length-numbers, length-fields, length-hex, length-line    the length of each text, from those of its parts
+--     fits-behind                    what has room behind a text keeps it
+--     length-more .. length-line     the length of each text, from those of its parts
+--     some-stalls                    the text of stalls is never empty
 --     line-fits                      no line is longer than the room that `roomFor` asks
 -- Assumes nothing.
 use mathlib.Core.Path.{_≡_, refl, sym, ap, _∙_}
@@ -14,7 +16,7 @@ use Rattle.fields.proofs.Overlay.{length-overlay, take-overlay, drop-overlay, o
 use Rattle.answers.specs.declared.Stalls.{Stalls}
 use Rattle.answers.specs.declared.Stalls.the-variants.{Kept, Stalled, Unstalled, UnstalledStalled}
 use Rattle.benchline.specs.declared.Line.{Line}
-use Rattle.benchline.specs.Line.{space, decimal, number, numbers, stallsText, fields, hex, bytesText, lineOf, roomFor, Puts}
+use Rattle.benchline.specs.Line.{space, decimal, number, numbers, numbersLength, stallsText, fields, hex, bytesText, lineOf, roomFor, Puts}
 use Rattle.benchline.proofs.Decimal.{more-digits, few-digits}
 
 -- what is laid right behind xs makes xs longer
@@ -25,7 +27,7 @@ behind d at xs ys h =
     let e : at + length (xs ++ ys) ≡ k + length ys = omega (arith, length-append xs ys) in
     ap (λ (l : List ℕ). l ++ ys ++ drop (k + length ys) (overlay d at xs)) (take-overlay d at xs h)
     ∙ ap (λ (r : List ℕ). take at d ++ xs ++ ys ++ r)
-      (sym (drop-drop (length ys) k (overlay d at xs)) ∙ ap (drop (length ys)) (drop-overlay d at xs h) ∙ drop-drop (length ys) k d)
+    (sym (drop-drop (length ys) k (overlay d at xs)) ∙ ap (drop (length ys)) (drop-overlay d at xs h) ∙ drop-drop (length ys) k d)
     ∙ ap (λ (l : List ℕ). l ++ drop (k + length ys) d) (append-assoc (take at d) xs ys)
     ∙ ap (λ (n : ℕ). take at d ++ (xs ++ ys) ++ drop n d) (sym e)
 
@@ -37,7 +39,7 @@ then-put {at} {e} {f} {xs} {ys} {d} h p q =
       text = q .text ∙ rw (p .ends, p .text) (behind d at xs ys h);
     }
 
--- the buffer stays as long as it is; so what has room behind a text has it when the text was put
+-- the buffer stays as long as it is, so what has room behind a text still has it when the text was put
 pub fits-behind : {at e : ℕ} {xs d m : List ℕ} (k : ℕ) → Puts at xs d m e → at + (length xs + k) ≤ length d → e + k ≤ length m
 fits-behind {at} {e} {xs} {d} k p h = rw (p .text) (omega (arith, p .ends, length-overlay d at xs (omega arith)))
 
@@ -61,8 +63,7 @@ pub length-number : (n : ℕ) → length (number n) ≡ length (decimal n) + 1
 unfolding number
 length-number n = length-append (decimal n) (space ∷ [])
 
-pub length-numbers : (l : Line) → length (numbers l)
-    ≡ length (number (l .index)) + length (number (l .answer)) + length (number (l .state)) + length (number (l .left)) + length (number (l .unread)) + length (number (l .count))
+pub length-numbers : (l : Line) → length (numbers l) ≡ numbersLength l
 unfolding numbers
 length-numbers l = simp length-append
 
@@ -103,16 +104,17 @@ short-bytes (b ∷ bs) = omega (arith, length-hex (b ∷ bs))
 pub line-fits : (l : Line) (bs : List ℕ) → length (lineOf l bs) ≤ roomFor (length bs)
 unfolding roomFor
 line-fits l bs =
-    omega
-    (arith,
-    length-line l bs,
-    length-fields l,
-    length-numbers l,
-    short-number (l .index),
-    short-number (l .answer),
-    short-number (l .state),
-    short-number (l .left),
-    short-number (l .unread),
-    short-number (l .count),
-    short-stalls (l .stalls),
-    short-bytes bs)
+    omega (
+      arith,
+      length-line l bs,
+      length-fields l,
+      length-numbers l,
+      short-number (l .index),
+      short-number (l .answer),
+      short-number (l .state),
+      short-number (l .left),
+      short-number (l .unread),
+      short-number (l .count),
+      short-stalls (l .stalls),
+      short-bytes bs,
+    )

@@ -1,7 +1,7 @@
 -- One law for each way through a function of src/: from the tests on the way and what its callees ensure, what it owes.
 -- Assumes nothing.
 use mathlib.Core.Path.{_≡_, refl, sym, ap, _∙_}
-use mathlib.Core.List.{List, [], _∷_, _++_}
+use mathlib.Core.List.{List, [], _∷_}
 use Prim.Native.Nat.{ℕ, zero, suc, _+_, _*_, _^_, _/_, _%_, _≤_, _<_, zero-le}
 use native.Mathlib.Omega.{arith}
 use borrow.Author.Tests.{lt-ltb, le-ltb}
@@ -10,7 +10,7 @@ use Rattle.fields.proofs.Overlay.{Laid, laid-turn, laid-end}
 use Rattle.answers.specs.declared.Stalls.{Stalls}
 use Rattle.answers.specs.declared.Stalls.the-variants.{Kept, Stalled, Unstalled, UnstalledStalled}
 use Rattle.benchline.specs.declared.Line.{Line}
-use Rattle.benchline.specs.Line.{digit, decimal, number, numbers, stallsText, fields, hex, bytesText, lineOf, roomFor, Puts}
+use Rattle.benchline.specs.Line.{digit, decimal, number, numbers, numbersLength, stallsText, fields, hex, bytesText, lineOf, roomFor, Puts}
 use Rattle.benchline.proofs.Decimal.{one-digit, more-digits, some-digit}
 use Rattle.benchline.proofs.Text.{then-put, fits-behind, then-store, store, length-more, length-number, length-numbers, length-fields, length-hex, length-line, some-stalls, line-fits}
 
@@ -20,59 +20,34 @@ use Rattle.benchline.proofs.Text.{then-put, fits-behind, then-store, st
 pub below : (n : ℕ) → n < 2 ^ 64 → n < 10 ^ 20
 below n h = omega arith
 
-module _ (d : List ℕ) (at n : ℕ) where
-  pub decimal-ends : n < 10 → at + length (decimal n) ≤ length d → Puts at (decimal n) d (set d at (48 + n)) (at + 1)
-  decimal-ends l h = rw (one-digit n l) (store d at (48 + n) (omega (arith, some-digit n)))
+module _ (d : List ℕ) (at n : ℕ) (h : at + length (decimal n) ≤ length d) where
+  pub decimal-first : at < length d
+  decimal-first = omega (arith, some-digit n)
 
-  pub decimal-goes-on : {m : List ℕ} {e : ℕ} → n < 2 ^ 64 → 10 ≤ n → at + length (decimal n) ≤ length d
-      → Puts at (decimal (n / 10)) d m e → Puts at (decimal n) d (set m e (48 + n % 10)) (e + 1)
-  decimal-goes-on f l h p = rw (more-digits n (below n f) l) (then-store (48 + n % 10) (omega (arith, length-more n (below n f) l)) p)
+  pub decimal-ends : n < 10 → Puts at (decimal n) d (set d at (48 + n)) (at + 1)
+  decimal-ends l = rw (one-digit n l) (store d at (48 + n) decimal-first)
 
-  pub number-ends : {m : List ℕ} {e : ℕ} → at + length (number n) ≤ length d → Puts at (decimal n) d m e → Puts at (number n) d (set m e 0x20) (e + 1)
+  pub decimal-fits : n < 2 ^ 64 → 10 ≤ n → at + length (decimal (n / 10)) ≤ length d
+  decimal-fits f l = omega (arith, length-more n (below n f) l)
+
+  pub decimal-last : {m : List ℕ} {e : ℕ} → n < 2 ^ 64 → 10 ≤ n → Puts at (decimal (n / 10)) d m e → e < length m
+  decimal-last f l p = omega (arith, fits-behind 1 p (omega (arith, length-more n (below n f) l)))
+
+  pub decimal-goes-on : {m : List ℕ} {e : ℕ} → n < 2 ^ 64 → 10 ≤ n → Puts at (decimal (n / 10)) d m e → Puts at (decimal n) d (set m e (48 + n % 10)) (e + 1)
+  decimal-goes-on f l p = rw (more-digits n (below n f) l) (then-store (48 + n % 10) (omega (arith, length-more n (below n f) l)) p)
+
+module _ (d : List ℕ) (at n : ℕ) (h : at + length (number n) ≤ length d) where
+  pub number-fits : at + length (decimal n) ≤ length d
+  number-fits = omega (arith, length-number n)
+
+  pub number-last : {m : List ℕ} {e : ℕ} → Puts at (decimal n) d m e → e < length m
+  number-last p = omega (arith, fits-behind 1 p (omega (arith, length-number n)))
+
+  pub number-ends : {m : List ℕ} {e : ℕ} → Puts at (decimal n) d m e → Puts at (number n) d (set m e 0x20) (e + 1)
   unfolding number
-  number-ends h p = then-store 0x20 (omega (arith, length-number n)) p
+  number-ends p = then-store 0x20 (omega (arith, length-number n)) p
 
--- how much room a number takes
-abbrev wide : ℕ → ℕ
-wide n = length (number n)
-
--- the six numbers of a line: there is room for each behind those before it, and they make one text
-module _ (l : Line) (d : List ℕ) (h : length (numbers l) ≤ length d) where
-  pub index-fits : 0 + wide (l .index) ≤ length d
-  index-fits = omega (arith, length-numbers l)
-
-  module _ {m₁ : List ℕ} {e₁ : ℕ} (p : Puts 0 (number (l .index)) d m₁ e₁) where
-    after-index : e₁ + (wide (l .answer) + (wide (l .state) + (wide (l .left) + (wide (l .unread) + wide (l .count))))) ≤ length m₁
-    after-index = fits-behind _ p (omega (arith, length-numbers l))
-
-    pub answer-fits : e₁ + wide (l .answer) ≤ length m₁
-    answer-fits = omega (arith, after-index)
-
-    module _ {m₂ : List ℕ} {e₂ : ℕ} (q : Puts e₁ (number (l .answer)) m₁ m₂ e₂) where
-      after-answer : e₂ + (wide (l .state) + (wide (l .left) + (wide (l .unread) + wide (l .count)))) ≤ length m₂
-      after-answer = fits-behind _ q after-index
-
-      pub state-fits : e₂ + wide (l .state) ≤ length m₂
-      state-fits = omega (arith, after-answer)
-
-      module _ {m₃ : List ℕ} {e₃ : ℕ} (r : Puts e₂ (number (l .state)) m₂ m₃ e₃) where
-        after-state : e₃ + (wide (l .left) + (wide (l .unread) + wide (l .count))) ≤ length m₃
-        after-state = fits-behind _ r after-answer
-
-        pub left-fits : e₃ + wide (l .left) ≤ length m₃
-        left-fits = omega (arith, after-state)
-
-        module _ {m₄ : List ℕ} {e₄ : ℕ} (s : Puts e₃ (number (l .left)) m₃ m₄ e₄) where
-          after-left : e₄ + (wide (l .unread) + wide (l .count)) ≤ length m₄
-          after-left = fits-behind _ s after-state
-
-          pub unread-fits : e₄ + wide (l .unread) ≤ length m₄
-          unread-fits = omega (arith, after-left)
-
-          module _ {m₅ : List ℕ} {e₅ : ℕ} (t : Puts e₄ (number (l .unread)) m₄ m₅ e₅) where
-            pub count-fits : e₅ + wide (l .count) ≤ length m₅
-            count-fits = fits-behind _ t after-left
-
+-- six numbers, one behind the other
 pub numbers-end : (l : Line) (d : List ℕ) {m₁ m₂ m₃ m₄ m₅ m : List ℕ} {e₁ e₂ e₃ e₄ e₅ e : ℕ}
     → Puts 0 (number (l .index)) d m₁ e₁ → Puts e₁ (number (l .answer)) m₁ m₂ e₂ → Puts e₂ (number (l .state)) m₂ m₃ e₃
     → Puts e₃ (number (l .left)) m₃ m₄ e₄ → Puts e₄ (number (l .unread)) m₄ m₅ e₅ → Puts e₅ (number (l .count)) m₅ m e → Puts 0 (numbers l) d m e
@@ -174,8 +149,8 @@ module _ (d : List ℕ) (at : ℕ) where
 -- ---- the line
 
 module _ (l : Line) (d : List ℕ) (h : length (fields l) ≤ length d) where
-  pub numbers-fit : length (numbers l) ≤ length d
-  numbers-fit = omega (arith, length-fields l)
+  pub numbers-fit : numbersLength l ≤ length d
+  numbers-fit = omega (arith, length-fields l, length-numbers l)
 
   module _ {m₁ : List ℕ} {e₁ : ℕ} (p : Puts 0 (numbers l) d m₁ e₁) where
     after-numbers : e₁ + (length (stallsText (l .stalls)) + 1) ≤ length m₁
@@ -211,4 +186,4 @@ module _ (l : Line) (bs d : List ℕ) (h : roomFor (length bs) ≤ length d) whe
       unfolding lineOf
       line-ends = then-store 0x0A (omega (arith, line-fits l bs, length-line l bs, length-append (fields l) (bytesText bs))) (then-put zero-le p q)
 
-pub ruleset ways = (decimal-ends, decimal-goes-on, number-ends, index-fits, answer-fits, state-fits, left-fits, unread-fits, count-fits, numbers-end, stalls-kept, stalls-stalled, stalls-unstalled, stalls-both, stalls-first, stalls-second, low-digit, high-digit, hex-turn, hex-ends, bytes-first, bytes-fit, none-shown, bytes-shown, numbers-fit, stalls-fit, space-fits, fields-end, fields-fit, shown-fits, end-fits, line-ends)
+pub ruleset ways = (decimal-first, decimal-ends, decimal-fits, decimal-last, decimal-goes-on, number-fits, number-last, number-ends, numbers-end, stalls-kept, stalls-stalled, stalls-unstalled, stalls-both, stalls-first, stalls-second, low-digit, high-digit, hex-turn, hex-ends, bytes-first, bytes-fit, none-shown, bytes-shown, numbers-fit, stalls-fit, space-fits, fields-end, fields-fit, shown-fits, end-fits, line-ends)

@@ -47,6 +47,16 @@ numbers l =
     ++ number (l .unread)
     ++ number (l .count)
 
+-- how long these are
+abbrev pub numbersLength : Line → ℕ
+numbersLength l =
+    length (number (l .index))
+    + length (number (l .answer))
+    + length (number (l .state))
+    + length (number (l .left))
+    + length (number (l .unread))
+    + length (number (l .count))
+
 -- "stalls (`-`, `S`, `U`, `US`)"
 abbrev pub stallsText : Stalls → List ℕ
 stallsText Kept = dash ∷ []

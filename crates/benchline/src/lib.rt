@@ -4,7 +4,7 @@ use answers::Stalls;
 ghost use mathlib.Core.Path.{_≡_};
 ghost use Prim.Native.Nat.{_+_, _≤_, _<_};
 ghost use lib.ListN.{length};
-ghost use Rattle.benchline.specs.Line.{digit, decimal, number, numbers, stallsText, fields, hex, bytesText, lineOf, roomFor, Puts};
+ghost use Rattle.benchline.specs.Line.{digit, decimal, number, numbers, numbersLength, stallsText, fields, hex, bytesText, lineOf, roomFor, Puts};
 
 // What a line tells, beside its bytes.
 pub struct Line {
@@ -43,7 +43,7 @@ fn put_number(text: &mut [u8], at: usize, n: u64) -> usize
 
 // A line's numbers, at the front.
 fn put_numbers(text: &mut [u8], l: Line) -> usize
-    requires { ⌜ length (numbers l) ≤ length (now text) ⌝ }
+    requires { ⌜ numbersLength l ≤ length (now text) ⌝ }
     ensures { λ r. ⌜ Puts 0 (numbers l) (now (text .entry)) (now (text .exit)) r ⌝ }
 {
     let answer = put_number(text, 0, l.index as u64);

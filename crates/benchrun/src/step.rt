@@ -1,19 +1,27 @@
-// An event's line: the first event makes the device, each later one acts on it.
-use crate::act::Acted;
-use crate::act::act;
-use answers::Answer;
+// One event of a run, and its line: the first event makes the device, each later one acts on it.
 use answers::Stalls;
+use answers::answer_number;
+use benchact::Acted;
+use benchact::act;
 use benchfile::event::event_at;
 use benchline::Line;
-use benchline::line;
+use benchline::put_line;
+use buffer::Marks;
 use device::Device;
 use device::create::create;
 use fields::byte;
 use fields::le16;
 use fields::le32;
 use ring::state_number;
+ghost use mathlib.Core.Path.{_≡_};
+ghost use Prim.Native.Nat.{_-_, _≤_, min};
+ghost use lib.ListN.{length, take};
+ghost use Rattle.answers.specs.Answers.{number};
+ghost use Rattle.benchline.specs.Line.{roomFor, Puts};
+ghost use Rattle.benchrun.specs.Run.{Roomy, fieldsOf, lineText, stoppedAt, begunOf, beginBy, runningOf, stepBy};
 
-// How far a run has come: the device, the offset and index of the next event, the length of the line, and whether the run goes on.
+// How far a run has come: the device, the offset and the index of the next event, how long the line of the last one is, and whether
+// there was one.
 pub struct Run {
     pub device: Device,
     pub at: usize,
@@ -23,32 +31,22 @@ pub struct Run {
 }
 
 fn least(a: usize, b: usize) -> usize
+    ensures { λ r. ⌜ r ≡ min a b ⌝ }
 {
     if a < b { a } else { b }
 }
 
-fn answer_number(a: Answer) -> u8
+fn unread(marks: Marks) -> usize
+    ensures { λ r. ⌜ r ≡ marks .write - marks .read ⌝ }
 {
-    match a {
-        Answer::Done => 0,
-        Answer::IoBufferOverflow => 1,
-        Answer::InvalidMaxLun => 2,
-        Answer::InvalidState => 3,
-        Answer::FullPacketExpected => 4,
-        Answer::BufferTooSmall => 5,
-        Answer::WouldBlock => 6,
-        Answer::EndpointError => 7,
-        Answer::PacketSizeRefused => 8,
-        Answer::BufferTooLarge => 9,
-        Answer::BrokenRecord => 10,
-        Answer::PacketRefused => 11,
-        Answer::StatusRefused => 12,
-        Answer::EmptyBlock => 13,
+    if marks.write < marks.read {
+        return 0;
     }
+    marks.write - marks.read
 }
 
-// The line of an event that left this device.
-fn tell(index: usize, a: Acted, shown: &[u8], text: &mut [u8]) -> usize
+fn fields_of(index: usize, a: Acted) -> Line
+    ensures { λ r. ⌜ r ≡ fieldsOf index (a .device) (number (a .answer)) (a .count) (a .stalls) ⌝ }
 {
     let d = a.device;
     let state = d.state;
@@ -56,30 +54,54 @@ fn tell(index: usize, a: Acted, shown: &[u8], text: &mut [u8]) -> usize
     let marks = d.marks;
     let answer = a.answer;
     let stalls = a.stalls;
-    let n = least(a.shown, shown.len());
-    line(
-        Line {
-            index: index,
-            answer: answer_number(answer),
-            state: state_number(state),
-            left: left.0,
-            unread: marks.write - marks.read,
-            count: a.count,
-            stalls: stalls,
-        },
-        &shown[..n],
-        text,
-    )
+    Line {
+        index: index,
+        answer: answer_number(answer),
+        state: state_number(state),
+        left: left.0,
+        unread: unread(marks),
+        count: a.count,
+        stalls: stalls,
+    }
+}
+
+// The line of an event that left and told this, of whose lent bytes the first ones are shown.
+fn tell(index: usize, a: Acted, lent: &[u8], text: &mut [u8]) -> usize
+    requires { ⌜ roomFor (length (now lent)) ≤ length (now text) ⌝ }
+    ensures { λ r. ⌜ Puts 0 (lineText index (a .device) (number (a .answer)) (a .count) (a .stalls) (take (a .shown) (now (lent .entry)))) (now (text .entry)) (now (text .exit)) r ⌝ }
+{
+    let n = least(a.shown, lent.len());
+    put_line(fields_of(index, a), &lent[..n], text)
+}
+
+// There is no event: the run ends.
+fn stopped(device: Device, at: usize, index: usize) -> Run
+    ensures { λ r. ⌜ r ≡ stoppedAt device at index ⌝ }
+{
+    Run {
+        device: device,
+        at: at,
+        index: index,
+        line: 0,
+        going: false,
+    }
 }
 
 // The first event.
-pub fn begin(events: &[u8], shown: &[u8], text: &mut [u8]) -> Run
+pub fn begin(events: &[u8], text: &mut [u8]) -> Run
+    requires { ⌜ roomFor 0 ≤ length (now text) ⌝ }
+    ensures { λ r. ⌜ begunOf r (now (text .exit)) ≡ beginBy (now (events .entry)) (now (text .entry)) ⌝ }
 {
+    let e = event_at(events, 0);
+    if !e.whole {
+        let none = create(0, 0, 0);
+        let blank = none.device;
+        return stopped(blank, 0, 0);
+    }
     let body = &events[3..10];
-    let c = create(le16(body, 0) as u32, byte(body, 2), le32(body, 3));
-    let d = c.device;
-    let answer = c.answer;
-    let n = answer_number(answer);
+    let made = create(le16(body, 0) as u32, byte(body, 2), le32(body, 3));
+    let d = made.device;
+    let answer = made.answer;
     let length = tell(
         0,
         Acted {
@@ -89,7 +111,7 @@ pub fn begin(events: &[u8], shown: &[u8], text: &mut [u8]) -> Run
             stalls: Stalls::Kept,
             shown: 0,
         },
-        shown,
+        &events[..0],
         text,
     );
     Run {
@@ -97,35 +119,31 @@ pub fn begin(events: &[u8], shown: &[u8], text: &mut [u8]) -> Run
         at: 10,
         index: 1,
         line: length,
-        going: n == 0,
+        going: answer_number(answer) == 0,
     }
 }
 
-// The event at the run's offset. A run that does not go on stays as it is.
-pub fn step(run: Run, events: &[u8], io: &mut [u8], shown: &mut [u8], text: &mut [u8]) -> Run
+// The event at the run's offset.
+pub fn step(run: Run, events: &[u8], io: &mut [u8], lent: &mut [u8], text: &mut [u8]) -> Run
+    requires { ⌜ Roomy (now lent) (now text) × (run .index ≤ run .at) ⌝ }
+    ensures { λ r. ⌜ runningOf r (now (io .exit)) (now (lent .exit)) (now (text .exit)) ≡ stepBy run (now (events .entry)) (now (io .entry)) (now (lent .entry)) (now (text .entry)) ⌝ }
 {
     let d = run.device;
     let at = run.at;
     let e = event_at(events, at);
     if !e.whole {
-        return Run {
-            device: d,
-            at: at,
-            index: run.index,
-            line: 0,
-            going: false,
-        };
+        return stopped(d, at, run.index);
     }
     let from = at + 3;
     let end = from + e.length;
-    let a = act(e.kind, &events[from..end], d, io, shown);
+    let a = act(e.kind, &events[from..end], d, io, lent);
     let after = a.device;
-    let length = tell(run.index, a, shown, text);
+    let length = tell(run.index, a, lent, text);
     Run {
         device: after,
         at: end,
         index: run.index + 1,
         line: length,
-        going: end < events.len(),
+        going: true,
     }
 }

@@ -1,87 +1,84 @@
+-- `benchline::put_decimal` meets its contract: it calls itself for the digits before the last, those of n / 10, and n is the measure.
+-- Assumes nothing.
 use Prim.Native.Nat.{ℕ, _<_}
 use native.Mathlib.Omega.{arith}
 use borrow.Author.Needs.{needs}
 use borrow.Fn.Kinds.{In}
 use borrow.Fn.PlainCycle.{Measures, is, falls, and}
-use Rattle.benchline.proofs.Decimal.{some-digit}
-use Rattle.benchline.proofs.Text.{length-more}
-use Rattle.benchline.proofs.Ways.{below, ways}
-use Rattle.benchline.proofs.put_decimal.Reads as put-decimal
-use Rattle.benchline.proofs.put_decimal.Kinds as put-decimal-kinds
-use Rattle.benchline.proofs.+put_decimal.Lts-put_decimal as put-decimal-lts
+use Rattle.benchline.proofs.Ways.{ways}
+use Rattle.benchline.proofs.put_decimal.Reads as reads
+use Rattle.benchline.proofs.put_decimal.Kinds as kinds
+use Rattle.benchline.proofs.+put_decimal.Lts-put_decimal as lts
 use Rattle.benchline.proofs.+put_decimal.{statement}
 use Rattle.benchline.proofs.+put_decimal.Tie.{close}
 
-abbrev μ-put-decimal : Measures 1 put-decimal-kinds.ps ℕ
-μ-put-decimal κs a = a .1 .1 .0
+abbrev μ : Measures 1 kinds.ps ℕ
+μ κs a = a .1 .1 .0
 
-abbrev put-decimal-at : ℕ → In 1 put-decimal-kinds.ps
-put-decimal-at t =
-    and 1 put-decimal-kinds.ps (is 1 put-decimal-kinds.ps μ-put-decimal t) put-decimal.Pre
+-- what is given at the measure t, and what a call asks below t
+abbrev given : ℕ → In 1 kinds.ps
+given t = and 1 kinds.ps (is 1 kinds.ps μ t) reads.Pre
 
-abbrev put-decimal-below : ℕ → In 1 put-decimal-kinds.ps
-put-decimal-below t =
-    and 1 put-decimal-kinds.ps (falls 1 put-decimal-kinds.ps _<_ μ-put-decimal t) put-decimal.Pre
+abbrev asked : ℕ → In 1 kinds.ps
+asked t = and 1 kinds.ps (falls 1 kinds.ps _<_ μ t) reads.Pre
 
-put-decimal-cast-text : (t : ℕ) → put-decimal-lts.Need-cast-text (put-decimal-below t, put-decimal.Post) (put-decimal-at t) put-decimal.Post
-put-decimal-cast-text t c = search (ways, needs)
+module _ (t : ℕ) where
+  cast-text : lts.Need-cast-text (asked t, reads.Post) (given t) reads.Post
+  cast-text c = search needs
 
-put-decimal-add-text : (t : ℕ) → put-decimal-lts.Need-add-text (put-decimal-below t, put-decimal.Post) (put-decimal-at t) put-decimal.Post
-put-decimal-add-text t c = search (ways, needs)
+  add-text : lts.Need-add-text (asked t, reads.Post) (given t) reads.Post
+  add-text c = search needs
 
-put-decimal-slice-write-text : (t : ℕ) → put-decimal-lts.Need-slice-write-text (put-decimal-below t, put-decimal.Post) (put-decimal-at t) put-decimal.Post
-put-decimal-slice-write-text t c = omega (arith, some-digit (c .before .before .args .n))
+  slice-write-text : lts.Need-slice-write-text (asked t, reads.Post) (given t) reads.Post
+  slice-write-text c = search (ways, needs)
 
-put-decimal-add-result : (t : ℕ) → put-decimal-lts.Need-add-result (put-decimal-below t, put-decimal.Post) (put-decimal-at t) put-decimal.Post
-put-decimal-add-result t c = search (ways, needs)
+  add-result : lts.Need-add-result (asked t, reads.Post) (given t) reads.Post
+  add-result c = search needs
 
-put-decimal-same-length : (t : ℕ) → put-decimal-lts.Need-same-length (put-decimal-below t, put-decimal.Post) (put-decimal-at t) put-decimal.Post
-put-decimal-same-length t c = search (ways, needs)
+  same-length : lts.Need-same-length (asked t, reads.Post) (given t) reads.Post
+  same-length c = search needs
 
-put-decimal-returns : (t : ℕ) → put-decimal-lts.Need-returns (put-decimal-below t, put-decimal.Post) (put-decimal-at t) put-decimal.Post
-put-decimal-returns t c = search (ways, needs)
+  returns : lts.Need-returns (asked t, reads.Post) (given t) reads.Post
+  returns c = search (ways, needs)
 
-put-decimal-put-decimal-requires : (t : ℕ) → put-decimal-lts.Need-put-decimal-requires (put-decimal-below t, put-decimal.Post) (put-decimal-at t) put-decimal.Post
-put-decimal-put-decimal-requires t c κs =
-    let start = c .before .before .before in
-    (omega arith, omega (arith, length-more (start .args .n) (below (start .args .n) (start .fits .n .fits)) (c .before .if1 .left)))
+  put-decimal-requires : lts.Need-put-decimal-requires (asked t, reads.Post) (given t) reads.Post
+  put-decimal-requires c κs = (omega arith, search (ways, needs))
 
-put-decimal-cast-text-2 : (t : ℕ) → put-decimal-lts.Need-cast-text-2 (put-decimal-below t, put-decimal.Post) (put-decimal-at t) put-decimal.Post
-put-decimal-cast-text-2 t c = search (ways, needs)
+  cast-text-2 : lts.Need-cast-text-2 (asked t, reads.Post) (given t) reads.Post
+  cast-text-2 c = search needs
 
-put-decimal-add-text-2 : (t : ℕ) → put-decimal-lts.Need-add-text-2 (put-decimal-below t, put-decimal.Post) (put-decimal-at t) put-decimal.Post
-put-decimal-add-text-2 t c = search (ways, needs)
+  add-text-2 : lts.Need-add-text-2 (asked t, reads.Post) (given t) reads.Post
+  add-text-2 c = search needs
 
-put-decimal-slice-write-text-2 : (t : ℕ) → put-decimal-lts.Need-slice-write-text-2 (put-decimal-below t, put-decimal.Post) (put-decimal-at t) put-decimal.Post
-put-decimal-slice-write-text-2 t c =
-    let start = c .before .before .before .before .before .before in
-    omega (arith, length-more (start .args .n) (below (start .args .n) (start .fits .n .fits)) (c .before .before .before .before .if1 .left))
+  slice-write-text-2 : lts.Need-slice-write-text-2 (asked t, reads.Post) (given t) reads.Post
+  slice-write-text-2 c = search (ways, needs)
 
-put-decimal-add-result-2 : (t : ℕ) → put-decimal-lts.Need-add-result-2 (put-decimal-below t, put-decimal.Post) (put-decimal-at t) put-decimal.Post
-put-decimal-add-result-2 t c =
-    let start = c .before .before .before .before .before .before in
-    omega (arith, length-more (start .args .n) (below (start .args .n) (start .fits .n .fits)) (c .before .before .before .before .if1 .left))
+  add-result-2 : lts.Need-add-result-2 (asked t, reads.Post) (given t) reads.Post
+  add-result-2 c = omega (arith, slice-write-text-2 c)
 
-put-decimal-same-length-2 : (t : ℕ) → put-decimal-lts.Need-same-length-2 (put-decimal-below t, put-decimal.Post) (put-decimal-at t) put-decimal.Post
-put-decimal-same-length-2 t c = search (ways, needs)
+  same-length-2 : lts.Need-same-length-2 (asked t, reads.Post) (given t) reads.Post
+  same-length-2 c = search needs
 
-put-decimal-returns-2 : (t : ℕ) → put-decimal-lts.Need-returns-2 (put-decimal-below t, put-decimal.Post) (put-decimal-at t) put-decimal.Post
-put-decimal-returns-2 t c = search (ways, needs)
+  returns-2 : lts.Need-returns-2 (asked t, reads.Post) (given t) reads.Post
+  returns-2 c = search (ways, needs)
 
 pub +put-decimal-spec : {M : Type 1} → statement M
-+put-decimal-spec = close μ-put-decimal λ t. put-decimal-lts.spec (put-decimal-below t, put-decimal.Post)
-    (put-decimal-at t)
-    put-decimal.Post
-    (put-decimal-cast-text t)
-    (put-decimal-add-text t)
-    (put-decimal-slice-write-text t)
-    (put-decimal-add-result t)
-    (put-decimal-same-length t)
-    (put-decimal-returns t)
-    (put-decimal-put-decimal-requires t)
-    (put-decimal-cast-text-2 t)
-    (put-decimal-add-text-2 t)
-    (put-decimal-slice-write-text-2 t)
-    (put-decimal-add-result-2 t)
-    (put-decimal-same-length-2 t)
-    (put-decimal-returns-2 t)
++put-decimal-spec =
+    close μ λ t.
+    lts.spec
+    (asked t, reads.Post)
+    (given t)
+    reads.Post
+    (cast-text t)
+    (add-text t)
+    (slice-write-text t)
+    (add-result t)
+    (same-length t)
+    (returns t)
+    (put-decimal-requires t)
+    (cast-text-2 t)
+    (add-text-2 t)
+    (slice-write-text-2 t)
+    (add-result-2 t)
+    (same-length-2 t)
+    (returns-2 t)

@@ -1,3 +1,4 @@
+-- `benchline::digit` meets its contract. Assumes nothing.
 use borrow.Author.Needs.{needs}
 use Rattle.benchline.proofs.Ways.{ways}
 use Rattle.benchline.proofs.digit.Statement.{statement}

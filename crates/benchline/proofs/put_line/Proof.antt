@@ -1,3 +1,4 @@
+-- `benchline::put_line` meets its contract: there is room, since `line-fits` bounds every line. Assumes nothing.
 use native.Mathlib.Omega.{arith}
 use borrow.Author.Needs.{needs}
 use lib.ListN.{length-set}

@@ -1,18 +1,18 @@
+-- `benchline::put_number` meets its contract: a store right behind the digits. Assumes nothing.
 use native.Mathlib.Omega.{arith}
 use borrow.Author.Needs.{needs}
-use Rattle.benchline.proofs.Text.{length-number}
 use Rattle.benchline.proofs.Ways.{ways}
 use Rattle.benchline.proofs.put_number.Statement.{statement}
 use Rattle.benchline.proofs.put_number.Tie as tie
 
 put-decimal-requires : tie.Need-put-decimal-requires
-put-decimal-requires c κs = omega (arith, length-number (c .before .before .args .n))
+put-decimal-requires c κs = search (ways, needs)
 
 slice-write-text : tie.Need-slice-write-text
-slice-write-text c = omega (arith, length-number (c .before .before .before .before .before .args .n))
+slice-write-text c = search (ways, needs)
 
 add-result : tie.Need-add-result
-add-result c = omega (arith, length-number (c .before .before .before .before .before .args .n))
+add-result c = omega (arith, slice-write-text c)
 
 same-length : tie.Need-same-length
 same-length c = search needs

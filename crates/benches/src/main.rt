@@ -1,0 +1,44 @@
+// benches: bench for many files in one process. On standard input each file stands behind 4 bytes, its length, little-endian; on
+// standard output its lines stand behind a line `==`.
+use libc::STDIN_FILENO;
+use libc::STDOUT_FILENO;
+ghost use mathlib.Core.Path.{_≡_};
+ghost use lib.ListN.{length};
+
+// One byte more than a good file can have, as for bench.
+const MOST: usize = 65537;
+
+// The next file, and whether there was one. A length above MOST, or an input that ends within a file, is the end too.
+fn next(file: &mut [u8]) -> bool
+    requires { ⌜ length (now file) ≡ 65537 ⌝ }
+{
+    let mut head = [0u8; 4];
+    if io::read_full(STDIN_FILENO, &mut head) < 4 {
+        return false;
+    }
+    let n = fields::le32(&head, 0) as usize;
+    if MOST < n {
+        return false;
+    }
+    if io::read_full(STDIN_FILENO, &mut file[..n]) < n {
+        return false;
+    }
+    io::write_all(STDOUT_FILENO, b"==\n");
+    benchrun::print(&file[..n]);
+    true
+}
+
+// A proved loop has to end, and nothing says that the input does: the turns are counted down from a number that no run uses up.
+fn each(file: &mut [u8])
+    requires { ⌜ length (now file) ≡ 65537 ⌝ }
+{
+    let mut turns = u64::MAX;
+    while turns > 0 && next(file) {
+        turns -= 1;
+    }
+}
+
+fn main() {
+    let mut file = [0u8; 65537];
+    each(&mut file);
+}

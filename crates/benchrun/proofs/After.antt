@@ -1,0 +1,127 @@
+-- What is so behind an event of a run, whatever it was: for the loop over all of them. Assumes nothing.
+use mathlib.Core.Path.{_≡_, refl, sym, ap, _∙_, subst}
+use mathlib.Core.Bool.{Bool, true, false, cond, _||_}
+use mathlib.Core.List.{List, []}
+use Prim.Native.Nat.{ℕ, _+_, _-_, _*_, _≤_, _<_, zero-le}
+use native.Mathlib.Nat.{min-le-right, le-trans}
+use native.Mathlib.Omega.{arith}
+use lib.Dec.{eqb, ltb}
+use lib.ListN.{length, take, drop, length-take}
+use borrow.Author.Tests.{eqb-true, ltb-false}
+use Rattle.fields.proofs.Bools.{of-picked}
+use Rattle.answers.specs.declared.Stalls.{Stalls}
+use Rattle.answers.specs.declared.Stalls.the-variants.{Kept}
+use Rattle.device.specs.declared.Device.{Device}
+use Rattle.device.specs.Create.{isPacketSize, creation, createCall}
+use Rattle.benchfile.specs.Event.{eventAt}
+use Rattle.benchfile.proofs.Front.{whole-fits}
+use Rattle.benchline.specs.Line.{roomFor}
+use Rattle.benchline.proofs.Text.{line-fits}
+use Rattle.benchact.specs.Act.{Acting, actBy}
+use Rattle.benchrun.specs.declared.step.Run.{Run}
+use Rattle.benchrun.specs.Run.{fieldsOf, lineText, toldLine, Beginning, begunOf, stoppedAt, creationOf, created, beginBy, Running, runningOf, wentOn, eventBy, stepBy, Roomy}
+
+-- no line is longer than the room for its bytes
+room-less : (n m : ℕ) → n ≤ m → roomFor n ≤ roomFor m
+unfolding roomFor
+room-less n m h = omega (arith, h)
+
+line-room : (index : ℕ) (d : Device) (answer count : ℕ) (stalls : Stalls) (n : ℕ) (bytes : List ℕ) → length (lineText index d answer count stalls (take n bytes)) ≤ roomFor (length bytes)
+unfolding lineText
+line-room index d answer count stalls n bytes =
+    le-trans (line-fits (fieldsOf index d answer count stalls) (take n bytes)) (room-less _ _ (rw (length-take n bytes) (min-le-right n (length bytes))))
+
+told-room : (index : ℕ) (a : Acting) → length (toldLine index a) ≤ roomFor (length (a .lent))
+unfolding toldLine
+told-room index a = line-room index (a .device) (a .number) (a .count) (a .stalls) (a .shown) (a .lent)
+
+-- ---- a later event
+
+-- how many bytes of events a run has before it, and none once it has ended
+pub ahead : List ℕ → Run → ℕ
+ahead events run = cond (run .going) (1 + (length events - run .at)) 0
+
+pub record Steps (run : Run) (events : List ℕ) (o : Running) : Type 0 where
+  pub index : run .index ≤ run .at → o .run .index ≤ o .run .at
+  pub less : ahead events (o .run) < 1 + (length events - run .at)
+  pub line : o .run .line ≤ roomFor (length (o .lent))
+
+steps : (run : Run) (events io lent text : List ℕ) → Steps run events (stepBy run events io lent text)
+unfolding stepBy eventBy wentOn ahead
+steps run events io lent text =
+    of-picked (Steps run events) (eventAt events (run .at) .whole)
+    (λ w. record {
+      index = λ h. omega (arith, h);
+      less = omega (arith, whole-fits events (run .at) w);
+      line = told-room (run .index) (actBy (eventAt events (run .at) .kind) (take (eventAt events (run .at) .length) (drop (run .at + 3) events)) (run .device) io lent);
+    })
+    (λ w. record { index = λ h. h; less = omega arith; line = zero-le })
+
+module _ (run : Run) (events io lent text : List ℕ) {r : Run} {io′ lent′ text′ : List ℕ} (h : runningOf r io′ lent′ text′ ≡ stepBy run events io lent text) where
+  stepped : Steps run events (runningOf r io′ lent′ text′)
+  stepped = subst (Steps run events) (sym h) (steps run events io lent text)
+
+  pub after-index : run .index ≤ run .at → r .index ≤ r .at
+  after-index = stepped .index
+
+  pub after-less : run .going ≡ true → ahead events r < ahead events run
+  unfolding ahead
+  after-less g = rw g (stepped .less)
+
+  pub after-line : length lent′ ≡ length lent → length text′ ≡ length text → Roomy lent text → r .line ≤ length text′
+  after-line el et room = rw et (le-trans (stepped .line) (rw el (room .tells)))
+
+pub after-roomy : (lent text lent′ text′ : List ℕ) → length lent′ ≡ length lent → length text′ ≡ length text → Roomy lent text → Roomy lent′ text′
+after-roomy lent text lent′ text′ el et room = record { shows = rw el (room .shows); tells = rw (el, et) (room .tells) }
+
+-- ---- the first event
+
+-- a device that is made has a buffer of at most 65,536 bytes
+last-test : (a b c d : Bool) → _≡_ {A = ℕ} (cond a 2 (cond b 5 (cond c (cond d 9 0) 8))) 0 → d ≡ false
+last-test true b c d e = absurd (omega (arith, e))
+last-test false true c d e = absurd (omega (arith, e))
+last-test false false true true e = absurd (omega (arith, e))
+last-test false false true false e = refl
+last-test false false false d e = absurd (omega (arith, e))
+
+size-most : (p maxlun size : ℕ) → createCall p maxlun size .device .size ≤ 65536
+unfolding createCall creation
+size-most p maxlun size =
+    of-picked (λ (d : Device). d .size ≤ 65536) (eqb (creation p maxlun size) 0)
+    (λ e. ltb-false 65536 size (last-test (ltb 15 maxlun) (ltb size 31 || ltb size p) (isPacketSize p) (ltb 65536 size) (eqb-true (creation p maxlun size) 0 e)))
+    (λ e. zero-le)
+
+pub record Begins (o : Beginning) : Type 0 where
+  pub index : o .run .index ≤ o .run .at
+  pub line : o .run .line ≤ roomFor 0
+  pub size : o .run .device .size ≤ 65536
+
+begins : (events text : List ℕ) → Begins (beginBy events text)
+unfolding beginBy created creationOf
+begins events text =
+    of-picked Begins (eventAt events 0 .whole)
+    (λ w. record { index = omega arith; line = line-room 0 _ _ 0 Kept 0 []; size = size-most _ _ _ })
+    (λ w. record { index = zero-le; line = zero-le; size = zero-le })
+
+module _ (events text : List ℕ) {r : Run} {after : List ℕ} (h : begunOf r after ≡ beginBy events text) where
+  begun : Begins (begunOf r after)
+  begun = subst Begins (sym h) (begins events text)
+
+  pub begun-index : r .index ≤ r .at
+  begun-index = begun .index
+
+  pub begun-line : roomFor 0 ≤ length after → r .line ≤ length after
+  begun-line room = le-trans (begun .line) room
+
+  pub begun-size : r .device .size ≤ 65536
+  begun-size = begun .size
+
+-- ---- the arrays that are lent
+
+pub text-roomy : (n : ℕ) → 131201 ≡ n → roomFor 0 ≤ n
+unfolding roomFor
+text-roomy n e = omega (arith, e)
+
+pub both-roomy : (lent text : List ℕ) → 65535 ≡ length lent → 131201 ≡ length text → Roomy lent text
+unfolding roomFor
+both-roomy lent text e f = record { shows = omega (arith, e); tells = omega (arith, e, f) }

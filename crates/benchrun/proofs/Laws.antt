@@ -1,0 +1,114 @@
+-- Laws of a run: what each way through a function owes (`ways`), and what is so behind an event. Assumes nothing.
+use mathlib.Core.Path.{_≡_, refl, sym, ap, _∙_, subst}
+use mathlib.Core.Bool.{Bool, true, false, not, cond}
+use mathlib.Core.List.{List, [], _++_}
+use Prim.Native.Nat.{ℕ, _+_, _-_, _*_, _≤_, _<_, min}
+use native.Mathlib.Nat.{min-le-right, zero-add}
+use native.Mathlib.Omega.{arith}
+use lib.Dec.{eqb}
+use lib.ListN.{length, take, drop, length-take, take-append-drop}
+use lib.Seq.{take-append-seam, length-take-le}
+use Rattle.fields.specs.Overlay.{overlay}
+use Rattle.fields.specs.Field.{get}
+use Rattle.fields.proofs.Bools.{not-true, not-false}
+use Rattle.answers.specs.declared.Stalls.{Stalls}
+use Rattle.answers.specs.declared.Stalls.the-variants.{Kept}
+use Rattle.answers.specs.Answers.{number}
+use Rattle.ring.specs.States.{stateNumber}
+use Rattle.device.specs.declared.Device.{Device}
+use Rattle.device.specs.declared.create.Created.{Created}
+use Rattle.device.specs.Create.{isPacketSize, creation, newDevice, Creation, createdOf, createCall}
+use Rattle.benchfile.specs.declared.event.Head.{Head}
+use Rattle.benchfile.specs.Event.{packetSize, maxLun, bufferSize, suits, eventAt}
+use Rattle.benchfile.proofs.Front.{whole-fits, whole-suits, first-long}
+use Rattle.benchline.specs.declared.Line.{Line}
+use Rattle.benchline.specs.Line.{lineOf, roomFor, Puts}
+use Rattle.benchact.specs.declared.Acted.{Acted}
+use Rattle.benchact.specs.Act.{Acting, actingOf, actBy}
+use Rattle.benchrun.specs.declared.step.Run.{Run}
+use Rattle.benchrun.specs.Run.{fieldsOf, lineText, toldLine, begunOf, stoppedAt, creationOf, created, beginBy, runningOf, wentOn, eventBy, stepBy, Roomy}
+
+-- ---- the line
+
+pub told-fields : (index : ℕ) (a : Acted) {n s u : ℕ} → n ≡ number (a .answer) → s ≡ stateNumber (a .device .state) → u ≡ a .device .marks .write - a .device .marks .read
+    → record { index = index; answer = n; state = s; left = a .device .left .0; unread = u; count = a .count; stalls = a .stalls } ≡ fieldsOf index (a .device) (number (a .answer)) (a .count) (a .stalls)
+unfolding fieldsOf
+told-fields index a hn hs hu = rw (hn, hs, hu)
+
+-- more bytes than there are is all of them
+take-least : (n : ℕ) (xs : List ℕ) → take (min n (length xs)) xs ≡ take n xs
+take-least n xs =
+    rw (← length-take n xs) (subst (λ (l : List ℕ). take (length (take n xs)) l ≡ take n xs) (take-append-drop n xs) (take-append-seam (take n xs) (drop n xs)))
+
+module _ (n : ℕ) (xs : List ℕ) {k : ℕ} (h : k ≡ min n (length xs)) where
+  pub least-fits : k ≤ length xs
+  least-fits = rw h (min-le-right n (length xs))
+
+  pub least-cut : k ≡ length (take k xs)
+  least-cut = sym (length-take-le k xs least-fits)
+
+  pub least-roomy : (text : List ℕ) → roomFor (length xs) ≤ length text → roomFor (length (take k xs)) ≤ length text
+  unfolding roomFor
+  least-roomy text r = omega (arith, r, least-cut, least-fits)
+
+  pub told-line : (index : ℕ) (d : Device) (answer count : ℕ) (stalls : Stalls) {l : Line} {before after : List ℕ} {end : ℕ}
+      → l ≡ fieldsOf index d answer count stalls → Puts 0 (lineOf l (take k xs)) before after end → Puts 0 (lineText index d answer count stalls (take n xs)) before after end
+  unfolding lineText
+  told-line index d answer count stalls {before = before} {after} {end} hl p =
+      subst (λ (ys : List ℕ). Puts 0 ys before after end) (rw (hl, h, take-least n xs)) p
+
+ended : {ys before after : List ℕ} {n : ℕ} → Puts 0 ys before after n → n ≡ length ys
+ended {ys} p = p .ends ∙ zero-add (length ys)
+
+-- ---- the first event
+
+module _ (events text : List ℕ) {e : Head} (he : e ≡ eventAt events 0) where
+  pub begins-none : not (e .whole) ≡ true → (c : Created) → createdOf c ≡ createCall 0 0 0 → {r : Run} → r ≡ stoppedAt (c .device) 0 0 → begunOf r text ≡ beginBy events text
+  unfolding beginBy createCall creation isPacketSize
+  begins-none q c hc hr = rw (← he, not-true (e .whole) q, hr, ap (λ (x : Creation). x .device) hc)
+
+  module _ (q : not (e .whole) ≡ false) where
+    pub begins-fits : 10 ≤ length events
+    begins-fits = first-long events (sym (ap (λ (x : Head). x .whole) he) ∙ not-false (e .whole) q)
+
+    pub begins-made : {p m s : ℕ} → p ≡ get packetSize (take 7 (drop 3 events)) → m ≡ get maxLun (take 7 (drop 3 events)) → s ≡ get bufferSize (take 7 (drop 3 events))
+        → (c : Created) → createdOf c ≡ createCall p m s → {k : ℕ} → k ≡ number (c .answer)
+        → {after : List ℕ} {n : ℕ} → Puts 0 (lineText 0 (c .device) (number (c .answer)) 0 Kept []) text after n
+        → begunOf (record { device = c .device; at = 10; index = 1; line = n; going = eqb k 0 }) after ≡ beginBy events text
+    unfolding beginBy created creationOf
+    begins-made hp hm hs c hc hk t =
+        rw (← he, not-false (e .whole) q, ← hp, ← hm, ← hs, ← hc, hk, ended t, t .text)
+
+-- ---- a later event
+
+pub still-roomy : {lent text : List ℕ} (after : List ℕ) → length after ≡ length lent → Roomy lent text → roomFor (length after) ≤ length text
+still-roomy after e r = rw e (r .tells)
+
+module _ (events : List ℕ) (at : ℕ) {e : Head} (he : e ≡ eventAt events at) (q : not (e .whole) ≡ false) where
+  whole : eventAt events at .whole ≡ true
+  whole = sym (ap (λ (x : Head). x .whole) he) ∙ not-false (e .whole) q
+
+  pub steps-fits : at + 3 + e .length ≤ length events
+  steps-fits = rw he (whole-fits events at whole)
+
+  pub steps-suits : suits (e .kind) (take (at + 3 + e .length - (at + 3)) (drop (at + 3) events)) ≡ true
+  steps-suits =
+      let n : at + 3 + e .length - (at + 3) ≡ e .length = omega arith in
+      rw (n, he) (whole-suits events at whole)
+
+module _ (run : Run) (events io lent text : List ℕ) {e : Head} (he : e ≡ eventAt events (run .at)) where
+  pub steps-none : not (e .whole) ≡ true → {r : Run} → r ≡ stoppedAt (run .device) (run .at) (run .index) → runningOf r io lent text ≡ stepBy run events io lent text
+  unfolding stepBy
+  steps-none q hr = rw (← he, not-true (e .whole) q, hr)
+
+  pub steps-on : not (e .whole) ≡ false → (a : Acted) {io′ lent′ : List ℕ}
+      → actingOf a io′ lent′ ≡ actBy (e .kind) (take (run .at + 3 + e .length - (run .at + 3)) (drop (run .at + 3) events)) (run .device) io lent
+      → {after : List ℕ} {n : ℕ} → Puts 0 (lineText (run .index) (a .device) (number (a .answer)) (a .count) (a .stalls) (take (a .shown) lent′)) text after n
+      → runningOf (record { device = a .device; at = run .at + 3 + e .length; index = run .index + 1; line = n; going = true }) io′ lent′ after ≡ stepBy run events io lent text
+  unfolding stepBy eventBy wentOn toldLine
+  steps-on q a ha t =
+      let n : run .at + 3 + e .length - (run .at + 3) ≡ e .length = omega arith in
+      let acted = ha ∙ ap (λ (k : ℕ). actBy (e .kind) (take k (drop (run .at + 3) events)) (run .device) io lent) n in
+      rw (← he, not-false (e .whole) q, ← acted, ended t, t .text)
+
+pub ruleset ways = (told-fields, least-fits, least-cut, least-roomy, told-line, begins-none, begins-fits, begins-made, steps-none, steps-fits, steps-suits, steps-on)

@@ -1,0 +1,97 @@
+-- A run of a bench file, event by event: each is a call and gives a line. Assumes nothing: these are definitions.
+use Prim.Native.Nat.{ℕ, _+_, _-_, _≤_}
+use mathlib.Core.Bool.{Bool, true, false, cond}
+use mathlib.Core.List.{List, []}
+use lib.Dec.{eqb}
+use lib.ListN.{length, take, drop}
+use Rattle.fields.specs.Overlay.{overlay}
+use Rattle.fields.specs.Field.{get}
+use Rattle.answers.specs.declared.Stalls.{Stalls}
+use Rattle.answers.specs.declared.Stalls.the-variants.{Kept}
+use Rattle.ring.specs.States.{stateNumber}
+use Rattle.device.specs.declared.Device.{Device}
+use Rattle.device.specs.Create.{Creation, newDevice, createCall}
+use Rattle.benchfile.specs.declared.event.Head.{Head}
+use Rattle.benchfile.specs.Event.{packetSize, maxLun, bufferSize, eventAt}
+use Rattle.benchline.specs.declared.Line.{Line}
+use Rattle.benchline.specs.Line.{lineOf, roomFor}
+use Rattle.benchact.specs.Act.{Acting, actBy}
+use Rattle.benchrun.specs.declared.step.Run.{Run}
+
+-- ---- the line
+
+-- "index, answer, state, left, unread, count .., stalls": answer, count and stalls are the event's, the rest is the device's behind it
+unfoldable pub fieldsOf : ℕ → Device → ℕ → ℕ → Stalls → Line
+fieldsOf index d answer count stalls = record { index = index; answer = answer; state = stateNumber (d .state); left = d .left .0; unread = d .marks .write - d .marks .read; count = count; stalls = stalls }
+
+unfoldable pub lineText : ℕ → Device → ℕ → ℕ → Stalls → List ℕ → List ℕ
+lineText index d answer count stalls bytes = lineOf (fieldsOf index d answer count stalls) bytes
+
+-- of the lent bytes the first ones are shown
+unfoldable pub toldLine : ℕ → Acting → List ℕ
+toldLine index a = lineText index (a .device) (a .number) (a .count) (a .stalls) (take (a .shown) (a .lent))
+
+-- ---- the first event
+
+-- what the run and the text are then
+pub record Beginning : Type 0 where
+  pub run : Run
+  pub text : List ℕ
+
+abbrev pub begunOf : Run → List ℕ → Beginning
+begunOf run text = record { run = run; text = text }
+
+-- no event stands there: the run ends, and nothing is told
+abbrev pub stoppedAt : Device → ℕ → ℕ → Run
+stoppedAt d at index = record { device = d; at = at; index = index; line = 0; going = false }
+
+-- "0 create (P 2, max LUN 1, buffer 4)"
+unfoldable pub creationOf : List ℕ → Creation
+creationOf body = createCall (get packetSize body) (get maxLun body) (get bufferSize body)
+
+-- "A refused creation prints its answer, zeros and two dashes, and the run ends."
+unfoldable pub created : Creation → List ℕ → Beginning
+created c text = begunOf
+    (record { device = c .device; at = 10; index = 1; line = length (lineText 0 (c .device) (c .number) 0 Kept []); going = eqb (c .number) 0 })
+    (overlay text 0 (lineText 0 (c .device) (c .number) 0 Kept []))
+
+unfoldable pub beginBy : List ℕ → List ℕ → Beginning
+beginBy events text =
+    cond (eventAt events 0 .whole)
+    (created (creationOf (take 7 (drop 3 events))) text)
+    (begunOf (stoppedAt (newDevice 0 0 0) 0 0) text)
+
+-- ---- a later event
+
+-- what the run, the IO buffer, the lent bytes and the text are behind an event
+pub record Running : Type 0 where
+  pub run : Run
+  pub io : List ℕ
+  pub lent : List ℕ
+  pub text : List ℕ
+
+abbrev pub runningOf : Run → List ℕ → List ℕ → List ℕ → Running
+runningOf run io lent text = record { run = run; io = io; lent = lent; text = text }
+
+-- the call's line goes to the front of the text, and the next event stands at an offset
+unfoldable pub wentOn : ℕ → ℕ → Acting → List ℕ → Running
+wentOn index next a text = runningOf
+    (record { device = a .device; at = next; index = index + 1; line = length (toldLine index a); going = true })
+    (a .io)
+    (a .lent)
+    (overlay text 0 (toldLine index a))
+
+unfoldable pub eventBy : Run → Head → List ℕ → List ℕ → List ℕ → List ℕ → Running
+eventBy run e events io lent text =
+    wentOn (run .index) (run .at + 3 + e .length) (actBy (e .kind) (take (e .length) (drop (run .at + 3) events)) (run .device) io lent) text
+
+unfoldable pub stepBy : Run → List ℕ → List ℕ → List ℕ → List ℕ → Running
+stepBy run events io lent text =
+    cond (eventAt events (run .at) .whole)
+    (eventBy run (eventAt events (run .at)) events io lent text)
+    (runningOf (stoppedAt (run .device) (run .at) (run .index)) io lent text)
+
+-- The lent bytes hold what any event shows, and the text any line of them.
+pub record Roomy (lent text : List ℕ) : Type 0 where
+  pub shows : 65535 ≤ length lent
+  pub tells : roomFor (length lent) ≤ length text
