@@ -163,7 +163,7 @@ seven : (kind : ℕ) (body : List ℕ) → kind ≡ 0 → suits kind body ≡ tr
 unfolding suits isLong
 seven kind body e h = eqb-true (length body) 7 (sym (ap (λ (k : ℕ). suits k body) e) ∙ h)
 
-creation-long : (e : List ℕ) → isEvent true e ≡ true → length e ≡ 10
+pub creation-long : (e : List ℕ) → isEvent true e ≡ true → length e ≡ 10
 unfolding isEvent mayStand bodyOf
 creation-long e h =
     let kind : get kindByte e ≡ 0 =

@@ -103,6 +103,17 @@ module _ (file : List ℕ) where
       trailed : take (length file - (length file - 12)) (drop (length file - 12) file) ≡ drop (length file - 12) file
       trailed = take-all (length file - (length file - 12)) (drop (length file - 12) file) (omega (arith, length-drop (length file - 12) file))
 
+-- a good file's events stand in front of its trailer
+module _ (file : List ℕ) (events : List (List ℕ)) (g : Good file events) where
+  seam : length (joined events) ≡ length file - 12
+  seam = omega (arith, ap length (g .parts), length-append (joined events) (g .trailer), g .closes .twelve)
+
+  pub events-part : take (length file - 12) file ≡ joined events
+  events-part = ap (take (length file - 12)) (g .parts) ∙ take-at (joined events) (g .trailer) (length file - 12) seam
+
+  trailer-part : drop (length file - 12) file ≡ g .trailer
+  trailer-part = ap (drop (length file - 12)) (g .parts) ∙ drop-at (joined events) (g .trailer) (length file - 12) seam
+
 module _ (file : List ℕ) (short : length file ≤ 65536) (enough : 12 ≤ length file) {t : Tally} (walked : Tallies t (take (length file - 12) file)) where
   abbrev trailer : List ℕ
   trailer = take (length file - (length file - 12)) (drop (length file - 12) file)
@@ -139,14 +150,8 @@ module _ (file : List ℕ) (short : length file ≤ 65536) (enough : 12 ≤ leng
   unfolding agreesWith
   accepts-each events g =
       let k = g .closes in
-      let seam : length (joined events) ≡ length file - 12 = omega (arith, ap length (g .parts), length-append (joined events) (g .trailer), k .twelve) in
-      let before : take (length file - 12) file ≡ joined events =
-      ap (take (length file - 12)) (g .parts) ∙ take-at (joined events) (g .trailer) (length file - 12) seam
-      in
-      let behind : trailer ≡ g .trailer =
-      trailed ∙ ap (drop (length file - 12)) (g .parts) ∙ drop-at (joined events) (g .trailer) (length file - 12) seam
-      in
-      let same : t ≡ tallyOf events = walked .only events (record { bytes = before; are = g .are }) in
+      let behind : trailer ≡ g .trailer = trailed ∙ trailer-part file events g in
+      let same : t ≡ tallyOf events = walked .only events (record { bytes = events-part file events g; are = g .are }) in
       rw (behind, same, eq-eqb _ _ (k .count), eq-eqb _ _ (k .last), magic-tested (drop 8 (g .trailer)) (k .bot1))
 
   pub judges-by : {r : Bool} → r ≡ agreesWith t trailer → Judges r file

@@ -14,22 +14,22 @@ use Rattle.benchfile.specs.File.{joined, areEvents, lastOffset, Good}
 -- ---- the events of 01's listing
 
 -- "create (64, 0, 64)"
-create : List ℕ
+abbrev create : List ℕ
 create = 0x00 ∷ 0x07 ∷ 0x00 ∷ 0x40 ∷ 0x00 ∷ 0x00 ∷ 0x40 ∷ 0x00 ∷ 0x00 ∷ 0x00 ∷ []
 
 -- "poll with a tag 1, L = 0, block length 6 all-zero command, IN 0, second OUT busy"
-wrapperPoll : List ℕ
+abbrev wrapperPoll : List ℕ
 wrapperPoll = (0x01 ∷ 0x24 ∷ 0x00 ∷ 0x00 ∷ 0x00 ∷ 0x01 ∷ 0x1F ∷ 0x00 ∷ 0x55 ∷ 0x53 ∷ 0x42 ∷ 0x43 ∷ 0x01 ∷ 0x00 ∷ 0x00 ∷ 0x00 ∷ 0x00 ∷ 0x00 ∷ 0x00 ∷ 0x00 ∷ 0x00 ∷ 0x00 ∷ 0x06 ∷ []) ++ replicate 16 0x00
 
 -- "status 0, figure 0"
-status : List ℕ
+abbrev status : List ℕ
 status = 0x02 ∷ 0x05 ∷ 0x00 ∷ 0x00 ∷ 0x00 ∷ 0x00 ∷ 0x00 ∷ 0x00 ∷ []
 
 -- "poll with IN 0 and both OUT busy"
-busyPoll : List ℕ
+abbrev busyPoll : List ℕ
 busyPoll = 0x01 ∷ 0x05 ∷ 0x00 ∷ 0x00 ∷ 0x01 ∷ 0x01 ∷ 0x00 ∷ 0x00 ∷ []
 
-pub listing : List (List ℕ)
+unfoldable pub listing : List (List ℕ)
 listing = create ∷ wrapperPoll ∷ status ∷ busyPoll ∷ busyPoll ∷ []
 
 -- 5 events, the last at 65, `BOT1`
@@ -58,12 +58,12 @@ table =
     ∷ []
 
 pub table-holds : AllHold table
-unfolding table listing create wrapperPoll status busyPoll bytesAt counted ordered get bodyOf agrees isPoll isStatus isLong suits mayStand isEvent frontOf headOf eventAt joined areEvents lastOffset
+unfolding table listing bytesAt counted ordered get bodyOf agrees isPoll isStatus isLong suits mayStand isEvent frontOf headOf eventAt joined areEvents lastOffset
 table-holds = refl
 
 -- 01's listing is a good file, and so is "a file of none"
 pub listing-good : Good (joined listing ++ listingTrailer) listing
-unfolding listing create wrapperPoll status busyPoll listingTrailer bytesAt counted ordered get bodyOf agrees isPoll isStatus isLong suits mayStand isEvent joined areEvents lastOffset
+unfolding listing listingTrailer bytesAt counted ordered get bodyOf agrees isPoll isStatus isLong suits mayStand isEvent joined areEvents lastOffset
 listing-good = record {
   most = lit≤ tt;
   are = refl;

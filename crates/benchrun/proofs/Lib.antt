@@ -1,4 +1,8 @@
--- proofs.Laws     what each way through a function owes
--- proofs.After    what is so behind an event, for the loop over all of them
+-- proofs.Laws      what each way through a function owes
+-- proofs.After     what is so behind an event, for the loop over all of them
+-- proofs.Prints    one line is written for each event of a good file
+-- proofs.Unique    no contract has a second answer
 pub mod Laws
 pub mod After
+pub mod Prints
+pub mod Unique
