@@ -1,8 +1,8 @@
 -- The verdict: what the ways through `magic`, `closes` and `good` owe (`judges`). Assumes nothing.
-use mathlib.Core.Path.{_≡_, refl, sym, ap, _∙_}
-use mathlib.Core.Bool.{Bool, true, false, not, _&&_}
-use mathlib.Core.List.{List, [], _∷_, _++_}
-use Prim.Native.Nat.{ℕ, _+_, _-_, _≤_, _<_}
+use mathlib.Core.Path.{_≡_, sym, ap, _∙_}
+use mathlib.Core.Bool.{Bool, true, false, not}
+use mathlib.Core.List.{List, _++_}
+use Prim.Native.Nat.{ℕ, _-_, _≤_, _<_}
 use native.Mathlib.Omega.{arith}
 use lib.Dec.{eqb}
 use lib.ListN.{length, take, drop, getD, take-append-drop, length-append, length-drop, drop-of-length-le}
@@ -12,8 +12,8 @@ use Rattle.fields.specs.Field.{oneByte, get, bytesAt, ordered, counted}
 use Rattle.fields.proofs.Bools.{and-left, and-right, not-true, not-false}
 use Rattle.fields.proofs.Field.{byte-read}
 use Rattle.benchfile.specs.declared.Tally.{Tally}
-use Rattle.benchfile.specs.File.{joined, countField, lastField, magic, Closes, Good, Judges}
-use Rattle.benchfile.specs.Walk.{tallyOf, Fills, Tallies, isMagic, agreesWith}
+use Rattle.benchfile.specs.File.{joined, countField, lastField, magic, Good, Judges}
+use Rattle.benchfile.specs.Walk.{tallyOf, Tallies, isMagic, agreesWith}
 use Rattle.benchfile.proofs.Walked.{clash}
 
 -- ---- `BOT1`

@@ -1,16 +1,16 @@
 -- A good file yields its events: each is read at its offset (`yields`), and no other list of events is the file's (`events-once`).
 -- Assumes nothing.
 use mathlib.Core.Path.{_≡_, refl, sym, ap, _∙_}
-use mathlib.Core.Bool.{Bool, true, false, _&&_}
+use mathlib.Core.Bool.{Bool, true, false}
 use mathlib.Core.List.{List, [], _∷_, _++_, append-assoc}
-use Prim.Native.Nat.{ℕ, _+_, _-_}
+use Prim.Native.Nat.{ℕ}
 use native.Mathlib.Omega.{arith}
 use lib.Dec.{eqb}
 use lib.ListN.{length, take, drop, length-append, length-drop}
 use lib.Seq.{take-at, drop-at, drop-drop, drop-append-le, take-append-seam}
 use Rattle.fields.specs.Field.{get}
 use Rattle.fields.proofs.Bools.{and-left, and-right}
-use Rattle.benchfile.specs.Event.{lengthField, bodyOf, isEvent, frontOf, headOf, eventAt}
+use Rattle.benchfile.specs.Event.{lengthField, bodyOf, isEvent, frontOf, eventAt}
 use Rattle.benchfile.specs.File.{joined, areEvents, Good, ReadAt}
 use Rattle.benchfile.proofs.Front.{event-long, front-event, head-event}
 use Rattle.benchfile.proofs.Lists.{isFirst, first-at-0, none-joined}

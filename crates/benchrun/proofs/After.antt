@@ -1,8 +1,8 @@
 -- What is so behind an event of a run, whatever it was: for the loop over all of them. Assumes nothing.
-use mathlib.Core.Path.{_≡_, refl, sym, ap, _∙_, subst}
+use mathlib.Core.Path.{_≡_, refl, sym, subst}
 use mathlib.Core.Bool.{Bool, true, false, cond, _||_}
 use mathlib.Core.List.{List, []}
-use Prim.Native.Nat.{ℕ, _+_, _-_, _*_, _≤_, _<_, zero-le}
+use Prim.Native.Nat.{ℕ, _+_, _-_, _≤_, _<_, zero-le}
 use native.Mathlib.Nat.{min-le-right, le-trans}
 use native.Mathlib.Omega.{arith}
 use lib.Dec.{eqb, ltb}
@@ -19,7 +19,7 @@ use Rattle.benchline.specs.Line.{roomFor}
 use Rattle.benchline.proofs.Text.{line-fits}
 use Rattle.benchact.specs.Act.{Acting, actBy}
 use Rattle.benchrun.specs.declared.step.Run.{Run}
-use Rattle.benchrun.specs.Run.{fieldsOf, lineText, toldLine, Beginning, begunOf, stoppedAt, creationOf, created, beginBy, Running, runningOf, wentOn, eventBy, stepBy, Roomy}
+use Rattle.benchrun.specs.Run.{fieldsOf, lineText, toldLine, Beginning, begunOf, creationOf, created, beginBy, Running, runningOf, wentOn, eventBy, stepBy, Roomy}
 
 -- no line is longer than the room for its bytes
 room-less : (n m : ℕ) → n ≤ m → roomFor n ≤ roomFor m

@@ -1,14 +1,13 @@
 -- Laws of a run: what each way through a function owes (`ways`), and what is so behind an event. Assumes nothing.
-use mathlib.Core.Path.{_≡_, refl, sym, ap, _∙_, subst}
-use mathlib.Core.Bool.{Bool, true, false, not, cond}
-use mathlib.Core.List.{List, [], _++_}
-use Prim.Native.Nat.{ℕ, _+_, _-_, _*_, _≤_, _<_, min}
+use mathlib.Core.Path.{_≡_, sym, ap, _∙_, subst}
+use mathlib.Core.Bool.{true, false, not}
+use mathlib.Core.List.{List, []}
+use Prim.Native.Nat.{ℕ, _+_, _-_, _≤_, min}
 use native.Mathlib.Nat.{min-le-right, zero-add}
 use native.Mathlib.Omega.{arith}
 use lib.Dec.{eqb}
 use lib.ListN.{length, take, drop, length-take, take-append-drop}
 use lib.Seq.{take-append-seam, length-take-le}
-use Rattle.fields.specs.Overlay.{overlay}
 use Rattle.fields.specs.Field.{get}
 use Rattle.fields.proofs.Bools.{not-true, not-false}
 use Rattle.answers.specs.declared.Stalls.{Stalls}
@@ -17,14 +16,14 @@ use Rattle.answers.specs.Answers.{number}
 use Rattle.ring.specs.States.{stateNumber}
 use Rattle.device.specs.declared.Device.{Device}
 use Rattle.device.specs.declared.create.Created.{Created}
-use Rattle.device.specs.Create.{isPacketSize, creation, newDevice, Creation, createdOf, createCall}
+use Rattle.device.specs.Create.{isPacketSize, creation, Creation, createdOf, createCall}
 use Rattle.benchfile.specs.declared.event.Head.{Head}
 use Rattle.benchfile.specs.Event.{packetSize, maxLun, bufferSize, suits, eventAt}
 use Rattle.benchfile.proofs.Front.{whole-fits, whole-suits, first-long}
 use Rattle.benchline.specs.declared.Line.{Line}
 use Rattle.benchline.specs.Line.{lineOf, roomFor, Puts}
 use Rattle.benchact.specs.declared.Acted.{Acted}
-use Rattle.benchact.specs.Act.{Acting, actingOf, actBy}
+use Rattle.benchact.specs.Act.{actingOf, actBy}
 use Rattle.benchrun.specs.declared.step.Run.{Run}
 use Rattle.benchrun.specs.Run.{fieldsOf, lineText, toldLine, begunOf, stoppedAt, creationOf, created, beginBy, runningOf, wentOn, eventBy, stepBy, Roomy}
 

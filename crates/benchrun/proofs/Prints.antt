@@ -12,7 +12,6 @@ use Rattle.fields.specs.Overlay.{overlay}
 use Rattle.fields.specs.Field.{get}
 use Rattle.fields.proofs.Bools.{and-left}
 use Rattle.answers.specs.declared.Stalls.the-variants.{Kept}
-use Rattle.device.specs.declared.Device.{Device}
 use Rattle.device.specs.Create.{newDevice, Creation}
 use Rattle.benchfile.specs.declared.event.Head.{Head}
 use Rattle.benchfile.specs.Event.{kindByte, bodyOf, isEvent, eventAt}
@@ -86,11 +85,11 @@ later-printed (e ∷ es) before run io lent text out are at going w =
     let t = turned xs run io lent text out next (step-read run xs io lent text e read) going w in
     let same : (before ++ e ∷ []) ++ es ≡ before ++ e ∷ es = append-assoc before (e ∷ []) es in
     let behind : t .rest ≡ laterLines (run .index + 1) es (a .device) (a .io) (a .lent) =
-        later-printed es (before ++ e ∷ []) (next .run) (a .io) (a .lent) (next .text) (t .rest)
-        (rw same are)
-        (rw (joined-snoc before e, length-append (joined before) e, at))
-        refl
-        (subst (λ (l : List (List ℕ)). Writes (joined l) (next .run) (a .io) (a .lent) (next .text) (t .rest)) (sym same) (t .writes))
+    later-printed es (before ++ e ∷ []) (next .run) (a .io) (a .lent) (next .text) (t .rest)
+    (rw same are)
+    (rw (joined-snoc before e, length-append (joined before) e, at))
+    refl
+    (subst (λ (l : List (List ℕ)). Writes (joined l) (next .run) (a .io) (a .lent) (next .text) (t .rest)) (sym same) (t .writes))
     in
     t .front
     ∙ ap (λ (x : List ℕ). x ++ t .rest) (front-put text (toldLine (run .index) a))
@@ -118,6 +117,7 @@ created-printed c e es io lent text out are w =
   where
     line : List ℕ
     line = lineText 0 (c .device) (c .number) 0 Kept []
+
     behind : (b : Bool) → eqb (c .number) 0 ≡ b → out ≡ cond b (laterLines 1 es (c .device) io lent) []
     behind true q =
         later-printed es (e ∷ []) (created c text .run) io lent (created c text .text) out are (rw (append-nil e) (sym (creation-long e (and-left (isEvent true e) (areEvents false es) are)))) q w

@@ -1,6 +1,6 @@
 -- No second answer satisfies a promise: what `begin` and `step` ensure is true of one run, and of one content of what they may write to.
 -- `Post` is the contract itself, as the check reads it. Assumes nothing.
-use mathlib.Core.Path.{_≡_, sym, ap, _∙_}
+use mathlib.Core.Path.{sym, ap, _∙_}
 use mathlib.Core.List.{List}
 use Prim.Native.Nat.{ℕ}
 use denote.Ref.{now}
