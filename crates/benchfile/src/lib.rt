@@ -12,7 +12,7 @@ ghost use Rattle.benchfile.specs.Walk.{Tallies, isMagic, agreesWith};
 
 const LONGEST: usize = 65536;
 
-const TRAILER: usize = 12;
+pub const TRAILER: usize = 12;
 
 // Whether events fill the bytes; how many there are, and the offset of the last one.
 struct Tally {

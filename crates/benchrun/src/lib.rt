@@ -2,19 +2,17 @@
 //     step    one event and its line
 // Which bytes a call of C's takes no contract can say, so nothing is promised here of what is written; all that is written stands in
 // the text that `step` promises.
-mod step;
+pub mod step;
 
 use crate::step::Run;
 use crate::step::begin;
 use crate::step::step;
+use benchfile::TRAILER;
+use libc::STDOUT_FILENO;
 ghost use mathlib.Core.Path.{_≡_};
 ghost use Prim.Native.Nat.{_≤_};
 ghost use lib.ListN.{length};
 ghost use Rattle.benchrun.specs.Run.{Roomy};
-
-const STDOUT: i32 = 1;
-
-const TRAILER: usize = 12;
 
 // Event by event, up to the end.
 fn play(begun: Run, events: &[u8], io: &mut [u8], lent: &mut [u8], text: &mut [u8])
@@ -24,7 +22,7 @@ fn play(begun: Run, events: &[u8], io: &mut [u8], lent: &mut [u8], text: &mut [u
     while run.going {
         run = step(run, events, io, lent, text);
         let n = run.line;
-        io::write_all(STDOUT, &text[..n]);
+        io::write_all(STDOUT_FILENO, &text[..n]);
     }
 }
 
@@ -47,7 +45,7 @@ fn print_events(events: &[u8]) {
     let mut text = longest_line();
     let begun = begin(events, &mut text);
     let n = begun.line;
-    io::write_all(STDOUT, &text[..n]);
+    io::write_all(STDOUT_FILENO, &text[..n]);
     let d = begun.device;
     let size = d.size;
     play(begun, events, &mut space[..size], &mut lent, &mut text);
@@ -60,5 +58,5 @@ pub fn print(file: &[u8]) {
         print_events(&file[..end]);
         return;
     }
-    io::write_all(STDOUT, b"14\n");
+    io::write_all(STDOUT_FILENO, b"14\n");
 }
