@@ -8,24 +8,14 @@ use native.Mathlib.Omega.{arith}
 use native.Mathlib.Nat.{min-le-right, le-refl}
 use lib.Dec.{eqb, lit<}
 use lib.ListN.{length, take, drop, take-append-drop, length-take, length-drop, drop-of-length-le}
-use lib.Seq.{take-append-le, drop-append-le, take-at, length-take-le, take-all, drop-drop}
+use lib.Seq.{take-at, length-take-le, take-all, drop-drop}
 use borrow.Author.Tests.{eq-eqb, ne-eqb, eqb-true}
-use Rattle.fields.specs.Field.{Field, bytesAt, get}
+use Rattle.fields.specs.Field.{get}
 use Rattle.fields.proofs.Bools.{and-left, and-right, not-true, not-false}
+use Rattle.fields.proofs.Field.{get-append, get-front}
 use Rattle.fields.proofs.Seq.{drop-front}
 use Rattle.benchfile.specs.declared.event.Head.{Head}
 use Rattle.benchfile.specs.Event.{kindByte, lengthField, bodyOf, isLong, suits, mayStand, isEvent, frontOf, nothing, headOf, eventAt}
-
--- ---- a field of e is the same where more bytes follow e
-
-pub get-append : (f : Field) (e ys : List ℕ) → f .start + f .width ≤ length e → get f (e ++ ys) ≡ get f e
-unfolding get bytesAt
-get-append f e ys h =
-    rw (drop-append-le (f .start) e ys (omega arith), take-append-le (f .width) (drop (f .start) e) ys (omega (arith, length-drop (f .start) e)))
-
-pub get-front : (f : Field) (n : ℕ) (xs : List ℕ) → f .start + f .width ≤ n → n ≤ length xs → get f (take n xs) ≡ get f xs
-get-front f n xs h k =
-    sym (get-append f (take n xs) (drop n xs) (omega (arith, length-take-le n xs k))) ∙ ap (get f) (take-append-drop n xs)
 
 -- ---- an event
 

@@ -9,12 +9,11 @@ use lib.ListN.{length, take, drop, getD, take-append-drop, length-append, length
 use lib.Seq.{drop-cons, take-all, take-at, drop-at, length-take-le}
 use borrow.Author.Tests.{eq-eqb, ne-eqb, eqb-true}
 use Rattle.fields.specs.Field.{oneByte, get, bytesAt, ordered, counted}
-use Rattle.fields.proofs.Bools.{and-left, and-right, not-true, not-false}
+use Rattle.fields.proofs.Bools.{and-left, and-right, not-true, not-false, clash}
 use Rattle.fields.proofs.Field.{byte-read}
 use Rattle.benchfile.specs.declared.Tally.{Tally}
 use Rattle.benchfile.specs.File.{joined, countField, lastField, magic, Good, Judges}
 use Rattle.benchfile.specs.Walk.{tallyOf, Tallies, isMagic, agreesWith}
-use Rattle.benchfile.proofs.Walked.{clash}
 
 -- ---- `BOT1`
 

@@ -1,24 +1,21 @@
 -- The walk from event to event: what is known after each turn of it, and what its ways out owe (`walks`). Assumes nothing.
-use mathlib.Core.Path.{_≡_, refl, sym, ap, _∙_, subst}
+use mathlib.Core.Path.{_≡_, refl, sym, ap, _∙_}
 use mathlib.Core.Bool.{true, false, not}
 use mathlib.Core.List.{List, [], _∷_, _++_, append-nil, append-assoc}
 use Prim.Native.Nat.{ℕ, _+_, _-_, _≤_, _<_, zero-le}
 use native.Mathlib.Omega.{arith}
-use lib.Dec.{T, eqb}
+use lib.Dec.{eqb}
 use lib.ListN.{length, take, drop, length-append, length-drop}
 use lib.Seq.{take-all, take-add, drop-drop, drop-at, length-take-le}
 use borrow.Author.Tests.{ne-eqb}
 use Rattle.fields.specs.Field.{get}
-use Rattle.fields.proofs.Bools.{not-true, not-false}
+use Rattle.fields.proofs.Bools.{not-true, not-false, clash}
 use Rattle.benchfile.specs.declared.event.Head.{Head}
 use Rattle.benchfile.specs.Event.{lengthField, frontOf, headOf, eventAt}
 use Rattle.benchfile.specs.File.{joined, areEvents, lastOffset}
 use Rattle.benchfile.specs.Walk.{Fills, Tallies}
 use Rattle.benchfile.proofs.Front.{front-event, head-event, whole-event, whole-numbers, whole-long, whole-within}
 use Rattle.benchfile.proofs.Lists.{joined-snoc, are-snoc, last-snoc, first-at-0, none-joined, Leads, leads}
-
-pub clash : true ≡ false → ⊥
-clash e = subst T e tt
 
 -- events, and more of them behind, where the first of these stands at an offset
 pub record Behind (xs : List ℕ) (at : ℕ) (events all : List (List ℕ)) : Type 0 where

@@ -5,12 +5,12 @@ use mathlib.Core.List.{List, [], _∷_, _++_, append-nil, append-assoc}
 use Prim.Native.Nat.{ℕ, _+_, _-_, _≤_, zero-le}
 use native.Mathlib.Nat.{le-refl}
 use native.Mathlib.Omega.{arith}
-use lib.Dec.{T, eqb, lit<}
+use lib.Dec.{eqb, lit<}
 use lib.ListN.{length, take, drop, length-append, length-drop, drop-of-length-le}
 use lib.Seq.{take-append-seam}
 use Rattle.fields.specs.Overlay.{overlay}
 use Rattle.fields.specs.Field.{get}
-use Rattle.fields.proofs.Bools.{and-left}
+use Rattle.fields.proofs.Bools.{and-left, clash}
 use Rattle.answers.specs.declared.Stalls.the-variants.{Kept}
 use Rattle.device.specs.Create.{newDevice, Creation}
 use Rattle.benchfile.specs.declared.event.Head.{Head}
@@ -45,9 +45,6 @@ step-read run xs io lent text e r = rw (r .head, r .body, r .next)
 step-none : (run : Run) (xs io lent text : List ℕ) → length xs ≤ run .at → stepBy run xs io lent text ≡ runningOf (stoppedAt (run .device) (run .at) (run .index)) io lent text
 unfolding stepBy
 step-none run xs io lent text h = rw (ends-there xs (run .at) h)
-
-clash : true ≡ false → ⊥
-clash e = subst T e tt
 
 -- a run that has ended writes nothing more
 silent : (xs : List ℕ) (run : Run) (io lent text out : List ℕ) → run .going ≡ false → Writes xs run io lent text out → out ≡ []

@@ -1,6 +1,7 @@
 -- Facts about tests that the library lacks. Assumes nothing.
-use mathlib.Core.Path.{_≡_, refl, sym}
+use mathlib.Core.Path.{_≡_, refl, sym, subst}
 use mathlib.Core.Bool.{Bool, true, false, not, cond, _&&_}
+use lib.Dec.{T}
 
 pub and-left : (a b : Bool) → a && b ≡ true → a ≡ true
 and-left true b e = refl
@@ -24,3 +25,7 @@ not-true false e = refl
 pub not-false : (b : Bool) → not b ≡ false → b ≡ true
 not-false true e = refl
 not-false false e = sym e
+
+-- the two are not the same
+pub clash : true ≡ false → ⊥
+clash e = subst T e tt

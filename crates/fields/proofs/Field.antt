@@ -1,6 +1,7 @@
 -- Laws of fields: one for each fact, at every width.
 --     byte-read, one-order           a field of one byte is that byte, in either order
 --     little-doubled, big-doubled    two fields side by side are one of twice the width
+--     get-append, get-front          what follows the message does not count
 --     put-stored, four-stored, byte-stored    stores in order write a field
 --     length-put                     a message stays as long as it is
 --     get-put, get-before, get-behind    what was written is read; a field before or behind it reads as before
@@ -14,8 +15,8 @@ use native.Mathlib.Omega.{arith}
 use native.Mathlib.Numerals.{unary-clauses}
 use lib.Dec.{lit<}
 use lib.Pow.{shl-exact}
-use lib.ListN.{length, take, drop, getD, set, length-drop}
-use lib.Seq.{drop-cons, drop-drop, take-add, length-take-le, sets, sets-eq}
+use lib.ListN.{length, take, drop, getD, set, take-append-drop, length-drop}
+use lib.Seq.{drop-cons, drop-drop, take-append-le, drop-append-le, take-add, length-take-le, sets, sets-eq}
 use Rattle.fields.specs.Overlay.{overlay}
 use Rattle.fields.specs.Field.{Order, little, big, Field, littleEndian, bigEndian, oneByte, bytesAt, counted, digits, ordered, get, put}
 use Rattle.fields.proofs.Overlay.{length-overlay, part-inside, part-before, part-behind}
@@ -89,6 +90,17 @@ big-doubled m at w {low} {high} h eh el =
     let second : List ℕ = take w (drop (at + w) m) in
     add-comm (256 ^ w * high) low
     ∙ rw (el, eh, halves m at w, reverse-append first second, counted-append (reverse second) (reverse first), length-reverse second, half-length m (at + w) w (omega arith))
+
+-- ---- a field of a message that goes on
+
+pub get-append : (f : Field) (m ys : List ℕ) → f .start + f .width ≤ length m → get f (m ++ ys) ≡ get f m
+unfolding get bytesAt
+get-append f m ys h =
+    rw (drop-append-le (f .start) m ys (omega arith), take-append-le (f .width) (drop (f .start) m) ys (omega (arith, length-drop (f .start) m)))
+
+pub get-front : (f : Field) (n : ℕ) (xs : List ℕ) → f .start + f .width ≤ n → n ≤ length xs → get f (take n xs) ≡ get f xs
+get-front f n xs h k =
+    sym (get-append f (take n xs) (drop n xs) (omega (arith, length-take-le n xs k))) ∙ ap (get f) (take-append-drop n xs)
 
 -- ---- writing
 
