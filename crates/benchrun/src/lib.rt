@@ -2,7 +2,7 @@
 //     step    one event and its line
 // Which bytes a call of C's takes no contract can say, so nothing is promised here of what is written; all that is written stands in
 // the text that `step` promises.
-pub mod step;
+mod step;
 
 use crate::step::Run;
 use crate::step::begin;
