@@ -7,6 +7,7 @@
 --     read-..               the same in 0, with fewer than 31 bytes unread and with more
 --     parse-..              the 31 bytes that are parsed, and what is unread behind them
 --     full-due              answer 4
+--     parse-taken           the packet that brought the wrapper is counted
 -- Assumes nothing.
 use mathlib.Core.Path.{_≡_, refl, sym, ap, _∙_}
 use mathlib.Core.Bool.{Bool, true, false, cond}
@@ -22,14 +23,15 @@ use Rattle.fields.specs.Overlay.{overlay}
 use Rattle.fields.proofs.Bools.{of-picked}
 use Rattle.fields.proofs.Seq.{drop-take}
 use Rattle.fields.proofs.Overlay.{overlay-nothing, part-inside}
-use Rattle.buffer.specs.Buffer.{Buffer, Sound, buffer, unread, unreadBytes, emptied, fitting, lacksRoom, ready, given, readOff}
+use Rattle.buffer.specs.Buffer.{Buffer, Sound, buffer, at, unread, unreadBytes, emptied, fitting, lacksRoom, ready, given, readOff}
 use Rattle.buffer.proofs.Kept.{length-unread, ready-most, sound-emptied}
 use Rattle.buffer.proofs.Room.{fitting-by-unread}
 use Rattle.buffer.proofs.Unread.{unread-written, unread-filled, unread-writtenAll, unread-readOff, unread-emptied}
 use Rattle.answers.specs.declared.Endpoint.{Endpoint}
 use Rattle.answers.specs.declared.Endpoint.the-variants.{Served, Busy, Failed}
 use Rattle.answers.specs.Answers.{Told, no, endpointOf, serves, answeredBy}
-use Rattle.ring.specs.declared.State.the-variants.{CommandTransferInvalid, StatusTransfer, DataTransferToHost, DataTransferToHostEnding}
+use Rattle.ring.specs.declared.State.the-variants.{CommandTransferInvalid, StatusTransfer, DataTransferToHost, DataTransferToHostEnding, DataTransferFromHost, DataTransferFromHostEnding}
+use Rattle.wrapper.specs.declared.Wrapper.{Wrapper}
 use Rattle.wrapper.specs.declared.counters.Left.{Left}
 use Rattle.wrapper.specs.declared.counters.Residue.{Residue}
 use Rattle.wrapper.specs.declared.status.CommandStatus.{CommandStatus}
@@ -41,8 +43,8 @@ use Rattle.packets.specs.Packets.{handed, readTold, takesOne, brought, received
 use Rattle.packets.proofs.Laws.{handed-most}
 use Rattle.device.specs.declared.Status.the-variants.{Present}
 use Rattle.device.specs.Device.{isPresent, inState, withMarks, withLeft}
-use Rattle.bbb.specs.Poll.{Given, Polling, Point, bufferAt, reaching, leaving, counting, ending, ends, statusBy, sendStatus, dataBy, sendData, offers, offeredBy, takeBy, takeData, statusPut, enterStatus, toHostEndingRule, fallsShort, toHostRule, startRule, messageAt, behind31, parseRule, readBy, readOneBy, readCbwRule}
-use Rattle.bbb.proofs.Keeping.{follows-received, follows-filled, follows-status}
+use Rattle.bbb.specs.Poll.{Given, Polling, Point, bufferAt, reaching, leaving, counting, ending, ends, statusBy, sendStatus, dataBy, sendData, offers, offeredBy, takeBy, takeData, statusPut, enterStatus, statusAwaitRule, noDataRule, toHostEndingRule, fallsShort, toHostRule, fromHostEndingRule, fromHostRule, ordered, startRule, messageAt, behind31, parseRule, readBy, readOneBy, readCbwRule}
+use Rattle.bbb.proofs.Keeping.{follows-received, follows-filled, follows-status, by-direction}
 
 -- the buffer that a poll leaves
 abbrev pub bufferAfter : Polling → Buffer
@@ -438,3 +440,53 @@ unfolding toHostRule fallsShort
 full-due g x absent due few =
     let some : x .device .left .0 ≡ 0 → ⊥ = λ (none : x .device .left .0 ≡ 0). omega arith in
     rw (ne-eqb _ _ some, absent, le-leb _ _ due, lt-ltb _ _ few)
+
+-- ---- packets taken
+
+-- a packet that was taken stays counted, whatever follows it in the poll
+module _ (g : Given) (n : ℕ) where
+  abbrev Counts : Polling → Type 0
+  Counts o = n ≤ o .taken
+
+  module _ (x : Point) (h : n ≤ x .taken) where
+    enter-counts : Counts (enterStatus g x)
+    unfolding enterStatus sendStatus statusBy
+    enter-counts = h
+
+    await-counts : Counts (statusAwaitRule g x)
+    unfolding statusAwaitRule
+    await-counts = of-picked Counts (isPresent (x .device .status)) (λ _. enter-counts) (λ _. h)
+
+    data-counts : Counts (sendData g x)
+    unfolding sendData dataBy
+    data-counts = h
+
+    take-counts : Counts (takeData g x)
+    unfolding takeData takeBy
+    take-counts = of-picked (λ (k : ℕ). n ≤ k) (takesOne (P x) (outFor g x) (bufferAt x)) (λ _. omega arith) (λ _. h)
+
+  module _ (x : Point) (h : n ≤ x .taken) where
+    to-counts : Counts (toHostRule g x)
+    unfolding toHostRule toHostEndingRule
+    to-counts =
+        of-picked Counts (eqb (x .device .left .0) 0) (λ _. await-counts x h)
+        (λ _. of-picked Counts (isPresent (x .device .status))
+        (λ _. of-picked Counts (eqb (x .device .left .0) 0) (λ _. enter-counts x h) (λ _. data-counts (topped x) h))
+        (λ _. of-picked Counts (fallsShort (P x) (x .device .left) (unread (bufferAt x))) (λ _. h) (λ _. data-counts (reaching DataTransferToHost x) h)))
+
+    from-counts : Counts (fromHostRule g x)
+    unfolding fromHostRule fromHostEndingRule
+    from-counts =
+        of-picked Counts (eqb (x .device .left .0) 0) (λ _. await-counts x h)
+        (λ _. of-picked Counts (isPresent (x .device .status))
+        (λ _. of-picked Counts (eqb (x .device .left .0) 0) (λ _. enter-counts x h) (λ _. take-counts (reaching DataTransferFromHostEnding (leaving (buffer (x .io) (at 0 0)) x)) h))
+        (λ _. take-counts (reaching DataTransferFromHost x) h))
+
+  pub parse-taken : (x : Point) → n ≤ x .taken → Counts (parseRule g x)
+  unfolding parseRule startRule noDataRule
+  parse-taken x h =
+      let w : Wrapper = wrapperOf (messageAt (bufferAt x)) in
+      let y : Point = ordered w (leaving (behind31 (bufferAt x)) x) in
+      of-picked Counts (isValid (messageAt (bufferAt x)))
+      (λ _. by-direction Counts (w .direction) (from-counts y h) (to-counts y h) (await-counts y h))
+      (λ _. h)

@@ -3,6 +3,8 @@
 --     poll-sizes, call-sizes    P, max LUN, the recorded size and the lengths of both buffers stay; at most two packets are taken, P bytes sent (Sizes)
 --     Follows, follows-..       the buffer that a step leaves has sound marks, and is as long as before
 --     call-done                 on a whole record, with packets that fit, the call is the poll
+--     by-call                   what holds of both refusals and of the poll holds of the call
+--     by-direction              what holds of all three ways on behind a wrapper holds of the one taken
 -- Assumes nothing.
 use mathlib.Core.Path.{_≡_, refl, sym, _∙_}
 use mathlib.Core.Bool.{Bool, true, false, _&&_}
@@ -86,6 +88,12 @@ sent-length p e s packet h =
     (omega (arith, sent-most p e s, length-take (ready (accepted e p) s) (unreadBytes s), min-le-left (ready (accepted e p) s) (length (unreadBytes s))))
 
 -- ---- a wrapper that is valid
+
+-- what holds of all three ways on holds of the one that it takes
+pub by-direction : (P : Polling → Type 0) (q : DataDirection) {a b c : Polling} → P a → P b → P c → P (byDirection q a b c)
+by-direction P Out a b c = a
+by-direction P In a b c = b
+by-direction P NotExpected a b c = c
 
 block-most : (m : List ℕ) → isValid m ≡ true → wrapperOf m .blocklength ≤ 16
 unfolding wrapperOf
@@ -232,17 +240,12 @@ module _ (d : Device) (len : ℕ) (w : Whole (numbersOf d) len) (g : Given) wher
 
   -- ---- behind a packet that brought a wrapper
 
-  directed : (q : DataDirection) {a b c : Polling} → Keeps a → Keeps b → Keeps c → Keeps (byDirection q a b c)
-  directed Out a b c = a
-  directed In a b c = b
-  directed NotExpected a b c = c
-
   kept-start : (v : Wrapper) → v .lun ≤ 15 → v .blocklength ≤ 16 → (x : Point) → Stands d len x → x .taken ≤ 1 → Keeps (startRule v g x)
   unfolding startRule noDataRule
   kept-start v lun block x h once =
       let y : Point = point (withLeft (record { 0 = v .length }) (withWrapper v (x .device))) (x .io) (x .taken) (x .unstalled) in
       let k : Stands d len y = record { packetsize = h .packetsize; maxlun = h .maxlun; size = h .size; long = h .long; sound = h .sound; lun = lun; block = block } in
-      directed (v .direction) (kept-from y k once) (kept-to y k once) (kept-await y k once)
+      by-direction Keeps (v .direction) (kept-from y k once) (kept-to y k once) (kept-await y k once)
 
   module _ (x : Point) (h : Stands d len x) (absent : isPresent (x .device .status) ≡ false) where
     kept-parse : x .taken ≤ 1 → 31 ≤ unread (bufferAt x) → Keeps (parseRule g x)
@@ -311,23 +314,22 @@ module _ (d : Device) (io : List ℕ) (g : Given) where
   unfolding pollCall
   call-done w f = rw (whole-is (numbersOf d) (length io) w, ← fits-all (d .packetsize) (length (g .packet)) (length (g .one)) (length (g .two)) (f .first) (f .second), le-leb _ _ (f .into))
 
-  -- what holds of a refusal, and of a poll of a whole record whose packets fit, holds of the call
-  by-call : (P : Polling → Type 0) → ((n : ℕ) → P (refusing d io g n)) → (Whole (numbersOf d) (length io) → Fits (d .packetsize) (g .packet) (g .one) (g .two) → P (pollRule d io g)) → P (pollCall d io g)
+  -- what holds of both refusals, and of a poll of a whole record whose packets fit, holds of the call
+  pub by-call : (P : Polling → Type 0) → P (refusing d io g 10) → P (refusing d io g 11) → (Whole (numbersOf d) (length io) → Fits (d .packetsize) (g .packet) (g .one) (g .two) → P (pollRule d io g)) → P (pollCall d io g)
   unfolding pollCall
-  by-call P p q =
+  by-call P broken refused done =
       of-picked P (isWhole (numbersOf d) (length io))
       (λ w. of-picked P (isFitting (d .packetsize) (length (g .packet)) (length (g .one)) (length (g .two)))
-      (λ f. q (is-whole (numbersOf d) (length io) w) (is-fitting (d .packetsize) (g .packet) (g .one) (g .two) refl f))
-      (λ _. p 11))
-      (λ _. p 10)
+      (λ f. done (is-whole (numbersOf d) (length io) w) (is-fitting (d .packetsize) (g .packet) (g .one) (g .two) refl f))
+      (λ _. refused))
+      (λ _. broken)
 
   -- the call leaves a whole record whole
   pub call-whole : Whole (numbersOf d) (length io) → Whole (numbersOf (pollCall d io g .device)) (length (pollCall d io g .io))
-  call-whole w = by-call (λ (o : Polling). Whole (numbersOf (o .device)) (length (o .io))) (λ _. w) (λ v _. poll-whole v)
+  call-whole w = by-call (λ (o : Polling). Whole (numbersOf (o .device)) (length (o .io))) w w (λ v _. poll-whole v)
 
   -- and changes no size, for every record and all packets
   pub call-sizes : Sizes d (length io) (length (g .packet)) (pollCall d io g)
   call-sizes =
-      by-call (Sizes d (length io) (length (g .packet)))
-      (λ _. record { packetsize = refl; maxlun = refl; size = refl; io = refl; packet = refl; taken = zero-le; sent = zero-le })
-      (λ w f. poll-sizes w (f .into))
+      let same : (n : ℕ) → Sizes d (length io) (length (g .packet)) (refusing d io g n) = λ _. record { packetsize = refl; maxlun = refl; size = refl; io = refl; packet = refl; taken = zero-le; sent = zero-le } in
+      by-call (Sizes d (length io) (length (g .packet))) (same 10) (same 11) (λ w f. poll-sizes w (f .into))

@@ -1,5 +1,6 @@
 -- What callers may use: what is so after a call, for any record, or for a whole one where it says so.
 --     stops         a broken record
+--     by-..         what holds of a refusal and of what is done holds of the call, whatever the answer
 --     ..-keeps      what of the record is as before, whatever the answer
 --     ..-done       what a call comes to on a whole record, where it is accepted
 --     ..-unread     the unread bytes after it
@@ -13,7 +14,7 @@ use native.Mathlib.Nat.{min-le-left, min-le-right, max-eq-right}
 use native.Mathlib.Omega.{arith}
 use lib.Dec.{eqb, leb}
 use lib.ListN.{length, take, drop, length-take}
-use borrow.Author.Tests.{ne-eqb, le-leb}
+use borrow.Author.Tests.{ne-eqb, le-leb, leb-true}
 use Rattle.fields.specs.Overlay.{overlay}
 use Rattle.fields.proofs.Bools.{and-left, of-picked}
 use Rattle.buffer.specs.declared.Marks.{Marks}
@@ -88,22 +89,22 @@ fits-present DataTransferFromHost h = refl
 fits-present DataTransferFromHostEnding h = refl
 
 module _ (d : Device) (io : List ℕ) (f : Figure) where
-  by-status : (P : Stating → Type 0) → ((n : ℕ) → P (stating n d)) → (takesStatus (stateNumber (d .state)) ≡ true → P (stating 0 (withFigure f d))) → P (setStatusCall d io f)
+  pub by-status : (P : Stating → Type 0) → P (stating 10 d) → P (stating 12 d) → (takesStatus (stateNumber (d .state)) ≡ true → f .status ≤ 2 → P (stating 0 (withFigure f d))) → P (setStatusCall d io f)
   unfolding setStatusCall acceptedStatus
-  by-status P p q =
-      either P d io (p 10)
-      (of-picked P (takesStatus (stateNumber (d .state))) (λ t. of-picked P (leb (f .status) 2) (λ _. q t) (λ _. p 12)) (λ _. p 12))
+  by-status P broken refused done =
+      either P d io broken
+      (of-picked P (takesStatus (stateNumber (d .state))) (λ t. of-picked P (leb (f .status) 2) (λ h. done t (leb-true (f .status) 2 h)) (λ _. refused)) (λ _. refused))
 
   -- all but the status: put the old one back, and the record is the old one
   pub status-keeps : withStatus (d .status) (setStatusCall d io f .device) ≡ d
   unfolding withFigure
-  status-keeps = by-status (λ (o : Stating). withStatus (d .status) (o .device) ≡ d) (λ _. refl) (λ _. refl)
+  status-keeps = by-status (λ (o : Stating). withStatus (d .status) (o .device) ≡ d) refl refl (λ _ _. refl)
 
   pub status-whole : Whole (numbersOf d) (length io) → Whole (numbersOf (setStatusCall d io f .device)) (length io)
   unfolding withFigure
   status-whole w =
-      by-status (λ (o : Stating). Whole (numbersOf (o .device)) (length io)) (λ _. w)
-      (λ t. record { lent = w .lent; created = w .created; order = w .order; within = w .within; block = w .block; lun = w .lun; status = fits-present (d .state) t })
+      by-status (λ (o : Stating). Whole (numbersOf (o .device)) (length io)) w w
+      (λ t _. record { lent = w .lent; created = w .created; order = w .order; within = w .within; block = w .block; lun = w .lun; status = fits-present (d .state) t })
 
   pub status-done : Whole (numbersOf d) (length io) → takesStatus (stateNumber (d .state)) ≡ true → f .status ≤ 2 → setStatusCall d io f ≡ stating 0 (withFigure f d)
   unfolding setStatusCall acceptedStatus
@@ -246,21 +247,21 @@ module _ (d : Device) (io : List ℕ) where
   reset-whole w = either (λ (o : Handling). Whole (numbersOf (o .device)) (length io)) d io w (whole-entered d io w)
 
   module _ (q : Request) where
-    by-request : (P : Handling → Type 0) → ((n : ℕ) (bytes : List ℕ) → P (handling n Kept bytes d)) → P (entering d) → P (controlCall d io q)
+    pub by-request : (P : Handling → Type 0) → ((n : ℕ) (bytes : List ℕ) → P (handling n Kept bytes d)) → (eqb (q .requesttype) 0xA1 ≡ true → eqb (q .request) 0xFF ≡ true → P (entering d)) → P (controlCall d io q)
     unfolding controlCall served
     by-request P p e =
         either P d io (p 10 [])
         (of-picked P (eqb (q .requesttype) 0xA1)
-        (λ _. of-picked P (eqb (q .request) 0xFF) (λ _. e) (λ _. of-picked P (eqb (q .request) 0xFE) (λ _. p 0 (d .maxlun ∷ [])) (λ _. p 0 [])))
+        (λ counts. of-picked P (eqb (q .request) 0xFF) (e counts) (λ _. of-picked P (eqb (q .request) 0xFE) (λ _. p 0 (d .maxlun ∷ [])) (λ _. p 0 [])))
         (λ _. p 0 []))
 
     pub control-keeps : bufferOf (controlCall d io q .device) io ≡ bufferOf d io
     unfolding entering
-    control-keeps = by-request (λ (o : Handling). bufferOf (o .device) io ≡ bufferOf d io) (λ _ _. refl) refl
+    control-keeps = by-request (λ (o : Handling). bufferOf (o .device) io ≡ bufferOf d io) (λ _ _. refl) (λ _ _. refl)
 
     pub control-whole : Whole (numbersOf d) (length io) → Whole (numbersOf (controlCall d io q .device)) (length io)
     unfolding entering
-    control-whole w = by-request (λ (o : Handling). Whole (numbersOf (o .device)) (length io)) (λ _ _. w) (whole-entered d io w)
+    control-whole w = by-request (λ (o : Handling). Whole (numbersOf (o .device)) (length io)) (λ _ _. w) (λ _ _. whole-entered d io w)
 
     -- a request that does not count changes nothing
     pub control-else : Whole (numbersOf d) (length io) → (q .requesttype ≡ 0xA1 → ⊥) → controlCall d io q ≡ handling 0 Kept [] d

@@ -1,0 +1,11 @@
+pub mod Ceiling
+pub mod Filled
+pub mod Transfer
+pub mod Rules
+pub mod Steps
+pub mod Histories
+pub mod Carried
+pub mod Waiting
+pub mod Arrival
+pub mod Opening
+pub mod Demand

@@ -1,0 +1,334 @@
+-- What each rule of a poll does to a command's transfer: the bytes that it sends, the phase that it leads to, and, with a status
+-- present, what is due then. For any point x from which a rule starts. Assumes nothing.
+use mathlib.Core.Path.{_≡_, refl, sym, ap, _∙_, subst}
+use mathlib.Core.Bool.{Bool, true, false, cond, not, _||_}
+use mathlib.Core.List.{List, [], _∷_, _++_, append-assoc, append-nil}
+use Prim.Native.Nat.{ℕ, zero, suc, _+_, _-_, _≤_, _<_, min, max, zero-le}
+use native.Mathlib.Nat.{add-zero, zero-add, sub-zero, min-le-left, min-le-right}
+use native.Mathlib.Omega.{arith}
+use lib.Dec.{eqb}
+use borrow.Table.Steps.{cases}
+use borrow.Author.Tests.{eqb-true, eqb-false, le-ltb}
+use lib.ListN.{length, take, replicate, length-append, length-replicate}
+use lib.Seq.{length-take-le}
+use Rattle.fields.proofs.Bools.{of-picked, clash}
+use Rattle.buffer.specs.Buffer.{Buffer, Sound, buffer, at, unread, unreadBytes, lacksRoom}
+use Rattle.buffer.proofs.Kept.{length-unread}
+use Rattle.buffer.proofs.Room.{lacks-by-unread}
+use Rattle.answers.specs.declared.Endpoint.{Endpoint}
+use Rattle.answers.specs.declared.Endpoint.the-variants.{Served, Busy, Failed}
+use Rattle.answers.specs.Answers.{no, serves, answeredBy}
+use Rattle.ring.specs.declared.State.the-variants.{StatusTransfer, DataTransferToHost, DataTransferToHostStatusAwait, DataTransferToHostEnding, DataTransferFromHost, DataTransferFromHostEnding}
+use Rattle.wrapper.specs.declared.DataDirection.the-variants.{Out, In}
+use Rattle.wrapper.specs.declared.Wrapper.{Wrapper}
+use Rattle.wrapper.specs.declared.counters.Residue.{Residue}
+use Rattle.wrapper.specs.declared.status.CommandStatus.{CommandStatus}
+use Rattle.wrapper.specs.Counters.{fallen}
+use Rattle.wrapper.specs.Status.{statusNumber, statusBytes}
+use Rattle.wrapper.proofs.Csw.{length-status}
+use Rattle.device.specs.declared.Device.{Device}
+use Rattle.device.specs.declared.Status.{Status}
+use Rattle.device.specs.declared.Status.the-variants.{Absent, Present}
+use Rattle.device.specs.Device.{numbersOf, isPresent}
+use Rattle.device.specs.Broken.{Whole}
+use Rattle.bbb.specs.Poll.{Given, Polling, Point, bufferAt, reaching, leaving, ends, statusBy, sendStatus, dataBy, sendData, offers, offeredBy, takeBy, takeData, statusPut, enterStatus, statusAwaitRule, toHostEndingRule, fallsShort, toHostRule, fromHostEndingRule, fromHostRule, pollRule, Fits}
+use Rattle.bbb.proofs.Keeping.{follows-filled, follows-status, Sizes, poll-sizes}
+use Rattle.bbb.proofs.After.{P, inFor, outFor, offered, bufferAfter, Idle, data-unread, data-sent, data-left, data-told, data-unserved, status-unread, status-sent, status-told, status-unserved, fill-exact, topped, fill-sends, stated, stated-unread, stated-sound, enter-unread, enter-sent, enter-unserved, take-left, take-taken, take-told, take-unserved}
+use Rattle.readout.specs.History.{isServed, socket}
+use Rattle.readout.specs.Demand.{Full, ceiling, filledTo, dataOf}
+use Rattle.readout.proofs.Ceiling.{ceiling-none, ceiling-falls}
+use Rattle.readout.proofs.Filled.{filled-already, filled-behind, filled-partly}
+use Rattle.readout.proofs.Transfer.{Phase, toHost, waiting, toHostEnding, fromHost, fromHostEnding, sending, due}
+
+-- the bytes that a poll sent, and the packets that it took
+abbrev pub bytesOf : Polling → List ℕ
+bytesOf o = take (o .sent) (o .packet)
+
+abbrev pub packetsOf : Given → Polling → List (List ℕ)
+packetsOf g o = take (o .taken) (g .one ∷ g .two ∷ [])
+
+-- the packet buffer holds all that a poll sent
+pub poll-long : (d : Device) (io : List ℕ) (g : Given) → Whole (numbersOf d) (length io) → Fits (d .packetsize) (g .packet) (g .one) (g .two) → length (bytesOf (pollRule d io g)) ≡ pollRule d io g .sent
+poll-long d io g whole fits =
+    let z : Sizes d (length io) (length (g .packet)) (pollRule d io g) = poll-sizes d io g whole (fits .into) in
+    length-take-le (pollRule d io g .sent) (pollRule d io g .packet) (omega (arith, z .sent, z .packet, fits .into))
+
+-- 1 for a served poll
+abbrev pub one : Polling → ℕ
+one o = cond (isServed (o .told .number)) 1 0
+
+-- served polls due where the status is not yet put in
+abbrev pub owing : Point → ℕ
+owing x = ceiling (x .device .left .0) (P x) + ceiling 13 (P x)
+
+-- What a poll leads to, where P, the status and what was left were these, and n served polls were due.
+pub record Leads (w : Wrapper) (got put : List ℕ) (g : Given) (p : ℕ) (st : Status) (left n : ℕ) (o : Polling) : Type 0 where
+  pub wrapper : o .device .wrapper ≡ w
+  pub status : o .device .status ≡ st
+  pub phase : Phase w (got ++ bytesOf o) put (o .device .state) (o .device .status) (o .device .left .0) (unreadBytes (bufferAfter o))
+  pub count : isPresent st ≡ true → Full (min p left) (packetsOf g o) → due (socket (o .device) (o .io)) + one o ≡ n
+
+-- A point of this wrapper, with sound marks, in a buffer that holds a packet and a status.
+pub record Fit (w : Wrapper) (x : Point) : Type 0 where
+  pub sound : Sound (bufferAt x)
+  pub some : 0 < P x
+  pub packet : P x ≤ length (x .io)
+  pub status : 13 ≤ length (x .io)
+  pub wrapper : x .device .wrapper ≡ w
+
+unserved : (e : Endpoint) → serves e ≡ false → isServed (answeredBy e .number) ≡ false
+unfolding isServed
+unserved Served h = absurd (clash h)
+unserved Busy h = refl
+unserved (Failed n) h = refl
+
+pub no-bytes : (xs : List ℕ) → length xs ≡ 0 → xs ≡ []
+no-bytes [] e = refl
+no-bytes (x ∷ xs) e = absurd (omega arith)
+
+module _ (w : Wrapper) (got put : List ℕ) (g : Given) where
+  -- where the packet buffer holds all that was sent
+  abbrev Long : Polling → Type 0
+  Long o = length (bytesOf o) ≡ o .sent
+
+  abbrev Goes : Point → ℕ → Polling → Type 0
+  Goes x n o = Long o → Leads w got put g (P x) (x .device .status) (x .device .left .0) n o
+
+  -- ---- 3
+
+  -- a packet of the status goes out
+  module _ (x : Point) (fit : Fit w x) (s : CommandStatus) (r : Residue) (here : x .device .status ≡ Present s r) (in3 : x .device .state ≡ StatusTransfer)
+    (all : got ++ unreadBytes (bufferAt x) ≡ dataOf (w .direction) (w .length) put ++ statusBytes (w .tag) r (statusNumber s)) (some : 0 < length (unreadBytes (bufferAt x))) where
+
+    status-falls : Long (sendStatus g x) → ceiling (length (unreadBytes (bufferAfter (sendStatus g x)))) (P x) + one (sendStatus g x) ≡ ceiling (length (unreadBytes (bufferAt x))) (P x)
+    unfolding isServed
+    status-falls long =
+        let n : ℕ = length (unreadBytes (bufferAt x)) in
+        let m : ℕ = length (unreadBytes (bufferAfter (sendStatus g x))) in
+        let parts : length (bytesOf (sendStatus g x)) + m ≡ n = sym (length-append (bytesOf (sendStatus g x)) (unreadBytes (bufferAfter (sendStatus g x)))) ∙ ap length (status-unread g x (fit .sound)) in
+        let known : n ≡ unread (bufferAt x) = length-unread (bufferAt x) (fit .sound) in
+        cases (serves (inFor g))
+        (λ serving. rw (status-told g x serving) (ceiling-falls (P x) n m (fit .some) some (omega (arith, status-sent g x serving))))
+        (λ idle.
+        let e : sendStatus g x ≡ ends g x (answeredBy (inFor g)) = status-unserved g x idle (λ (none : unread (bufferAt x) ≡ 0). omega arith) in
+        rw (e, unserved (inFor g) idle) (add-zero _))
+
+    pub leads-status : Goes x (ceiling (length (unreadBytes (bufferAt x))) (P x)) (sendStatus g x)
+    unfolding sendStatus statusBy
+    leads-status long = record {
+      wrapper = fit .wrapper;
+      status = refl;
+      phase = sending s r in3 here (append-assoc got (bytesOf (sendStatus g x)) _ ∙ ap (λ (ys : List ℕ). got ++ ys) (status-unread g x (fit .sound)) ∙ all);
+      count = λ _ _. rw in3 (status-falls long);
+    }
+
+  -- ---- 3, entered, and 5
+
+  module _ (x : Point) (fit : Fit w x) (none : x .device .left .0 ≡ 0) (all : got ≡ dataOf (w .direction) (w .length) put) where
+    fit-stated : Fit w (stated x)
+    fit-stated =
+        let long : length (stated x .io) ≡ length (x .io) = follows-status (x .device .wrapper .tag) (x .device .status) (bufferAt x) .long in
+        record { sound = stated-sound x; some = fit .some; packet = rw long (fit .packet); status = rw long (fit .status); wrapper = fit .wrapper }
+
+    leads-enter : (st : Status) → x .device .status ≡ st → isPresent st ≡ true → Goes x (owing x) (enterStatus g x)
+    unfolding enterStatus
+    leads-enter Absent here present long = absurd (clash (sym present))
+    leads-enter (Present s r) here present long =
+        let put-in : unreadBytes (bufferAt (stated x)) ≡ statusBytes (w .tag) r (statusNumber s) = stated-unread x s r here (fit .status) ∙ ap (λ (v : Wrapper). statusBytes (v .tag) r (statusNumber s)) (fit .wrapper) in
+        let thirteen : length (unreadBytes (bufferAt (stated x))) ≡ 13 = ap length put-in ∙ length-status (w .tag) r (statusNumber s) in
+        let n : ceiling (length (unreadBytes (bufferAt (stated x)))) (P x) ≡ owing x = rw (thirteen, none, ceiling-none (P x) (fit .some)) (sym (zero-add _)) in
+        subst (λ (k : ℕ). Leads w got put g (P x) (x .device .status) (x .device .left .0) k (enterStatus g x)) n
+        (leads-status (stated x) fit-stated s r here refl (rw (put-in, all)) (omega arith) long)
+
+    leads-wait : isPresent (x .device .status) ≡ false → Goes x (owing x) (ends g (reaching DataTransferToHostStatusAwait x) (no 0))
+    leads-wait absent long = record { wrapper = fit .wrapper; status = refl; phase = waiting refl none (append-nil got ∙ all); count = λ present. absurd (clash (sym present ∙ absent)) }
+
+    pub leads-await : Goes x (owing x) (statusAwaitRule g x)
+    unfolding statusAwaitRule
+    leads-await = of-picked (Goes x (owing x)) (isPresent (x .device .status)) (leads-enter (x .device .status) refl) leads-wait
+
+  -- ---- 6
+
+  module _ (x : Point) (fit : Fit w x) (dir : w .direction ≡ In) (all : got ++ filledTo (x .device .left .0) (unreadBytes (bufferAt x)) ≡ filledTo (w .length) put) (few : length (unreadBytes (bufferAt x)) ≤ x .device .left .0) where
+    module _ (more : x .device .left .0 ≡ 0 → ⊥) where
+      left : ℕ
+      left = x .device .left .0
+
+      xs : List ℕ
+      xs = unreadBytes (bufferAt x)
+
+      fill : ℕ
+      fill = min left (P x) - unread (bufferAt x)
+
+      topped-unread : unreadBytes (bufferAt (topped x)) ≡ xs ++ replicate fill 0xFF
+      unfolding left xs fill
+      topped-unread = fill-exact (P x) (x .device .left) (bufferAt x) (fit .sound) (fit .packet)
+
+      topped-sound : Sound (bufferAt (topped x))
+      topped-sound = follows-filled (P x) (x .device .left) (bufferAt x) (fit .sound) .sound
+
+      -- the bytes of the packet, those unread behind it, and how many they are
+      topped-split : bytesOf (sendData g (topped x)) ++ unreadBytes (bufferAfter (sendData g (topped x))) ≡ xs ++ replicate fill 0xFF
+      topped-split = data-unread g (topped x) topped-sound ∙ topped-unread
+
+      record Figures : Type 0 where
+        parts : length (bytesOf (sendData g (topped x))) + length (unreadBytes (bufferAfter (sendData g (topped x)))) ≡ length xs + fill
+        known : unread (bufferAt (topped x)) ≡ length xs + fill
+        filled : fill ≡ min left (P x) - length xs
+        least : 0 < left
+        within : length xs ≤ left
+
+      figures : Figures
+      unfolding xs fill left
+      figures =
+          let long : length (xs ++ replicate fill 0xFF) ≡ length xs + fill = length-append xs (replicate fill 0xFF) ∙ ap (λ (k : ℕ). length xs + k) (length-replicate {A = ℕ} fill 0xFF) in
+          record {
+            parts = sym (length-append (bytesOf (sendData g (topped x))) _) ∙ ap length topped-split ∙ long;
+            known = sym (length-unread (bufferAt (topped x)) topped-sound) ∙ ap length topped-unread ∙ long;
+            filled = ap (λ (k : ℕ). min (x .device .left .0) (P x) - k) (sym (length-unread (bufferAt x) (fit .sound)));
+            least = omega (arith, more);
+            within = few;
+          }
+
+      fill-falls : Long (sendData g (topped x)) → ceiling (sendData g (topped x) .device .left .0) (P x) + ceiling 13 (P x) + one (sendData g (topped x)) ≡ owing x
+      unfolding isServed left
+      fill-falls long =
+          let f : Figures = figures in
+          cases (serves (inFor g))
+          (λ serving.
+          let sent : sendData g (topped x) .sent ≡ min (P x) left = data-sent g (topped x) serving ∙ ap (min (P x)) (f .known) ∙ omega (arith, f .filled, f .within) in
+          rw (data-told g (topped x) serving)
+          (omega (arith, ceiling-falls (P x) left (sendData g (topped x) .device .left .0) (fit .some) (f .least) (data-left g (topped x) ∙ omega (arith, sent)))))
+          (λ idle.
+          let e : sendData g (topped x) ≡ ends g (topped x) (answeredBy (inFor g)) = data-unserved g (topped x) idle (λ (none : unread (bufferAt (topped x)) ≡ 0). omega (arith, f .known, f .filled, f .least, fit .some)) in
+          rw (e, unserved (inFor g) idle) (add-zero _))
+
+      fill-bytes : (l : ℕ) → l + length (bytesOf (sendData g (topped x))) ≡ left → (got ++ bytesOf (sendData g (topped x))) ++ filledTo l (unreadBytes (bufferAfter (sendData g (topped x)))) ≡ filledTo (w .length) put
+      unfolding left xs
+      fill-bytes l e =
+          let ys : List ℕ = bytesOf (sendData g (topped x)) in
+          let rest : List ℕ = unreadBytes (bufferAfter (sendData g (topped x))) in
+          let f : Figures = figures in
+          append-assoc got ys (filledTo l rest)
+          ∙ ap (λ (zs : List ℕ). got ++ zs)
+          (filled-behind l left ys rest e
+          ∙ ap (filledTo left) topped-split
+          ∙ filled-partly left fill xs (omega (arith, f .filled)))
+          ∙ all
+
+      leads-fill : Goes x (owing x) (sendData g (topped x))
+      unfolding sendData dataBy fallen left xs
+      leads-fill long =
+          let f : Figures = figures in
+          record {
+            wrapper = fit .wrapper;
+            status = refl;
+            phase = toHostEnding refl dir (fill-bytes _ (omega (arith, f .parts, f .filled, long))) (omega (arith, f .parts, f .filled, long));
+            count = λ _ _. fill-falls long;
+          }
+
+    -- with nothing left nothing is unread, and the host got it all
+    all-got : x .device .left .0 ≡ 0 → got ≡ dataOf (w .direction) (w .length) put
+    all-got none =
+        let done : filledTo (x .device .left .0) (unreadBytes (bufferAt x)) ≡ [] =
+        filled-already (x .device .left .0) (unreadBytes (bufferAt x)) (omega arith) ∙ no-bytes (unreadBytes (bufferAt x)) (omega arith) in
+        rw dir (sym (append-nil got) ∙ ap (λ (ys : List ℕ). got ++ ys) (sym done) ∙ all)
+
+    pub leads-to-ending : isPresent (x .device .status) ≡ true → Goes x (owing x) (toHostEndingRule g x)
+    unfolding toHostEndingRule
+    leads-to-ending present =
+        of-picked (Goes x (owing x)) (eqb (x .device .left .0) 0)
+        (λ e. let none : x .device .left .0 ≡ 0 = eqb-true _ _ e in leads-enter x fit none (all-got none) (x .device .status) refl present)
+        (λ e. leads-fill (eqb-false _ _ e))
+
+  -- ---- 4
+
+  module _ (x : Point) (fit : Fit w x) (dir : w .direction ≡ In) (same : got ++ unreadBytes (bufferAt x) ≡ put) (sum : x .device .left .0 + length got ≡ w .length) (few : length put ≤ w .length) where
+    unread-few : length (unreadBytes (bufferAt x)) ≤ x .device .left .0
+    unread-few = omega (arith, length-append got (unreadBytes (bufferAt x)), ap length same)
+
+    to-fill : got ++ filledTo (x .device .left .0) (unreadBytes (bufferAt x)) ≡ filledTo (w .length) put
+    to-fill = filled-behind (x .device .left .0) (w .length) got (unreadBytes (bufferAt x)) sum ∙ ap (filledTo (w .length)) same
+
+    module _ (absent : isPresent (x .device .status) ≡ false) where
+      leads-rest : Goes x (owing x) (ends g (reaching DataTransferToHost x) (no 4))
+      leads-rest long = record {
+        wrapper = fit .wrapper;
+        status = refl;
+        phase = toHost refl dir (rw append-nil same) (rw append-nil sum);
+        count = λ present. absurd (clash (sym present ∙ absent));
+      }
+
+      leads-data : Goes x (owing x) (sendData g (reaching DataTransferToHost x))
+      unfolding sendData dataBy fallen
+      leads-data long =
+          let y : Point = reaching DataTransferToHost x in
+          let ys : List ℕ = bytesOf (sendData g y) in
+          let rest : List ℕ = unreadBytes (bufferAfter (sendData g y)) in
+          let split : ys ++ rest ≡ unreadBytes (bufferAt x) = data-unread g y (fit .sound) in
+          let parts : length ys + length rest ≡ length (unreadBytes (bufferAt x)) = sym (length-append ys rest) ∙ ap length split in
+          record {
+            wrapper = fit .wrapper;
+            status = refl;
+            phase = toHost refl dir (append-assoc got ys rest ∙ ap (λ (zs : List ℕ). got ++ zs) split ∙ same) (omega (arith, length-append got ys, unread-few));
+            count = λ present. absurd (clash (sym present ∙ absent));
+          }
+
+    pub leads-to : Goes x (owing x) (toHostRule g x)
+    unfolding toHostRule
+    leads-to =
+        of-picked (Goes x (owing x)) (eqb (x .device .left .0) 0)
+        (λ e. let none : x .device .left .0 ≡ 0 = eqb-true _ _ e in leads-await x fit none (all-got x fit dir to-fill unread-few none))
+        (λ _. of-picked (Goes x (owing x)) (isPresent (x .device .status)) (leads-to-ending x fit dir to-fill unread-few)
+        (λ absent. of-picked (Goes x (owing x)) (fallsShort (P x) (x .device .left) (unread (bufferAt x))) (λ _. leads-rest absent) (λ _. leads-data absent)))
+
+  -- ---- 8 and 7
+
+  module _ (x : Point) (fit : Fit w x) (dir : w .direction ≡ Out) (none : got ≡ []) where
+    no-data : got ≡ dataOf (w .direction) (w .length) put
+    no-data = rw dir none
+
+    -- the point at which 8 reads
+    abbrev dropped : Point
+    dropped = reaching DataTransferFromHostEnding (leaving (buffer (x .io) (at 0 0)) x)
+
+    module _ (first : x .taken ≡ 0) (small : length (g .one) ≤ P x) (more : x .device .left .0 ≡ 0 → ⊥) where
+      drop-falls : Full (min (P x) (x .device .left .0)) (packetsOf g (takeData g dropped)) → ceiling (takeData g dropped .device .left .0) (P x) + ceiling 13 (P x) + one (takeData g dropped) ≡ owing x
+      unfolding isServed offers
+      drop-falls full =
+          let sound : Sound (bufferAt dropped) = record { order = zero-le; within = zero-le } in
+          let it-is : offered g dropped ≡ g .one = rw first in
+          let fits : length (offered g dropped) ≤ P x = rw it-is small in
+          let room : lacksRoom (P x) (bufferAt dropped) ≡ false = lacks-by-unread (P x) (bufferAt dropped) sound ∙ le-ltb (length (x .io) - 0) (P x) (omega (arith, fit .packet)) in
+          cases (serves (outFor g dropped))
+          (λ serving.
+          let whole : length (g .one) ≡ min (P x) (x .device .left .0) = (rw (take-taken g dropped sound fits room serving, first) at full) .0 in
+          rw (take-told g dropped sound fits room serving)
+          (omega (arith, ceiling-falls (P x) (x .device .left .0) (takeData g dropped .device .left .0) (fit .some) (omega (arith, more)) (take-left g dropped sound fits room serving ∙ rw it-is (omega (arith, whole))))))
+          (λ idle.
+          let u : (takeData g dropped .told ≡ answeredBy (outFor g dropped)) × Idle g dropped (takeData g dropped) = take-unserved g dropped sound fits room idle in
+          let kept : takeData g dropped .device .left .0 ≡ x .device .left .0 = ap (λ (d : Device). d .left .0) (u .1 .device) in
+          rw (u .0, unserved (outFor g dropped) idle, kept) (add-zero _))
+
+      leads-drop : Goes x (owing x) (takeData g dropped)
+      unfolding takeData takeBy
+      leads-drop long = record { wrapper = fit .wrapper; status = refl; phase = fromHostEnding refl dir (append-nil got ∙ none); count = λ _. drop-falls }
+
+    pub leads-from-ending : x .taken ≡ 0 → length (g .one) ≤ P x → isPresent (x .device .status) ≡ true → Goes x (owing x) (fromHostEndingRule g x)
+    unfolding fromHostEndingRule
+    leads-from-ending first small present =
+        of-picked (Goes x (owing x)) (eqb (x .device .left .0) 0)
+        (λ e. leads-enter x fit (eqb-true _ _ e) no-data (x .device .status) refl present)
+        (λ e. leads-drop first small (eqb-false _ _ e))
+
+    leads-take : isPresent (x .device .status) ≡ false → Goes x (owing x) (takeData g (reaching DataTransferFromHost x))
+    unfolding takeData takeBy
+    leads-take absent long = record { wrapper = fit .wrapper; status = refl; phase = fromHost refl dir (append-nil got ∙ none); count = λ present. absurd (clash (sym present ∙ absent)) }
+
+    -- with a status present the poll has taken no packet before
+    pub leads-from : (isPresent (x .device .status) ≡ true → x .taken ≡ 0) → length (g .one) ≤ P x → Goes x (owing x) (fromHostRule g x)
+    unfolding fromHostRule
+    leads-from first small =
+        of-picked (Goes x (owing x)) (eqb (x .device .left .0) 0)
+        (λ e. leads-await x fit (eqb-true _ _ e) no-data)
+        (λ _. of-picked (Goes x (owing x)) (isPresent (x .device .status)) (λ present. leads-from-ending (first present) small present) leads-take)
