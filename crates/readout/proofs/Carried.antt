@@ -35,7 +35,7 @@ takes-due DataTransferFromHost p left n takes = refl
 takes-due DataTransferFromHostEnding p left n takes = refl
 
 module _ (w : Wrapper) (p : ℕ) where
-  some-due : (s : Socket) (got put : List ℕ) → Transfer w p got put s → takesStatus (stateNumber (s .device .state)) ≡ true → 0 < due s
+  pub some-due : (s : Socket) (got put : List ℕ) → Transfer w p got put s → takesStatus (stateNumber (s .device .state)) ≡ true → 0 < due s
   some-due s got put t takes =
       let size : 8 ≤ s .device .packetsize = packet-bounds (s .device .packetsize) (packet-known (numbersOf (s .device)) (length (s .io)) (t .whole)) .0 in
       omega (arith, takes-due (s .device .state) (s .device .packetsize) (s .device .left .0) (length (unreadIn s)) takes, ceiling-some (s .device .packetsize) 13 (omega arith) (omega arith))

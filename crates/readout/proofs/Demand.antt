@@ -40,10 +40,11 @@ use Rattle.readout.proofs.Transfer.{Phase, toHost, waiting, toHostEndin
 use Rattle.readout.proofs.Rules.{no-bytes}
 use Rattle.readout.proofs.Steps.{Steps, event-steps}
 use Rattle.readout.proofs.Histories.{run-append, all-append}
-use Rattle.readout.proofs.Carried.{takes-due, Before, before, After, after}
+use Rattle.readout.proofs.Carried.{takes-due, some-due, Before, before, After, after}
 use Rattle.readout.proofs.Waiting.{Arriving}
 use Rattle.readout.proofs.Arrival.{Arrived, history-arrives}
 use Rattle.readout.proofs.Opening.{Opened, opens}
+use Rattle.readout.proofs.Owed.{bytesFor, Owes, owes, Rests, rests}
 
 -- ---- the wrapper
 
@@ -65,6 +66,32 @@ waits-arriving s b = record {
   unread = no-bytes (unreadIn s) (length-unread (bufferOf (s .device) (s .io)) (whole-sound (numbersOf (s .device)) (s .io) (b .whole)) ∙ b .nothing);
   none-in-3 = λ _. refl;
 }
+
+-- ---- an accepted status
+
+-- the record with it, and its byte
+record Accepted (d : Device) (f : Figure) (o : Stating) : Type 0 where
+  device : o .device ≡ withFigure f d
+  byte : f .status ≤ 2
+
+accepted-is : (d : Device) (io : List ℕ) (f : Figure) → eqb (setStatusCall d io f .number) 0 ≡ true → Accepted d f (setStatusCall d io f)
+accepted-is d io f =
+    by-status d io f (λ (o : Stating). eqb (o .number) 0 ≡ true → Accepted d f o) (λ h. absurd (clash (sym h))) (λ h. absurd (clash (sym h)))
+    (λ _ byte _. record { device = refl; byte = byte })
+
+-- 0, 1 and 2 are the bytes of the three
+byte-is : (b : ℕ) → b ≤ 2 → statusNumber (statusOf b) ≡ b
+unfolding statusOf
+byte-is b h =
+    cases (eqb b 0) (λ e. rw e (sym (eqb-true b 0 e)))
+    (λ e. cases (eqb b 1) (λ k. rw (e, k) (sym (eqb-true b 1 k))) (λ k. rw (e, k) (omega (arith, eqb-false b 0 e, eqb-false b 1 k))))
+
+-- ---- a story
+
+-- a poll puts nothing in
+poll-puts : (g : Given) (s : Socket) → shows (poll g) s .put ≡ []
+unfolding shows
+poll-puts g s = refl
 
 module _ (t : Story) (u : Supposed t) where
   -- the socket before the wrapper's last packet, and what that packet's poll showed
@@ -95,3 +122,119 @@ module _ (t : Story) (u : Supposed t) where
 
   begun : Transfer (wrapper t) (P t) (sentIn (toWrapper t) (t .start)) (putIn (toWrapper t) (t .start)) (parsed t)
   begun = rw (sent-is, put-is, parsed-is) (opened .transfer)
+
+  -- ---- its status
+
+  earlier-put : putIn (history t) (t .start) ≡ putIn (toStatus t) (t .start) ++ (shows (status (t .figure)) (reached t) .put ++ putIn (t .after) (told t))
+  unfolding all
+  earlier-put = all-append (λ (o : Shows). o .put) (toStatus t) (status (t .figure) ∷ t .after) (t .start)
+
+  few-before : length (putIn (toStatus t) (t .start)) ≤ L t
+  few-before =
+      let rest : List ℕ = shows (status (t .figure)) (reached t) .put ++ putIn (t .after) (told t) in
+      omega (arith, u .few, ap length earlier-put, length-append (putIn (toStatus t) (t .start)) rest)
+
+  met-before : Before (wrapper t) (P t) (sentIn (toWrapper t) (t .start)) (putIn (toWrapper t) (t .start)) (t .before) (parsed t)
+  met-before = before (wrapper t) (P t) (t .before) (parsed t) _ _ begun (rw parsed-is (opened .takes)) (u .earlier) (rw (all-append (λ (o : Shows). o .put) (toWrapper t) (t .before) (t .start)) at few-before)
+
+  reached-is : reached t ≡ run (t .before) (parsed t)
+  reached-is = run-append (toWrapper t) (t .before) (t .start)
+
+  arrived-there : Transfer (wrapper t) (P t) (sentIn (toStatus t) (t .start)) (putIn (toStatus t) (t .start)) (reached t)
+  arrived-there = rw (all-append (λ (o : Shows). o .sent) (toWrapper t) (t .before) (t .start), all-append (λ (o : Shows). o .put) (toWrapper t) (t .before) (t .start), reached-is) (met-before .transfer)
+
+  here : Accepted (reached t .device) (t .figure) (setStatusCall (reached t .device) (reached t .io) (t .figure))
+  unfolding accepts isStatus shows
+  here = accepted-is (reached t .device) (reached t .io) (t .figure) (u .accepted)
+
+  -- the record with it
+  told-is : told t .device ≡ withFigure (t .figure) (reached t .device)
+  unfolding shows
+  told-is = here .device
+
+  told-status : told t .device .status ≡ Present (statusOf (t .figure .status)) (residueOf (L t) (t .figure .processed))
+  unfolding withFigure
+  told-status = ap (λ (d : Device). d .status) told-is ∙ ap (λ (w : Wrapper). Present (statusOf (t .figure .status)) (residueOf (w .length) (t .figure .processed))) (arrived-there .wrapper)
+
+  takes : takesStatus (stateNumber (reached t .device .state)) ≡ true
+  takes = rw reached-is (met-before .takes)
+
+  -- what is due with it
+  told-due : due (told t) ≡ number t
+  unfolding withFigure
+  told-due =
+      let d : Device = reached t .device in
+      let same-state : told t .device .state ≡ d .state = ap (λ (d : Device). d .state) told-is in
+      let same-left : told t .device .left .0 ≡ R t = ap (λ (d : Device). d .left .0) told-is in
+      let same-size : told t .device .packetsize ≡ P t = ap (λ (d : Device). d .packetsize) told-is ∙ arrived-there .packetsize in
+      takes-due (told t .device .state) (told t .device .packetsize) (told t .device .left .0) (length (unreadIn (told t))) (rw same-state takes) ∙ rw (same-left, same-size)
+
+  -- the transfer goes on with it
+  with-status : Transfer (wrapper t) (P t) (sentIn (toStatus t) (t .start) ++ shows (status (t .figure)) (reached t) .sent) (putIn (toStatus t) (t .start) ++ shows (status (t .figure)) (reached t) .put) (told t)
+  unfolding isReset
+  with-status = event-steps (wrapper t) (P t) _ _ few-before (reached t) arrived-there (some-due (wrapper t) (P t) (reached t) _ _ arrived-there takes) (status (t .figure)) refl .transfer
+
+  -- ---- behind it
+
+  ended-is : ended t ≡ run (t .after) (told t)
+  unfolding run
+  ended-is = run-append (toStatus t) (status (t .figure) ∷ t .after) (t .start)
+
+  host-is : host t ≡ (sentIn (toStatus t) (t .start) ++ shows (status (t .figure)) (reached t) .sent) ++ sentIn (t .after) (told t)
+  unfolding all
+  host-is = all-append (λ (o : Shows). o .sent) (toStatus t) (status (t .figure) ∷ t .after) (t .start) ∙ sym (append-assoc (sentIn (toStatus t) (t .start)) _ (sentIn (t .after) (told t)))
+
+  firmware-is : firmware t ≡ (putIn (toStatus t) (t .start) ++ shows (status (t .figure)) (reached t) .put) ++ putIn (t .after) (told t)
+  firmware-is = earlier-put ∙ sym (append-assoc (putIn (toStatus t) (t .start)) _ (putIn (t .after) (told t)))
+
+  -- The end of a story with fewer served polls: the invariant, the status, and what is due.
+  record Sum : Type 0 where
+    transfer : Transfer (wrapper t) (P t) (host t) (firmware t) (ended t)
+    status : ended t .device .status ≡ Present (statusOf (t .figure .status)) (residueOf (L t) (t .figure .processed))
+    count : due (ended t) + servedSince t ≡ number t
+
+  sum : servedSince t < number t → Sum
+  sum less =
+      let a : After (wrapper t) (P t) _ _ (t .after) (told t) =
+      after (wrapper t) (P t) (t .after) (told t) _ _ with-status (rw told-status) (u .later) (rw firmware-is at (u .few)) (rw told-due less) in
+      record {
+        transfer = rw (host-is, firmware-is, ended-is) (a .transfer);
+        status = rw ended-is (a .status ∙ told-status);
+        count = rw ended-is (a .count ∙ told-due);
+      }
+
+  -- the status that is promised is the one that is present
+  the-status : bytesFor (wrapper t .tag) (Present (statusOf (t .figure .status)) (residueOf (L t) (t .figure .processed))) ≡ theStatus t
+  the-status = rw (byte-is (t .figure .status) (here .byte))
+
+  positive : 0 < P t
+  positive = omega (arith, packet-bounds (P t) (packet-known (numbersOf (t .start .device)) (length (t .start .io)) (u .between .whole)) .0)
+
+  not-yet : servedSince t < number t → NotYet t
+  not-yet less =
+      let z : Sum = sum less in
+      let k : Device = ended t .device in
+      let more : 0 < due (ended t) = omega (arith, z .count) in
+      let o : Owes (wrapper t) (host t) (firmware t) (k .status) =
+      owes (wrapper t) (host t) (firmware t) (k .packetsize) (rw (z .transfer .packetsize) positive) (k .state) (k .status) (k .left .0) (unreadIn (ended t)) _ _ (z .status) (z .transfer .phase) more in
+      record { rest = o .rest; some = o .some; prefix = o .whole ∙ rw (z .status, the-status) }
+
+  ends : servedSince t + 1 ≡ number t → (g : Given) → Later (poll g) (ended t) → served (poll g) (ended t) ≡ 1 → Ends t g
+  ends last g later one =
+      let z : Sum = sum (omega arith) in
+      let e : Socket = ended t in
+      let st : Steps (wrapper t) (P t) (host t) (firmware t) e (accepts (poll g) e) (served (poll g) e) (shows (poll g) e) =
+      event-steps (wrapper t) (P t) (host t) (firmware t) (u .few) e (z .transfer) (omega (arith, z .count)) (poll g) (later .no-reset) in
+      let o : Socket = next (poll g) e in
+      let same : o .device .status ≡ Present (statusOf (t .figure .status)) (residueOf (L t) (t .figure .processed)) = st .status (later .no-status) ∙ z .status in
+      let none-due : due o ≡ 0 = omega (arith, st .count (rw (z .status)) (later .full), z .count) in
+      let r : Rests (wrapper t) (host t ++ shows (poll g) e .sent) (firmware t ++ shows (poll g) e .put) (o .device .state) (o .device .status) (unreadIn o) =
+      rests (wrapper t) _ _ (o .device .packetsize) (rw (st .transfer .packetsize) positive) (o .device .state) (o .device .status) (o .device .left .0) (unreadIn o) _ _ same (st .transfer .phase) none-due in
+      record {
+        bytes = r .whole ∙ ap₂ (λ (ys zs : List ℕ). dataOf (wrapper t .direction) (L t) ys ++ zs) (ap (λ (l : List ℕ). firmware t ++ l) (poll-puts g e) ∙ append-nil (firmware t)) (ap (bytesFor (wrapper t .tag)) same ∙ the-status);
+        again = record { whole = st .transfer .whole; waits = rw (r .state); nothing = sym (length-unread (bufferOf (o .device) (o .io)) (whole-sound (numbersOf (o .device)) (o .io) (st .transfer .whole))) ∙ ap length (r .none) };
+      }
+
+-- the mission's third demand
+pub demand : (t : Story) → Supposed t → Demand t
+demand t u = record { not-before = not-yet t u; exactly = ends t u }

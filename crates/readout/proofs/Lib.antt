@@ -8,4 +8,5 @@ pub mod Carried
 pub mod Waiting
 pub mod Arrival
 pub mod Opening
+pub mod Owed
 pub mod Demand
