@@ -20,7 +20,7 @@ use Rattle.calls.specs.Checks.{isIn}
 use Rattle.calls.specs.Status.{Stating, takesStatus}
 use Rattle.calls.specs.Bus.{Handling, entering}
 use Rattle.calls.proofs.After.{by-status, data-elsewhere, reset-done, by-request}
-use Rattle.readout.specs.History.{Socket, socket, Event, poll, status, write, writeAll, read, reset, control, look, Shows, ofStatus, ofBus, shows, next, run, all, sentIn, putIn, firstOf, arrivedIn}
+use Rattle.readout.specs.History.{Socket, socket, Event, poll, status, write, writeAll, read, reset, control, command, commandStep, Shows, ofStatus, ofBus, shows, next, run, all, sentIn, putIn, firstOf, arrivedIn}
 use Rattle.readout.specs.Demand.{waitsIn}
 use Rattle.readout.proofs.Rules.{bytesOf, packetsOf}
 use Rattle.readout.proofs.Waiting.{Arriving, waits-by, apart, From, from-count, Reads, idle, short, ripe, ripe-first, by-reading}
@@ -114,7 +114,8 @@ module _ (p : ℕ) (m : List ℕ) (s : Socket) (a : Arriving p m s) where
   event-arrives (read dst) few = rw (data-elsewhere 7 (s .device) (s .io) dst _ (a .whole) (elsewhere 7 refl refl)) (nothing-arrives 3)
   event-arrives reset few = rw (reset-done (s .device) (s .io) (a .whole)) (reset-arrives 0)
   event-arrives (control q) few = by-request (s .device) (s .io) q (λ (o : Handling). Arrives p m (ofBus (s .io) o)) (λ n _. nothing-arrives n) (λ _ _. reset-arrives 0)
-  event-arrives look few = nothing-arrives 0
+  event-arrives command few = nothing-arrives _
+  event-arrives commandStep few = nothing-arrives _
 
 -- ---- a history
 

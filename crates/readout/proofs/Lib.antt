@@ -10,3 +10,4 @@ pub mod Arrival
 pub mod Opening
 pub mod Owed
 pub mod Demand
+pub mod Called

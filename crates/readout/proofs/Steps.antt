@@ -32,7 +32,7 @@ use Rattle.calls.specs.Status.{Stating, stating, takesStatus, withFigure, setSt
 use Rattle.calls.specs.Data.{Moving, limited, readCall, writeCall, writeAllCall}
 use Rattle.calls.specs.Bus.{Handling, controlCall}
 use Rattle.calls.proofs.After.{by-status, status-whole, data-elsewhere, read-keeps, read-whole, write-keeps, write-whole, write-most, write-unread, write-all-keeps, write-all-whole, write-all-told, write-all-unread, by-request, control-whole}
-use Rattle.readout.specs.History.{Socket, socket, Event, poll, status, write, writeAll, read, reset, control, look, Shows, ofPoll, ofStatus, ofWrite, ofRead, ofBus, ofLook, shows, next, isServed, isPoll, served, isReset, isStatus, accepts}
+use Rattle.readout.specs.History.{Socket, socket, Event, poll, status, write, writeAll, read, reset, control, command, commandStep, Shows, ofStatus, ofBus, shows, next, isServed, isPoll, served, isReset, isStatus, accepts}
 use Rattle.readout.specs.Demand.{Full, ceiling}
 use Rattle.readout.proofs.Ceiling.{ceiling-none}
 use Rattle.readout.proofs.Transfer.{Phase, toHost, waiting, toHostEnding, fromHost, fromHostEnding, sending, Transfer, unreadIn, due, dueIn}
@@ -164,10 +164,6 @@ module _ (w : Wrapper) (p : ℕ) (got put : List ℕ) (s : Socket) (t : Transfer
       (λ n _. unchanged n false)
       (λ counts ff. absurd (clash (sym (ap₂ _&&_ counts ff) ∙ kept)))
 
-  look-steps : Steps w p got put s (accepts look s) (served look s) (shows look s)
-  unfolding shows served isPoll accepts isStatus
-  look-steps = unchanged 0 false
-
   -- of the record only marks change
   module _ (d : Device) (io : List ℕ) (keeps : withMarks (s .device .marks) d ≡ s .device) (whole : Whole (numbersOf d) (length io)) where
     same-state : d .state ≡ s .device .state
@@ -255,7 +251,7 @@ module _ (w : Wrapper) (p : ℕ) (got put : List ℕ) (s : Socket) (t : Transfer
 
 -- every event but a reset
 pub event-steps : (w : Wrapper) (p : ℕ) (got put : List ℕ) → length put ≤ w .length → (s : Socket) → Transfer w p got put s → 0 < due s → (e : Event) → isReset e ≡ false → Steps w p got put s (accepts e s) (served e s) (shows e s)
-unfolding isReset
+unfolding isReset shows served isPoll accepts isStatus
 event-steps w p got put few s t unfinished (poll g) kept = poll-steps w p got put few s t g unfinished
 event-steps w p got put few s t unfinished (status f) kept = status-steps w p got put s t f
 event-steps w p got put few s t unfinished (write src) kept = write-steps w p got put s t src
@@ -263,4 +259,5 @@ event-steps w p got put few s t unfinished (writeAll src) kept = write-all-steps
 event-steps w p got put few s t unfinished (read dst) kept = read-steps w p got put s t dst
 event-steps w p got put few s t unfinished reset kept = absurd (clash kept)
 event-steps w p got put few s t unfinished (control q) kept = control-steps w p got put s t q kept
-event-steps w p got put few s t unfinished look kept = look-steps w p got put s t
+event-steps w p got put few s t unfinished command kept = unchanged w p got put s t _ false
+event-steps w p got put few s t unfinished commandStep kept = unchanged w p got put s t _ false

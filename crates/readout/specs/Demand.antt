@@ -21,7 +21,7 @@ use Rattle.bbb.specs.Poll.{Given}
 use Rattle.calls.specs.declared.Figure.{Figure}
 use Rattle.calls.specs.Checks.{bufferOf}
 use Rattle.calls.specs.Status.{takesStatus}
-use Rattle.readout.specs.History.{Socket, Event, poll, status, shows, next, run, sentIn, putIn, firstOf, arrivedIn, served, servedIn, isReset, accepts, Throughout}
+use Rattle.readout.specs.History.{Socket, Event, poll, status, shows, next, run, sentIn, putIn, arrivedIn, served, servedIn, isReset, accepts, Throughout}
 
 -- ---- a command's story
 

@@ -4,14 +4,15 @@ use mathlib.Core.Bool.{Bool, true, false, cond, not, _&&_, _||_}
 use mathlib.Core.List.{List, [], _∷_, _++_}
 use Prim.Native.Nat.{ℕ, _+_}
 use lib.Dec.{eqb}
-use lib.ListN.{length, take}
+use lib.ListN.{take}
 use Rattle.device.specs.declared.Device.{Device}
 use Rattle.bbb.specs.Poll.{Given, Polling, pollCall}
 use Rattle.calls.specs.declared.Figure.{Figure}
 use Rattle.calls.specs.declared.Request.{Request}
 use Rattle.calls.specs.Status.{Stating, setStatusCall}
-use Rattle.calls.specs.Data.{Moving, limited, readCall, writeCall, writeAllCall}
+use Rattle.calls.specs.Data.{Moving, readCall, writeCall, writeAllCall}
 use Rattle.calls.specs.Bus.{Handling, resetCall, controlCall}
+use Rattle.calls.specs.Command.{commandCall, stepCall}
 
 -- The recorder's socket: the device record, and the IO buffer that is lent with it.
 pub record Socket : Type 0 where
@@ -34,8 +35,9 @@ pub data Event : Type 0 where
   -- the bus is reset; a control request
   reset : Event
   control : Request → Event
-  -- the command is shown, or the command step offers it: neither changes anything
-  look : Event
+  -- the command is shown; the command step
+  command : Event
+  commandStep : Event
 
 -- What an event leaves, and what it shows: 01's number, the OUT packets taken, the bytes sent to the host, and the bytes that the
 -- firmware put in.
@@ -64,8 +66,9 @@ ofRead io o = record { socket = socket (o .device) io; number = o .number; taken
 abbrev pub ofBus : List ℕ → Handling → Shows
 ofBus io o = record { socket = socket (o .device) io; number = o .number; taken = []; sent = []; put = [] }
 
-abbrev pub ofLook : Socket → Shows
-ofLook s = record { socket = s; number = 0; taken = []; sent = []; put = [] }
+-- showing the command, or offering it, changes nothing
+abbrev pub ofLook : Socket → ℕ → Shows
+ofLook s number = record { socket = s; number = number; taken = []; sent = []; put = [] }
 
 unfoldable pub shows : Event → Socket → Shows
 shows (poll g) s = ofPoll g (pollCall (s .device) (s .io) g)
@@ -75,7 +78,8 @@ shows (writeAll src) s = ofWrite src (writeAllCall (s .device) (s .io) src)
 shows (read dst) s = ofRead (s .io) (readCall (s .device) (s .io) dst)
 shows reset s = ofBus (s .io) (resetCall (s .device) (s .io))
 shows (control q) s = ofBus (s .io) (controlCall (s .device) (s .io) q)
-shows look s = ofLook s
+shows command s = ofLook s (commandCall (s .device) (s .io) .number)
+shows commandStep s = ofLook s (stepCall (s .device) (s .io) .number)
 
 abbrev pub next : Event → Socket → Socket
 next e s = shows e s .socket
@@ -108,7 +112,7 @@ arrivedIn h s = all (λ (o : Shows). firstOf (o .taken)) h s
 -- ---- served polls
 
 -- "A served poll is one not refused with 10 or 11 in which each endpoint asked does its part": 6 is "the endpoint asked is busy", 7 "the
--- endpoint asked fails".
+-- endpoint asked fails". A poll that asks none, such as one with answer 1 or 4, is served.
 unfoldable pub isServed : ℕ → Bool
 isServed number = not (eqb number 6 || (eqb number 7 || (eqb number 10 || eqb number 11)))
 
@@ -120,7 +124,8 @@ isPoll (writeAll src) = false
 isPoll (read dst) = false
 isPoll reset = false
 isPoll (control q) = false
-isPoll look = false
+isPoll command = false
+isPoll commandStep = false
 
 -- 1 for a served poll, else 0; and how many a history has
 unfoldable pub served : Event → Socket → ℕ
@@ -141,7 +146,8 @@ isReset (writeAll src) = false
 isReset (read dst) = false
 isReset reset = true
 isReset (control q) = eqb (q .requesttype) 0xA1 && eqb (q .request) 0xFF
-isReset look = false
+isReset command = false
+isReset commandStep = false
 
 unfoldable pub isStatus : Event → Bool
 isStatus (poll g) = false
@@ -151,7 +157,8 @@ isStatus (writeAll src) = false
 isStatus (read dst) = false
 isStatus reset = false
 isStatus (control q) = false
-isStatus look = false
+isStatus command = false
+isStatus commandStep = false
 
 -- a status that is accepted: answer 0
 unfoldable pub accepts : Event → Socket → Bool
