@@ -123,7 +123,7 @@ told-something : (e : Endpoint) (n : ℕ) → (n ≡ 0 → ⊥) → sendTold e n
 unfolding sendTold
 told-something e n some = rw (ne-eqb _ _ some)
 
-answers-0 : (e : Endpoint) → serves e ≡ true → answeredBy e ≡ no 0
+pub answers-0 : (e : Endpoint) → serves e ≡ true → answeredBy e ≡ no 0
 answers-0 Served h = refl
 answers-0 Busy h = ap (λ (b : Bool). cond b (no 0) (no 6)) h
 answers-0 (Failed n) h = ap (λ (b : Bool). cond b (no 0) (answeredBy (Failed n))) h

@@ -8,13 +8,16 @@ use native.Mathlib.Omega.{arith}
 use lib.Dec.{eqb}
 use borrow.Author.Tests.{eqb-true, eqb-false}
 use borrow.Table.Steps.{cases}
-use lib.ListN.{length, length-append}
+use lib.ListN.{length, drop, length-append}
+use lib.Seq.{drop-at}
 use Rattle.fields.proofs.Bools.{clash}
 use Rattle.buffer.specs.Buffer.{unread}
 use Rattle.buffer.proofs.Kept.{length-unread}
 use Rattle.ring.specs.declared.State.{State}
 use Rattle.ring.specs.declared.State.the-variants.{StatusTransfer}
 use Rattle.ring.specs.States.{stateNumber}
+use Rattle.wrapper.specs.declared.DataDirection.{DataDirection}
+use Rattle.wrapper.specs.declared.DataDirection.the-variants.{Out, In, NotExpected}
 use Rattle.wrapper.specs.declared.Wrapper.{Wrapper}
 use Rattle.wrapper.specs.declared.status.CommandStatus.{CommandStatus}
 use Rattle.wrapper.specs.declared.counters.Residue.{Residue}
@@ -35,7 +38,7 @@ use Rattle.calls.proofs.After.{by-status}
 use Rattle.readout.specs.History.{Socket, Event, poll, status, Shows, shows, next, run, all, sentIn, putIn, firstOf, arrivedIn, served, servedIn, isReset, isStatus, accepts}
 use Rattle.readout.specs.Demand.{Story, toWrapper, toStatus, history, parsed, reached, told, ended, message, wrapper, L, P, R, host, firmware, servedSince, Between, Later, Supposed, ceiling, number, dataOf, theData, theStatus, NotYet, Ends, Demand}
 use Rattle.readout.proofs.Ceiling.{ceiling-none, ceiling-some}
-use Rattle.readout.proofs.Filled.{filled-behind}
+use Rattle.readout.proofs.Filled.{length-filled}
 use Rattle.readout.proofs.Transfer.{Phase, toHost, waiting, toHostEnding, fromHost, fromHostEnding, sending, Transfer, unreadIn, due}
 use Rattle.readout.proofs.Rules.{no-bytes}
 use Rattle.readout.proofs.Steps.{Steps, event-steps}
@@ -44,6 +47,7 @@ use Rattle.readout.proofs.Carried.{takes-due, some-due, Before, before,
 use Rattle.readout.proofs.Waiting.{Arriving}
 use Rattle.readout.proofs.Arrival.{Arrived, history-arrives}
 use Rattle.readout.proofs.Opening.{Opened, opens}
+use Rattle.readout.proofs.Willing.{willing-served}
 use Rattle.readout.proofs.Owed.{bytesFor, Owes, owes, Rests, rests}
 
 -- ---- the wrapper
@@ -57,6 +61,12 @@ module _ (h : List Event) (e : Event) (s : Socket) where
   all-one : (what : Shows → List ℕ) → all what (h ++ (e ∷ [])) s ≡ all what h s ++ what (shows e (run h s))
   unfolding all
   all-one what = all-append what h (e ∷ []) s ∙ ap (λ (l : List ℕ). all what h s ++ l) (append-nil (what (shows e (run h s))))
+
+-- the bytes of data that the host is to get
+abbrev pub dataLength : DataDirection → ℕ → ℕ
+dataLength Out l = 0
+dataLength In l = l
+dataLength NotExpected l = 0
 
 pub waits-arriving : (s : Socket) → Between s → Arriving (s .device .packetsize) [] s
 waits-arriving s b = record {
@@ -230,11 +240,23 @@ module _ (t : Story) (u : Supposed t) where
       let none-due : due o ≡ 0 = omega (arith, st .count (rw (z .status)) (later .full), z .count) in
       let r : Rests (wrapper t) (host t ++ shows (poll g) e .sent) (firmware t ++ shows (poll g) e .put) (o .device .state) (o .device .status) (unreadIn o) =
       rests (wrapper t) _ _ (o .device .packetsize) (rw (st .transfer .packetsize) positive) (o .device .state) (o .device .status) (o .device .left .0) (unreadIn o) _ _ same (st .transfer .phase) none-due in
+      let bytes : host t ++ shows (poll g) e .sent ≡ theData t ++ theStatus t =
+      r .whole ∙ ap₂ (λ (ys zs : List ℕ). dataOf (wrapper t .direction) (L t) ys ++ zs) (ap (λ (l : List ℕ). firmware t ++ l) (poll-puts g e) ∙ append-nil (firmware t)) (ap (bytesFor (wrapper t .tag)) same ∙ the-status) in
       record {
-        bytes = r .whole ∙ ap₂ (λ (ys zs : List ℕ). dataOf (wrapper t .direction) (L t) ys ++ zs) (ap (λ (l : List ℕ). firmware t ++ l) (poll-puts g e) ∙ append-nil (firmware t)) (ap (bytesFor (wrapper t .tag)) same ∙ the-status);
+        bytes = bytes;
+        status = ap (drop (length (theData t))) bytes ∙ drop-at (theData t) (theStatus t) (length (theData t)) refl;
         again = record { whole = st .transfer .whole; waits = rw (r .state); nothing = sym (length-unread (bufferOf (o .device) (o .io)) (whole-sound (numbersOf (o .device)) (o .io) (st .transfer .whole))) ∙ ap length (r .none) };
       }
 
+-- for a read L bytes and 13, otherwise 13
+pub promised-length : (t : Story) → length (firmware t) ≤ L t → length (theData t ++ theStatus t) ≡ dataLength (wrapper t .direction) (L t) + 13
+promised-length t few = length-append (theData t) (theStatus t) ∙ ap₂ _+_ (by (wrapper t .direction)) (length-status (wrapper t .tag) (residueOf (L t) (t .figure .processed)) (t .figure .status))
+  where
+    by : (q : DataDirection) → length (dataOf q (L t) (firmware t)) ≡ dataLength q (L t)
+    by Out = refl
+    by In = length-filled (L t) (firmware t) few
+    by NotExpected = refl
+
 -- the mission's third demand
 pub demand : (t : Story) → Supposed t → Demand t
-demand t u = record { not-before = not-yet t u; exactly = ends t u }
+demand t u = record { not-before = not-yet t u; exactly = ends t u; reachable = λ less g w. willing-served g (ended t) (sum t u less .transfer .whole) w }

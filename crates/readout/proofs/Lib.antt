@@ -9,5 +9,7 @@ pub mod Waiting
 pub mod Arrival
 pub mod Opening
 pub mod Owed
+pub mod Willing
 pub mod Demand
 pub mod Called
+pub mod Premises

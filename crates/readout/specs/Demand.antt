@@ -4,8 +4,9 @@ use mathlib.Core.Path.{_≡_}
 use mathlib.Core.Bool.{Bool, true, false}
 use mathlib.Core.List.{List, [], _∷_, _++_}
 use Prim.Native.Nat.{ℕ, _+_, _-_, _/_, _≤_, _<_, min}
-use lib.ListN.{length, replicate}
+use lib.ListN.{length, drop, replicate}
 use Rattle.buffer.specs.Buffer.{unread}
+use Rattle.answers.specs.Answers.{endpointOf, serves}
 use Rattle.ring.specs.declared.State.{State}
 use Rattle.ring.specs.declared.State.the-variants.{CommandTransfer, CommandTransferInvalid, DataTransferNoData, StatusTransfer, DataTransferToHost, DataTransferToHostStatusAwait, DataTransferToHostEnding, DataTransferFromHost, DataTransferFromHostEnding}
 use Rattle.ring.specs.States.{stateNumber}
@@ -17,7 +18,7 @@ use Rattle.wrapper.specs.Status.{statusBytes}
 use Rattle.wrapper.specs.Wrapper.{Valid, wrapperOf}
 use Rattle.device.specs.Device.{numbersOf}
 use Rattle.device.specs.Broken.{Whole}
-use Rattle.bbb.specs.Poll.{Given}
+use Rattle.bbb.specs.Poll.{Given, Fits}
 use Rattle.calls.specs.declared.Figure.{Figure}
 use Rattle.calls.specs.Checks.{bufferOf}
 use Rattle.calls.specs.Status.{takesStatus}
@@ -166,13 +167,23 @@ pub record NotYet (t : Story) : Type 0 where
   pub some : 0 < length rest
   pub prefix : host t ++ rest ≡ theData t ++ theStatus t
 
--- Poll g sends it: what the host got, and the bytes of this poll, are all that it is to get; and the device is between two commands again.
+-- Poll g sends it: what the host got, and the bytes of this poll, are all that it is to get; behind the data stands the status, and nothing
+-- else; and the device is between two commands again.
 pub record Ends (t : Story) (g : Given) : Type 0 where
   pub bytes : host t ++ shows (poll g) (ended t) .sent ≡ theData t ++ theStatus t
+  pub status : drop (length (theData t)) (host t ++ shows (poll g) (ended t) .sent) ≡ theStatus t
   pub again : Between (next (poll g) (ended t))
 
+-- A poll whose packets fit and whose endpoints all do their part.
+pub record Willing (g : Given) (s : Socket) : Type 0 where
+  pub fits : Fits (s .device .packetsize) (g .packet) (g .one) (g .two)
+  pub first : serves (endpointOf (g .turn .first)) ≡ true
+  pub second : serves (endpointOf (g .turn .second)) ≡ true
+  pub write : serves (endpointOf (g .turn .write)) ≡ true
+
 -- "the last status byte goes out after exactly R/P plus 13/P served polls": not in a story with fewer, whatever else happened in it, and
--- in the served poll that makes the number full.
+-- in the served poll that makes the number full; and the number can be made full, since there each willing poll is served.
 pub record Demand (t : Story) : Type 0 where
   pub not-before : servedSince t < number t → NotYet t
   pub exactly : servedSince t + 1 ≡ number t → (g : Given) → Later (poll g) (ended t) → served (poll g) (ended t) ≡ 1 → Ends t g
+  pub reachable : servedSince t < number t → (g : Given) → Willing g (ended t) → served (poll g) (ended t) ≡ 1

@@ -1,15 +1,16 @@
 -- "The starred cases form a single table under a single statement." Each crate has its own part beside its definitions; this is the
--- table. So far: creation, block lengths, LUN, the polls that answer 1, 4 and 0, residues and the three decodings. Assumes nothing: these
--- are definitions.
+-- table: creation, block lengths, LUN, the polls that answer 1, 4 and 0, the served polls of demand 3, residues and the three decodings.
+-- Assumes nothing: these are definitions.
 use mathlib.Core.List.{List, _++_}
 use Rattle.fields.specs.Case.{Case, AllHold}
 use Rattle.device.specs.Cases as device
 use Rattle.wrapper.specs.Cases as wrapper
 use Rattle.bbb.specs.Cases as bbb
+use Rattle.readout.specs.Cases as readout
 use Rattle.scsi.specs.Cases as scsi
 
 unfoldable pub table : List Case
-table = device.starred ++ (wrapper.starred ++ (bbb.starred ++ scsi.starred))
+table = device.starred ++ (wrapper.starred ++ (bbb.starred ++ (readout.starred ++ scsi.starred)))
 
 abbrev pub Statement : Type 1
 Statement = AllHold table

@@ -1,0 +1,112 @@
+-- A poll of a whole record is served where its packets fit and all endpoints do their part: so the number of served polls can be reached.
+-- Assumes nothing.
+use mathlib.Core.Path.{_≡_, refl, sym, ap, _∙_}
+use mathlib.Core.Bool.{Bool, true, false, _&&_}
+use mathlib.Core.List.{List}
+use Prim.Native.Nat.{ℕ}
+use lib.Dec.{eqb, leb}
+use lib.ListN.{length}
+use Rattle.fields.proofs.Bools.{of-picked}
+use Rattle.buffer.specs.Buffer.{Buffer, buffer, at, unread, lacksRoom}
+use Rattle.answers.specs.declared.Endpoint.{Endpoint}
+use Rattle.answers.specs.Answers.{Told, no, endpointOf, serves}
+use Rattle.ring.specs.declared.State.{State}
+use Rattle.ring.specs.declared.State.the-variants.{CommandTransfer, CommandTransferInvalid, DataTransferNoData, StatusTransfer, DataTransferToHost, DataTransferToHostStatusAwait, DataTransferToHostEnding, DataTransferFromHost, DataTransferFromHostEnding}
+use Rattle.wrapper.specs.Wrapper.{isValid, wrapperOf}
+use Rattle.packets.specs.Packets.{readTold, takesOne, received}
+use Rattle.device.specs.Device.{numbersOf, isPresent}
+use Rattle.device.specs.Broken.{Whole}
+use Rattle.bbb.specs.Poll.{Given, Polling, Point, point, bufferAt, reaching, leaving, counting, sendStatus, sendData, offeredBy, takeBy, takeData, enterStatus, statusAwaitRule, noDataRule, toHostEndingRule, fallsShort, toHostRule, fromHostEndingRule, fromHostRule, ordered, startRule, messageAt, behind31, parseRule, readBy, readOneBy, readCbwRule, entering, statusTransferRule, invalidRule, ruleIn, pollRule, pollCall}
+use Rattle.bbb.proofs.Keeping.{by-direction, call-done}
+use Rattle.bbb.proofs.After.{P, firstFor, outFor, topped, stated, data-told, status-told, answers-0}
+use Rattle.readout.specs.History.{Socket, poll, shows, isServed, isPoll, served}
+use Rattle.readout.specs.Demand.{Willing}
+
+-- it answers 0, 1 or 4
+abbrev Does : Polling → Type 0
+Does o = isServed (o .told .number) ≡ true
+
+module _ (g : Given) (first : serves (endpointOf (g .turn .first)) ≡ true) (second : serves (endpointOf (g .turn .second)) ≡ true) (into : serves (endpointOf (g .turn .write)) ≡ true) where
+  -- a read answers 0 or 1
+  read-does : (p : ℕ) (e : Endpoint) (s : Buffer) → serves e ≡ true → isServed (readTold p e s .number) ≡ true
+  unfolding readTold isServed
+  read-does p e s serving = of-picked (λ (t : Told). isServed (t .number) ≡ true) (lacksRoom p s) (λ _. refl) (λ _. rw (answers-0 e serving))
+
+  offered-serves : (n : ℕ) → serves (offeredBy n (g .turn)) ≡ true
+  unfolding offeredBy
+  offered-serves n = of-picked (λ (b : ℕ). serves (endpointOf b) ≡ true) (eqb n 0) (λ _. first) (λ _. second)
+
+  module _ (x : Point) where
+    status-does : Does (sendStatus g x)
+    unfolding isServed
+    status-does = rw (status-told g x into)
+
+    data-does : Does (sendData g x)
+    unfolding isServed
+    data-does = rw (data-told g x into)
+
+    take-does : Does (takeData g x)
+    unfolding takeData takeBy
+    take-does = read-does (P x) (outFor g x) (bufferAt x) (offered-serves (x .taken))
+
+  module _ (x : Point) where
+    enter-does : Does (enterStatus g x)
+    unfolding enterStatus
+    enter-does = status-does (stated x)
+
+    await-does : Does (statusAwaitRule g x)
+    unfolding statusAwaitRule isServed
+    await-does = of-picked Does (isPresent (x .device .status)) (λ _. enter-does) (λ _. refl)
+
+    to-ending-does : Does (toHostEndingRule g x)
+    unfolding toHostEndingRule
+    to-ending-does = of-picked Does (eqb (x .device .left .0) 0) (λ _. enter-does) (λ _. data-does (topped x))
+
+    to-does : Does (toHostRule g x)
+    unfolding toHostRule isServed
+    to-does =
+        of-picked Does (eqb (x .device .left .0) 0) (λ _. await-does)
+        (λ _. of-picked Does (isPresent (x .device .status)) (λ _. to-ending-does)
+        (λ _. of-picked Does (fallsShort (P x) (x .device .left) (unread (bufferAt x))) (λ _. refl) (λ _. data-does (reaching DataTransferToHost x))))
+
+    from-ending-does : Does (fromHostEndingRule g x)
+    unfolding fromHostEndingRule
+    from-ending-does = of-picked Does (eqb (x .device .left .0) 0) (λ _. enter-does) (λ _. take-does (reaching DataTransferFromHostEnding (leaving (buffer (x .io) (at 0 0)) x)))
+
+    from-does : Does (fromHostRule g x)
+    unfolding fromHostRule
+    from-does =
+        of-picked Does (eqb (x .device .left .0) 0) (λ _. await-does)
+        (λ _. of-picked Does (isPresent (x .device .status)) (λ _. from-ending-does) (λ _. take-does (reaching DataTransferFromHost x)))
+
+  parse-does : (x : Point) → Does (parseRule g x)
+  unfolding parseRule startRule noDataRule isServed
+  parse-does x =
+      let w = wrapperOf (messageAt (bufferAt x)) in
+      let y : Point = ordered w (leaving (behind31 (bufferAt x)) x) in
+      of-picked Does (isValid (messageAt (bufferAt x))) (λ _. by-direction Does (w .direction) (from-does y) (to-does y) (await-does y)) (λ _. refl)
+
+  wrapper-does : (x : Point) → Does (readCbwRule g x)
+  unfolding readCbwRule readOneBy readBy
+  wrapper-does x =
+      let took : Bool = takesOne (P x) (firstFor g) (bufferAt x) in
+      let y : Point = counting took (leaving (received (P x) (firstFor g) (g .one) (bufferAt x)) x) in
+      of-picked Does (took && leb 31 (unread (bufferAt y))) (λ _. parse-does y) (λ _. read-does (P x) (firstFor g) (bufferAt x) first)
+
+  rule-does : (σ : State) (x : Point) → Does (ruleIn σ g x)
+  unfolding ruleIn invalidRule noDataRule statusTransferRule isServed
+  rule-does CommandTransfer x = wrapper-does x
+  rule-does CommandTransferInvalid x = refl
+  rule-does DataTransferNoData x = await-does x
+  rule-does StatusTransfer x = of-picked Does (eqb (unread (bufferAt x)) 0) (λ _. wrapper-does (entering x)) (λ _. status-does x)
+  rule-does DataTransferToHost x = to-does x
+  rule-does DataTransferToHostStatusAwait x = await-does x
+  rule-does DataTransferToHostEnding x = to-ending-does x
+  rule-does DataTransferFromHost x = from-does x
+  rule-does DataTransferFromHostEnding x = from-ending-does x
+
+pub willing-served : (g : Given) (s : Socket) → Whole (numbersOf (s .device)) (length (s .io)) → Willing g s → served (poll g) s ≡ 1
+unfolding served isPoll shows pollRule
+willing-served g s whole w =
+    let does : Does (pollCall (s .device) (s .io) g) = rw (call-done (s .device) (s .io) g whole (w .fits)) (rule-does g (w .first) (w .second) (w .write) (s .device .state) (point (s .device) (s .io) 0 false)) in
+    rw does
