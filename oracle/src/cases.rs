@@ -1,5 +1,6 @@
 //! Bench files made by hand: every case of document 01 that a bench file can show, every chain,
-//! every answer, every known difference from BOT in its smallest form.
+//! every answer, every known difference from BOT in its smallest form, and what demand 3 would be
+//! without each of its premises.
 
 use crate::benchfile::{InAnswer, LONGEST, OutAnswer};
 use crate::damage;
@@ -30,6 +31,7 @@ pub fn all() -> Vec<Case> {
         commands(),
         controls(),
         differences(),
+        premises(),
     ] {
         cases.extend(
             group
@@ -88,6 +90,14 @@ fn finished(packet_size: u16, buffer: u32) -> Script {
         .wrapper(ready(1))
         .status(0, 0)
         .polls(13_usize.div_ceil(usize::from(packet_size)))
+}
+
+/// Three polls that are not served at P 8, whichever endpoint is asked: busy, failing, above P.
+fn unserved(script: Script) -> Script {
+    script
+        .in_answers(InAnswer::Busy)
+        .offers(InAnswer::Error(9), OutAnswer::Error(9), OutAnswer::Busy)
+        .packet(&[0x55; 9])
 }
 
 fn listing() -> Script {
@@ -261,6 +271,24 @@ fn to_host() -> Vec<Named> {
                 .polls(4),
         ),
         named(
+            "to-host-unserved-polls-do-not-count",
+            (0..4).fold(
+                create(8, 0, 64)
+                    .wrapper(reading(10))
+                    .write(&counted(4))
+                    .status(0, 4),
+                |script, _| unserved(script).poll(),
+            ),
+        ),
+        named(
+            "to-host-bytes-put-in-behind-the-status-go-out",
+            create(8, 0, 64)
+                .wrapper(reading(10))
+                .status(0, 4)
+                .write(&counted(4))
+                .polls(4),
+        ),
+        named(
             "to-host-write-data-stops-at-left",
             create(8, 0, 64).wrapper(reading(10)).write(&counted(12)),
         ),
@@ -365,6 +393,20 @@ fn from_host() -> Vec<Named> {
                 .packet(&counted(8))
                 .packet(&counted(4))
                 .polls(3),
+        ),
+        named(
+            "from-host-unserved-polls-do-not-count",
+            [
+                OutAnswer::Packet(counted(8)),
+                OutAnswer::Packet(counted(4)),
+                OutAnswer::Busy,
+                OutAnswer::Busy,
+            ]
+            .into_iter()
+            .fold(
+                device().packet(&counted(8)).status(1, 8),
+                |script, first| unserved(script).out_answers(first),
+            ),
         ),
         named(
             "from-host-bytes-behind-the-wrapper-do-not-count-for-left",
@@ -831,6 +873,168 @@ fn differences() -> Vec<Named> {
         named(
             "diff-status-2-costs-a-bus-reset",
             create(64, 0, 64).wrapper(ready(1)).status(2, 0).poll(),
+        ),
+    ]
+}
+
+/// Demand 3 without one of its premises: the smallest file in which its conclusion is false. The
+/// comments name the premise as crates/readout/specs/Demand.antt does. P is 8, and 32 where a second
+/// message would come in pieces too. For no-status there is `status-set-again-replaces-the-first`.
+fn premises() -> Vec<Named> {
+    let waiting = || create(8, 0, 64);
+    let interrupted = |reset: fn(Script) -> Script| {
+        reset(create(32, 0, 64).wrapper(ready(1)))
+            .wrapper(ready(2))
+            .status(0, 0)
+            .poll()
+    };
+    let glued = |bytes: &[u8], byte| [bytes, &[byte]].concat();
+    vec![
+        // waits: in state 1 nothing is read, so there is no message and no status either.
+        named(
+            "premise-wrapper-behind-an-invalid-one-is-not-taken",
+            create(32, 0, 64)
+                .wrapper(bad_signature())
+                .wrapper(ready(1))
+                .status(0, 0)
+                .poll(),
+        ),
+        // waits: in state 7 the message is data.
+        named(
+            "premise-wrapper-sent-as-data-is-no-command",
+            create(32, 0, 64)
+                .wrapper(writing(31))
+                .wrapper(ready(1))
+                .status(0, 31)
+                .poll(),
+        ),
+        // nothing: what is glued is invalid, and no status is accepted.
+        named(
+            "premise-byte-before-the-wrapper-makes-it-invalid",
+            waiting()
+                .packet(&[0])
+                .wrapper(ready(1))
+                .status(0, 0)
+                .polls(2),
+        ),
+        // nothing: what is glued is valid, and the end of the second wrapper is unread behind it.
+        named(
+            "premise-broken-off-wrapper-takes-16-bytes-of-the-next",
+            create(32, 0, 64)
+                .packet(&reading(1).bytes()[..15])
+                .wrapper(Wrapper::new(2, &counted(16)))
+                .status(0, 0),
+        ),
+        // unfinished: the wrapper was whole two events before, and a reset came between.
+        named(
+            "premise-data-kept-by-a-reset-is-parsed-as-a-wrapper",
+            create(32, 0, 64)
+                .offers(
+                    InAnswer::Accepts,
+                    OutAnswer::Packet(writing(32).bytes()),
+                    OutAnswer::Packet(glued(&reading(1).bytes(), 0xAB)),
+                )
+                .reset()
+                .packet(&[])
+                .status(0, 0),
+        ),
+        // valid: 32 bytes.
+        named(
+            "premise-byte-behind-the-wrapper-goes-out-as-data",
+            glued(&reading(1).bytes(), 0xAB)
+                .chunks(8)
+                .fold(waiting(), |script, packet| script.packet(packet))
+                .status(0, 0),
+        ),
+        // valid: 31 bytes that are no wrapper; no status is accepted.
+        named(
+            "premise-wrong-signature-takes-no-status",
+            waiting().wrapper(bad_signature()).status(0, 0).polls(2),
+        ),
+        named(
+            "premise-wrong-block-length-takes-no-status",
+            waiting()
+                .wrapper(Wrapper {
+                    block_length: 0,
+                    ..ready(1)
+                })
+                .status(0, 0)
+                .polls(2),
+        ),
+        // no-reset, and with it same-command, before the status.
+        named(
+            "premise-reset-before-the-status-gives-it-the-next-tag",
+            interrupted(Script::reset),
+        ),
+        named(
+            "premise-a1-ff-before-the-status-gives-it-the-next-tag",
+            interrupted(|script| script.control(0xA1, 0xFF)),
+        ),
+        // same-command: the status of the next one.
+        named(
+            "premise-status-of-the-next-command-is-another",
+            create(32, 0, 64)
+                .wrapper(ready(1))
+                .status(0, 0)
+                .poll()
+                .wrapper(ready(2))
+                .status(1, 0),
+        ),
+        // no-reset behind the status. An empty packet makes a poll in state 0 a served one.
+        named(
+            "premise-reset-behind-the-status-drops-it",
+            waiting()
+                .wrapper(ready(1))
+                .status(0, 0)
+                .reset()
+                .packet(&[])
+                .packet(&[]),
+        ),
+        named(
+            "premise-a1-ff-within-the-status-leaves-5-bytes-unread",
+            waiting()
+                .wrapper(ready(1))
+                .status(0, 0)
+                .poll()
+                .control(0xA1, 0xFF)
+                .packet(&[]),
+        ),
+        // full: fewer bytes than P and than what is left.
+        named(
+            "premise-short-host-packet-takes-one-poll-more",
+            waiting()
+                .wrapper(writing(2))
+                .status(0, 0)
+                .packet(&[1])
+                .packet(&[2])
+                .polls(2),
+        ),
+        named(
+            "premise-empty-host-packet-takes-one-poll-more",
+            waiting()
+                .wrapper(writing(1))
+                .status(0, 0)
+                .packet(&[])
+                .packet(&[1])
+                .polls(2),
+        ),
+        // few: P + 1 bytes put in, and less than P left.
+        named(
+            "premise-write-all-above-l-loses-a-byte",
+            waiting()
+                .wrapper(reading(1))
+                .write_all(&counted(9))
+                .status(0, 1)
+                .polls(2),
+        ),
+        named(
+            "premise-two-writes-above-l-lose-a-byte",
+            waiting()
+                .wrapper(reading(5))
+                .write(&counted(5))
+                .write(&counted(9)[5..])
+                .status(0, 5)
+                .polls(2),
         ),
     ]
 }
