@@ -106,7 +106,7 @@ kept t u {last} {sent} l =
     record {
       not-before = λ less. let n : NotYet t = d .not-before less in (n .rest, n .some, rw got (n .prefix));
       exactly = λ full {g} {o} c later does.
-      let e : Ends t g = d .exactly full g (rw there at later) (rw there at (served-called c does)) in
-      let same : o ≡ shows (poll g) (ended t) = rw there at (called-shows c) in
-      (rw (got, same) (e .bytes), rw same (e .again));
+          let e : Ends t g = d .exactly full g (rw there at later) (rw there at (served-called c does)) in
+          let same : o ≡ shows (poll g) (ended t) = rw there at (called-shows c) in
+          (rw (got, same) (e .bytes), rw same (e .again));
     }

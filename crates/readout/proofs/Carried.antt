@@ -49,7 +49,7 @@ module _ (w : Wrapper) (p : ℕ) where
   pub before : (h : List Event) (s : Socket) (got put : List ℕ) → Transfer w p got put s → takesStatus (stateNumber (s .device .state)) ≡ true → Throughout Earlier h s → length (put ++ putIn h s) ≤ w .length → Before got put h s
   unfolding run all
   before [] s got put t takes _ few = record { transfer = rw (append-nil, append-nil) t; takes = takes }
-  before (e ∷ h) s got put t takes (f, fs) few = 
+  before (e ∷ h) s got put t takes (f, fs) few =
       let o = shows e s in
       let st : Steps w p got put s (accepts e s) (served e s) o = event-steps w p got put (omega (arith, length-append put (o .put ++ putIn h (next e s)))) s t (some-due s got put t takes) e (f .no-reset) in
       let b : Before (got ++ o .sent) (put ++ o .put) h (next e s) = before h (next e s) (got ++ o .sent) (put ++ o .put) (st .transfer) (f .same-command) fs (rw append-assoc few) in

@@ -254,7 +254,7 @@ promised-length t few = length-append (theData t) (theStatus t) ∙ ap₂ _+_ (b
   where
     by : (q : DataDirection) → length (dataOf q (L t) (firmware t)) ≡ dataLength q (L t)
     by Out = refl
-    by In = length-filled (L t) (firmware t) few
+    by In = length-filled _ (L t) (firmware t) few
     by NotExpected = refl
 
 -- the mission's third demand

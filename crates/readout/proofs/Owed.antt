@@ -58,7 +58,7 @@ module _ (w : Wrapper) (got put : List ℕ) (p : ℕ) (size : 0 < p) (σ : State
   status-owed all = record { rest = bytesFor (w .tag) st; some = omega (arith, thirteen); whole = rw all }
 
   pub owes : Phase w got put σ st left xs → 0 < dueIn σ p left (length xs) → Owes w got put st
-  owes (toHost e dir same sum) more = data-owed dir (filled-behind left (w .length) got xs sum ∙ ap (filledTo (w .length)) same)
+  owes (toHost e dir same sum) more = data-owed dir (filled-behind _ left (w .length) got xs sum ∙ ap (filledTo (w .length)) same)
   owes (waiting e none all) more = status-owed all
   owes (toHostEnding e dir all few) more = data-owed dir all
   owes (fromHost e dir none) more = status-owed (rw dir none)

@@ -98,8 +98,7 @@ module _ (w : Wrapper) (got put : List ℕ) (g : Given) where
 
   -- a packet of the status goes out
   module _ (x : Point) (fit : Fit w x) (s : CommandStatus) (r : Residue) (here : x .device .status ≡ Present s r) (in3 : x .device .state ≡ StatusTransfer)
-    (all : got ++ unreadBytes (bufferAt x) ≡ dataOf (w .direction) (w .length) put ++ statusBytes (w .tag) r (statusNumber s)) (some : 0 < length (unreadBytes (bufferAt x))) where
-
+      (all : got ++ unreadBytes (bufferAt x) ≡ dataOf (w .direction) (w .length) put ++ statusBytes (w .tag) r (statusNumber s)) (some : 0 < length (unreadBytes (bufferAt x))) where
     status-falls : Long (sendStatus g x) → ceiling (length (unreadBytes (bufferAfter (sendStatus g x)))) (P x) + one (sendStatus g x) ≡ ceiling (length (unreadBytes (bufferAt x))) (P x)
     unfolding isServed
     status-falls long =
@@ -211,9 +210,9 @@ module _ (w : Wrapper) (got put : List ℕ) (g : Given) where
           let f : Figures = figures in
           append-assoc got ys (filledTo l rest)
           ∙ ap (λ (zs : List ℕ). got ++ zs)
-          (filled-behind l left ys rest e
+          (filled-behind _ l left ys rest e
           ∙ ap (filledTo left) topped-split
-          ∙ filled-partly left fill xs (omega (arith, f .filled)))
+          ∙ filled-partly _ left fill xs (omega (arith, f .filled)))
           ∙ all
 
       leads-fill : Goes x (owing x) (sendData g (topped x))
@@ -231,7 +230,7 @@ module _ (w : Wrapper) (got put : List ℕ) (g : Given) where
     all-got : x .device .left .0 ≡ 0 → got ≡ dataOf (w .direction) (w .length) put
     all-got none =
         let done : filledTo (x .device .left .0) (unreadBytes (bufferAt x)) ≡ [] =
-        filled-already (x .device .left .0) (unreadBytes (bufferAt x)) (omega arith) ∙ no-bytes (unreadBytes (bufferAt x)) (omega arith) in
+        filled-already _ (x .device .left .0) (unreadBytes (bufferAt x)) (omega arith) ∙ no-bytes (unreadBytes (bufferAt x)) (omega arith) in
         rw dir (sym (append-nil got) ∙ ap (λ (ys : List ℕ). got ++ ys) (sym done) ∙ all)
 
     pub leads-to-ending : isPresent (x .device .status) ≡ true → Goes x (owing x) (toHostEndingRule g x)
@@ -248,7 +247,7 @@ module _ (w : Wrapper) (got put : List ℕ) (g : Given) where
     unread-few = omega (arith, length-append got (unreadBytes (bufferAt x)), ap length same)
 
     to-fill : got ++ filledTo (x .device .left .0) (unreadBytes (bufferAt x)) ≡ filledTo (w .length) put
-    to-fill = filled-behind (x .device .left .0) (w .length) got (unreadBytes (bufferAt x)) sum ∙ ap (filledTo (w .length)) same
+    to-fill = filled-behind _ (x .device .left .0) (w .length) got (unreadBytes (bufferAt x)) sum ∙ ap (filledTo (w .length)) same
 
     module _ (absent : isPresent (x .device .status) ≡ false) where
       leads-rest : Goes x (owing x) (ends g (reaching DataTransferToHost x) (no 4))

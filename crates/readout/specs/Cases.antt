@@ -20,11 +20,11 @@ use Rattle.calls.specs.Checks.{isBroken, unlessBroken, isIn}
 use Rattle.calls.specs.Status.{takesStatus, statusOf, withFigure, acceptedStatus, setStatusCall}
 use Rattle.calls.specs.Data.{worksIn, readOut, limited, writeIn}
 use Rattle.readout.specs.History.{Socket, socket, Event, poll, status, write, read, commandStep, Shows, shows, next, run, all, isServed, isPoll, served, servedIn}
-use Rattle.readout.specs.Demand.{Story, told, ended, R, number, host, servedSince, ceiling, filledTo, theData, theStatus}
+use Rattle.readout.specs.Demand.{Story, told, ended, R, number, host, servedSince, ceiling, filledWith, theData, theStatus}
 
 -- to unfold this is to unfold all that the cases compute with
 unfoldable pub computing : Unit {0}
-unfolding overlay bytesAt counted digits ordered get put getBits isSound unreadBytes moved withRoom appended fitting written filled lacksRoom writtenAll ready buffer.given readOff emptied endpointOf fallen residueOf statusBytes isSigned isBlockLength isValid directionOf wrapperOf blank handed readTold takesOne brought received accepted sendTold sentCount sentOff sentInto filledUp withStatus isPacketSize creation commandFits isWhole statusBy sendStatus dataBy sendData offers offeredBy takeBy takeData statusPut enterStatus statusAwaitRule noDataRule toHostEndingRule fallsShort toHostRule fromHostEndingRule fromHostRule startRule messageAt parseRule readBy readOneBy readCbwRule statusTransferRule ruleIn pollRule isFitting pollCall isBroken unlessBroken isIn takesStatus statusOf withFigure acceptedStatus setStatusCall worksIn readOut limited writeIn shows run all isServed isPoll served servedIn ceiling filledTo
+unfolding overlay bytesAt counted digits ordered get put getBits isSound unreadBytes moved withRoom appended fitting written filled lacksRoom writtenAll ready buffer.given readOff emptied endpointOf fallen residueOf statusBytes isSigned isBlockLength isValid directionOf wrapperOf blank handed readTold takesOne brought received accepted sendTold sentCount sentOff sentInto filledUp withStatus isPacketSize creation commandFits isWhole statusBy sendStatus dataBy sendData offers offeredBy takeBy takeData statusPut enterStatus statusAwaitRule noDataRule toHostEndingRule fallsShort toHostRule fromHostEndingRule fromHostRule startRule messageAt parseRule readBy readOneBy readCbwRule statusTransferRule ruleIn pollRule isFitting pollCall isBroken unlessBroken isIn takesStatus statusOf withFigure acceptedStatus setStatusCall worksIn readOut limited writeIn shows run all isServed isPoll served servedIn ceiling filledWith
 computing = tt
 
 -- ---- the polls

@@ -144,9 +144,12 @@ ceiling n p = (n + (p - 1)) / p
 abbrev pub number : Story → ℕ
 number t = ceiling (R t) (P t) + ceiling 13 (P t)
 
--- bytes, "and then 0xFF up to L"
-unfoldable pub filledTo : ℕ → List ℕ → List ℕ
-filledTo l bytes = bytes ++ replicate (l - length bytes) 0xFF
+-- bytes, and then a filler up to l of them; "and then 0xFF up to L"
+unfoldable pub filledWith : ℕ → ℕ → List ℕ → List ℕ
+filledWith filler l bytes = bytes ++ replicate (l - length bytes) filler
+
+abbrev pub filledTo : ℕ → List ℕ → List ℕ
+filledTo l bytes = filledWith 0xFF l bytes
 
 -- "for a read, the firmware's bytes and then 0xFF up to L, otherwise no data"
 abbrev pub dataOf : DataDirection → ℕ → List ℕ → List ℕ
