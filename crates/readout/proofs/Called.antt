@@ -1,6 +1,6 @@
 -- The demand for the calls themselves: what the code returned, call by call, where each call meets its contract. `Post` is the contract,
 -- as the check reads it. Assumes nothing.
-use mathlib.Core.Path.{_≡_, refl, sym, ap, _∙_}
+use mathlib.Core.Path.{_≡_, refl, ap, _∙_}
 use mathlib.Core.Bool.{true}
 use mathlib.Core.List.{List, [], _∷_, _++_}
 use Prim.Native.Nat.{ℕ, _+_, _<_}
@@ -9,12 +9,12 @@ use denote.Ref.{now}
 use contract.Lifetimes.{Lfts}
 use denote.Triple.Clauses.{AtExit}
 use borrow.Fn.Kinds.{Dens, resT, endedOf}
-use Rattle.bbb.specs.Poll.{Given, Polling, given, pollingOf}
+use Rattle.bbb.specs.Poll.{Given, given, pollingOf}
 use Rattle.bbb.proofs.poll.Kinds as poll-kinds
 use Rattle.bbb.proofs.poll.Reads as poll-reads
-use Rattle.calls.specs.Status.{Stating, statedOf}
-use Rattle.calls.specs.Data.{Moving, movedOf}
-use Rattle.calls.specs.Bus.{Handling, handledOf}
+use Rattle.calls.specs.Status.{statedOf}
+use Rattle.calls.specs.Data.{movedOf}
+use Rattle.calls.specs.Bus.{handledOf}
 use Rattle.calls.specs.Command.{Showing, shownOf, Stepping, steppedOf}
 use Rattle.calls.proofs.set_status.Kinds as status-kinds
 use Rattle.calls.proofs.set_status.Reads as status-reads

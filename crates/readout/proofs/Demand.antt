@@ -1,9 +1,8 @@
 -- The mission's third demand, for every story that meets its premises. Assumes nothing.
-use mathlib.Core.Path.{_≡_, refl, sym, ap, ap₂, _∙_, subst}
-use mathlib.Core.Bool.{Bool, true, false}
+use mathlib.Core.Path.{_≡_, refl, sym, ap, ap₂, _∙_}
+use mathlib.Core.Bool.{true}
 use mathlib.Core.List.{List, [], _∷_, _++_, append-assoc, append-nil}
 use Prim.Native.Nat.{ℕ, _+_, _≤_, _<_}
-use native.Mathlib.Nat.{add-zero}
 use native.Mathlib.Omega.{arith}
 use lib.Dec.{eqb}
 use borrow.Author.Tests.{eqb-true, eqb-false}
@@ -13,33 +12,26 @@ use lib.Seq.{drop-at}
 use Rattle.fields.proofs.Bools.{clash}
 use Rattle.buffer.specs.Buffer.{unread}
 use Rattle.buffer.proofs.Kept.{length-unread}
-use Rattle.ring.specs.declared.State.{State}
-use Rattle.ring.specs.declared.State.the-variants.{StatusTransfer}
 use Rattle.ring.specs.States.{stateNumber}
 use Rattle.wrapper.specs.declared.DataDirection.{DataDirection}
 use Rattle.wrapper.specs.declared.DataDirection.the-variants.{Out, In, NotExpected}
 use Rattle.wrapper.specs.declared.Wrapper.{Wrapper}
-use Rattle.wrapper.specs.declared.status.CommandStatus.{CommandStatus}
-use Rattle.wrapper.specs.declared.counters.Residue.{Residue}
 use Rattle.wrapper.specs.Counters.{residueOf}
-use Rattle.wrapper.specs.Status.{statusNumber, statusBytes}
-use Rattle.wrapper.specs.Wrapper.{Valid, wrapperOf}
+use Rattle.wrapper.specs.Status.{statusNumber}
 use Rattle.wrapper.proofs.Csw.{length-status}
 use Rattle.device.specs.declared.Device.{Device}
-use Rattle.device.specs.declared.Status.{Status}
-use Rattle.device.specs.declared.Status.the-variants.{Absent, Present}
-use Rattle.device.specs.Device.{numbersOf, isPresent, withStatus}
+use Rattle.device.specs.declared.Status.the-variants.{Present}
+use Rattle.device.specs.Device.{numbersOf}
 use Rattle.device.proofs.Wholly.{whole-sound, packet-known, packet-bounds}
 use Rattle.bbb.specs.Poll.{Given}
 use Rattle.calls.specs.declared.Figure.{Figure}
 use Rattle.calls.specs.Checks.{bufferOf}
-use Rattle.calls.specs.Status.{Stating, stating, takesStatus, statusOf, withFigure, setStatusCall}
+use Rattle.calls.specs.Status.{Stating, takesStatus, statusOf, withFigure, setStatusCall}
 use Rattle.calls.proofs.After.{by-status}
-use Rattle.readout.specs.History.{Socket, Event, poll, status, Shows, shows, next, run, all, sentIn, putIn, firstOf, arrivedIn, served, servedIn, isReset, isStatus, accepts}
-use Rattle.readout.specs.Demand.{Story, toWrapper, toStatus, history, parsed, reached, told, ended, message, wrapper, L, P, R, host, firmware, servedSince, Between, Later, Supposed, ceiling, number, dataOf, theData, theStatus, NotYet, Ends, Demand}
-use Rattle.readout.proofs.Ceiling.{ceiling-none, ceiling-some}
+use Rattle.readout.specs.History.{Socket, Event, poll, status, Shows, shows, next, run, all, sentIn, putIn, firstOf, arrivedIn, served, isReset, isStatus, accepts}
+use Rattle.readout.specs.Demand.{Story, toWrapper, toStatus, history, parsed, reached, told, ended, message, wrapper, L, P, R, host, firmware, servedSince, Between, Later, Supposed, number, dataOf, theData, theStatus, NotYet, Ends, Demand}
 use Rattle.readout.proofs.Filled.{length-filled}
-use Rattle.readout.proofs.Transfer.{Phase, toHost, waiting, toHostEnding, fromHost, fromHostEnding, sending, Transfer, unreadIn, due}
+use Rattle.readout.proofs.Transfer.{Transfer, unreadIn, due}
 use Rattle.readout.proofs.Rules.{no-bytes}
 use Rattle.readout.proofs.Steps.{Steps, event-steps}
 use Rattle.readout.proofs.Histories.{run-append, all-append}

@@ -1,16 +1,15 @@
 -- The poll that completes a valid wrapper starts its transfer: nothing was sent or put in for it, and a status is taken. Assumes nothing.
-use mathlib.Core.Path.{_≡_, refl, sym, ap, _∙_, subst}
-use mathlib.Core.Bool.{Bool, true, false, cond}
-use mathlib.Core.List.{List, [], _++_, append-nil}
-use Prim.Native.Nat.{ℕ, _+_, _≤_, _<_, zero-le}
+use mathlib.Core.Path.{_≡_, refl, sym, ap, _∙_}
+use mathlib.Core.Bool.{Bool, true, false}
+use mathlib.Core.List.{List, [], _++_}
+use Prim.Native.Nat.{ℕ, _≤_, _<_, zero-le}
 use native.Mathlib.Nat.{add-zero}
 use native.Mathlib.Omega.{arith}
 use lib.Dec.{eqb}
 use borrow.Author.Tests.{eqb-true}
 use borrow.Table.Steps.{cases}
 use lib.ListN.{length, take, drop, length-append, drop-of-length-le}
-use lib.Seq.{length-take-le, take-all}
-use Rattle.fields.specs.Field.{get, getBits}
+use lib.Seq.{take-all}
 use Rattle.fields.proofs.Bools.{clash}
 use Rattle.buffer.specs.Buffer.{unread, unreadBytes, lacksRoom}
 use Rattle.buffer.proofs.Kept.{length-unread}
@@ -21,17 +20,16 @@ use Rattle.ring.specs.Ring.{byDirection}
 use Rattle.wrapper.specs.declared.DataDirection.{DataDirection}
 use Rattle.wrapper.specs.declared.DataDirection.the-variants.{Out, In, NotExpected}
 use Rattle.wrapper.specs.declared.Wrapper.{Wrapper}
-use Rattle.wrapper.specs.Wrapper.{Valid, wrapperOf, directionOf, dCBWDataTransferLength, direction}
+use Rattle.wrapper.specs.Wrapper.{Valid, wrapperOf, directionOf, direction}
 use Rattle.wrapper.proofs.Cbw.{valid-is}
 use Rattle.device.specs.declared.Status.{Status}
 use Rattle.device.specs.Device.{numbersOf, isPresent}
 use Rattle.device.specs.Broken.{statusFits, Whole}
-use Rattle.device.proofs.Wholly.{packet-known, packet-bounds}
-use Rattle.bbb.specs.Poll.{Given, Polling, Point, bufferAt, leaving, statusAwaitRule, noDataRule, toHostRule, fromHostRule, ordered, startRule, messageAt, behind31, parseRule, refusing, pollRule, Fits, pollCall}
+use Rattle.bbb.specs.Poll.{Given, Polling, Point, bufferAt, leaving, noDataRule, toHostRule, fromHostRule, ordered, startRule, messageAt, behind31, parseRule, refusing, pollRule, pollCall}
 use Rattle.bbb.proofs.Keeping.{Follows, follows-received, follows-31, by-call, call-whole, call-sizes}
 use Rattle.bbb.proofs.After.{P, firstFor, arrived, read-unread, parse-message, parse-rest, parse-valid}
 use Rattle.calls.specs.Status.{takesStatus}
-use Rattle.readout.specs.History.{Socket, socket, poll, Shows, shows, next, firstOf}
+use Rattle.readout.specs.History.{Socket, socket, poll, Shows, shows, firstOf}
 use Rattle.readout.proofs.Transfer.{Phase, toHost, waiting, toHostEnding, fromHost, fromHostEnding, sending, Transfer}
 use Rattle.readout.proofs.Rules.{bytesOf, packetsOf, poll-long, owing, Fit, Leads, leads-await, leads-to, leads-from}
 use Rattle.readout.proofs.Waiting.{Arriving, From, from-count, Reads, idle, short, ripe, ripe-first, by-reading}

@@ -1,10 +1,10 @@
 -- What each rule of a poll does to a command's transfer: the bytes that it sends, the phase that it leads to, and, with a status
 -- present, what is due then. For any point x from which a rule starts. Assumes nothing.
 use mathlib.Core.Path.{_≡_, refl, sym, ap, _∙_, subst}
-use mathlib.Core.Bool.{Bool, true, false, cond, not, _||_}
+use mathlib.Core.Bool.{true, false, cond}
 use mathlib.Core.List.{List, [], _∷_, _++_, append-assoc, append-nil}
-use Prim.Native.Nat.{ℕ, zero, suc, _+_, _-_, _≤_, _<_, min, max, zero-le}
-use native.Mathlib.Nat.{add-zero, zero-add, sub-zero, min-le-left, min-le-right}
+use Prim.Native.Nat.{ℕ, _+_, _-_, _≤_, _<_, min, zero-le}
+use native.Mathlib.Nat.{add-zero, zero-add}
 use native.Mathlib.Omega.{arith}
 use lib.Dec.{eqb}
 use borrow.Table.Steps.{cases}
@@ -12,13 +12,13 @@ use borrow.Author.Tests.{eqb-true, eqb-false, le-ltb}
 use lib.ListN.{length, take, replicate, length-append, length-replicate}
 use lib.Seq.{length-take-le}
 use Rattle.fields.proofs.Bools.{of-picked, clash}
-use Rattle.buffer.specs.Buffer.{Buffer, Sound, buffer, at, unread, unreadBytes, lacksRoom}
+use Rattle.buffer.specs.Buffer.{Sound, buffer, at, unread, unreadBytes, lacksRoom}
 use Rattle.buffer.proofs.Kept.{length-unread}
 use Rattle.buffer.proofs.Room.{lacks-by-unread}
 use Rattle.answers.specs.declared.Endpoint.{Endpoint}
 use Rattle.answers.specs.declared.Endpoint.the-variants.{Served, Busy, Failed}
 use Rattle.answers.specs.Answers.{no, serves, answeredBy}
-use Rattle.ring.specs.declared.State.the-variants.{StatusTransfer, DataTransferToHost, DataTransferToHostStatusAwait, DataTransferToHostEnding, DataTransferFromHost, DataTransferFromHostEnding}
+use Rattle.ring.specs.declared.State.the-variants.{StatusTransfer, DataTransferToHost, DataTransferToHostStatusAwait, DataTransferFromHost, DataTransferFromHostEnding}
 use Rattle.wrapper.specs.declared.DataDirection.the-variants.{Out, In}
 use Rattle.wrapper.specs.declared.Wrapper.{Wrapper}
 use Rattle.wrapper.specs.declared.counters.Residue.{Residue}
@@ -31,9 +31,9 @@ use Rattle.device.specs.declared.Status.{Status}
 use Rattle.device.specs.declared.Status.the-variants.{Absent, Present}
 use Rattle.device.specs.Device.{numbersOf, isPresent}
 use Rattle.device.specs.Broken.{Whole}
-use Rattle.bbb.specs.Poll.{Given, Polling, Point, bufferAt, reaching, leaving, ends, statusBy, sendStatus, dataBy, sendData, offers, offeredBy, takeBy, takeData, statusPut, enterStatus, statusAwaitRule, toHostEndingRule, fallsShort, toHostRule, fromHostEndingRule, fromHostRule, pollRule, Fits}
+use Rattle.bbb.specs.Poll.{Given, Polling, Point, bufferAt, reaching, leaving, ends, statusBy, sendStatus, dataBy, sendData, offers, takeBy, takeData, enterStatus, statusAwaitRule, toHostEndingRule, fallsShort, toHostRule, fromHostEndingRule, fromHostRule, pollRule, Fits}
 use Rattle.bbb.proofs.Keeping.{follows-filled, follows-status, Sizes, poll-sizes}
-use Rattle.bbb.proofs.After.{P, inFor, outFor, offered, bufferAfter, Idle, data-unread, data-sent, data-left, data-told, data-unserved, status-unread, status-sent, status-told, status-unserved, fill-exact, topped, fill-sends, stated, stated-unread, stated-sound, enter-unread, enter-sent, enter-unserved, take-left, take-taken, take-told, take-unserved}
+use Rattle.bbb.proofs.After.{P, inFor, outFor, offered, bufferAfter, Idle, data-unread, data-sent, data-left, data-told, data-unserved, status-unread, status-sent, status-told, status-unserved, fill-exact, topped, stated, stated-unread, stated-sound, take-left, take-taken, take-told, take-unserved}
 use Rattle.readout.specs.History.{isServed, socket}
 use Rattle.readout.specs.Demand.{Full, ceiling, filledTo, dataOf}
 use Rattle.readout.proofs.Ceiling.{ceiling-none, ceiling-falls}

@@ -1,21 +1,21 @@
 -- What each event does to a command's transfer, whatever the endpoints answer and whether the call is accepted or refused.
 -- Assumes nothing.
-use mathlib.Core.Path.{_≡_, refl, sym, ap, ap₂, _∙_, subst}
+use mathlib.Core.Path.{_≡_, refl, sym, ap, ap₂, _∙_}
 use mathlib.Core.Bool.{Bool, true, false, cond, _&&_}
-use mathlib.Core.List.{List, [], _∷_, _++_, append-assoc, append-nil}
-use Prim.Native.Nat.{ℕ, _+_, _-_, _≤_, _<_, min}
+use mathlib.Core.List.{List, [], _++_, append-assoc, append-nil}
+use Prim.Native.Nat.{ℕ, _+_, _≤_, _<_, min}
 use native.Mathlib.Nat.{add-zero}
 use native.Mathlib.Omega.{arith}
 use lib.Dec.{eqb}
 use borrow.Author.Tests.{ne-eqb, eqb-true, eqb-false}
 use borrow.Table.Steps.{cases}
 use lib.ListN.{length, take}
-use lib.Seq.{length-take-le, take-take, take-length}
+use lib.Seq.{take-take, take-length}
 use Rattle.fields.proofs.Bools.{clash}
 use Rattle.buffer.specs.Buffer.{unread, unreadBytes, lacksRoom}
 use Rattle.buffer.proofs.Kept.{length-unread}
 use Rattle.ring.specs.declared.State.{State}
-use Rattle.ring.specs.declared.State.the-variants.{StatusTransfer, DataTransferToHost, DataTransferToHostStatusAwait, DataTransferToHostEnding, DataTransferFromHost, DataTransferFromHostEnding}
+use Rattle.ring.specs.declared.State.the-variants.{StatusTransfer, DataTransferToHost, DataTransferFromHost}
 use Rattle.ring.specs.States.{stateNumber}
 use Rattle.wrapper.specs.declared.Wrapper.{Wrapper}
 use Rattle.device.specs.declared.Device.{Device}
@@ -28,11 +28,11 @@ use Rattle.bbb.proofs.Keeping.{by-call, call-whole, call-sizes}
 use Rattle.calls.specs.declared.Figure.{Figure}
 use Rattle.calls.specs.declared.Request.{Request}
 use Rattle.calls.specs.Checks.{isIn, bufferOf}
-use Rattle.calls.specs.Status.{Stating, stating, takesStatus, withFigure, setStatusCall}
+use Rattle.calls.specs.Status.{Stating, takesStatus, withFigure}
 use Rattle.calls.specs.Data.{Moving, limited, readCall, writeCall, writeAllCall}
-use Rattle.calls.specs.Bus.{Handling, controlCall}
-use Rattle.calls.proofs.After.{by-status, status-whole, data-elsewhere, read-keeps, read-whole, write-keeps, write-whole, write-most, write-unread, write-all-keeps, write-all-whole, write-all-told, write-all-unread, by-request, control-whole}
-use Rattle.readout.specs.History.{Socket, socket, Event, poll, status, write, writeAll, read, reset, control, command, commandStep, Shows, ofStatus, ofBus, shows, next, isServed, isPoll, served, isReset, isStatus, accepts}
+use Rattle.calls.specs.Bus.{Handling}
+use Rattle.calls.proofs.After.{by-status, status-whole, data-elsewhere, read-keeps, read-whole, write-keeps, write-whole, write-most, write-unread, write-all-keeps, write-all-whole, write-all-told, write-all-unread, by-request}
+use Rattle.readout.specs.History.{Socket, socket, Event, poll, status, write, writeAll, read, reset, control, command, commandStep, Shows, ofStatus, ofBus, shows, isServed, isPoll, served, isReset, isStatus, accepts}
 use Rattle.readout.specs.Demand.{Full, ceiling}
 use Rattle.readout.proofs.Ceiling.{ceiling-none}
 use Rattle.readout.proofs.Transfer.{Phase, toHost, waiting, toHostEnding, fromHost, fromHostEnding, sending, Transfer, unreadIn, due, dueIn}

@@ -1,15 +1,14 @@
 -- A poll of a whole record is served where its packets fit and all endpoints do their part: so the number of served polls can be reached.
 -- Assumes nothing.
-use mathlib.Core.Path.{_≡_, refl, sym, ap, _∙_}
+use mathlib.Core.Path.{_≡_, refl}
 use mathlib.Core.Bool.{Bool, true, false, _&&_}
-use mathlib.Core.List.{List}
 use Prim.Native.Nat.{ℕ}
 use lib.Dec.{eqb, leb}
 use lib.ListN.{length}
 use Rattle.fields.proofs.Bools.{of-picked}
 use Rattle.buffer.specs.Buffer.{Buffer, buffer, at, unread, lacksRoom}
 use Rattle.answers.specs.declared.Endpoint.{Endpoint}
-use Rattle.answers.specs.Answers.{Told, no, endpointOf, serves}
+use Rattle.answers.specs.Answers.{Told, endpointOf, serves}
 use Rattle.ring.specs.declared.State.{State}
 use Rattle.ring.specs.declared.State.the-variants.{CommandTransfer, CommandTransferInvalid, DataTransferNoData, StatusTransfer, DataTransferToHost, DataTransferToHostStatusAwait, DataTransferToHostEnding, DataTransferFromHost, DataTransferFromHostEnding}
 use Rattle.wrapper.specs.Wrapper.{isValid, wrapperOf}
