@@ -7,6 +7,11 @@ use native.Mathlib.Omega.{arith}
 use lib.ListN.{length, take, drop, getD, length-drop, drop-of-length-le}
 use lib.Seq.{length-take-le, take-add, drop-at, drop-cons, sets, sets-eq}
 
+-- a list of no elements is empty
+pub none-of : (l : List ℕ) → length l ≡ 0 → l ≡ []
+none-of [] e = refl
+none-of (x ∷ xs) e = absurd (omega arith)
+
 -- n elements from index f on are n elements, where there are so many
 pub length-part : (f n : ℕ) (l : List ℕ) → f + n ≤ length l → length (take n (drop f l)) ≡ n
 length-part f n l h = length-take-le n (drop f l) (simp length-drop (omega arith))

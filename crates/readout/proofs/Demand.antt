@@ -4,12 +4,9 @@ use mathlib.Core.Bool.{true}
 use mathlib.Core.List.{List, [], _∷_, _++_, append-assoc, append-nil}
 use Prim.Native.Nat.{ℕ, _+_, _≤_, _<_}
 use native.Mathlib.Omega.{arith}
-use lib.Dec.{eqb}
-use borrow.Author.Tests.{eqb-true, eqb-false}
-use borrow.Table.Steps.{cases}
 use lib.ListN.{length, drop, length-append}
 use lib.Seq.{drop-at}
-use Rattle.fields.proofs.Bools.{clash}
+use Rattle.fields.proofs.Seq.{none-of}
 use Rattle.buffer.specs.Buffer.{unread}
 use Rattle.buffer.proofs.Kept.{length-unread}
 use Rattle.ring.specs.States.{stateNumber}
@@ -17,22 +14,19 @@ use Rattle.wrapper.specs.declared.DataDirection.{DataDirection}
 use Rattle.wrapper.specs.declared.DataDirection.the-variants.{Out, In, NotExpected}
 use Rattle.wrapper.specs.declared.Wrapper.{Wrapper}
 use Rattle.wrapper.specs.Counters.{residueOf}
-use Rattle.wrapper.specs.Status.{statusNumber}
 use Rattle.wrapper.proofs.Csw.{length-status}
 use Rattle.device.specs.declared.Device.{Device}
 use Rattle.device.specs.declared.Status.the-variants.{Present}
 use Rattle.device.specs.Device.{numbersOf}
 use Rattle.device.proofs.Wholly.{whole-sound, packet-known, packet-bounds}
 use Rattle.bbb.specs.Poll.{Given}
-use Rattle.calls.specs.declared.Figure.{Figure}
 use Rattle.calls.specs.Checks.{bufferOf}
-use Rattle.calls.specs.Status.{Stating, takesStatus, statusOf, withFigure, setStatusCall}
-use Rattle.calls.proofs.After.{by-status}
+use Rattle.calls.specs.Status.{takesStatus, statusOf, withFigure, setStatusCall}
+use Rattle.calls.proofs.After.{Accepted, status-accepted, status-byte}
 use Rattle.readout.specs.History.{Socket, Event, poll, status, Shows, shows, next, run, all, sentIn, putIn, firstOf, arrivedIn, served, isReset, isStatus, accepts}
 use Rattle.readout.specs.Demand.{Story, toWrapper, toStatus, history, parsed, reached, told, ended, message, wrapper, L, P, R, host, firmware, servedSince, Between, Later, Supposed, number, dataOf, theData, theStatus, NotYet, Ends, Demand}
 use Rattle.readout.proofs.Filled.{length-filled}
 use Rattle.readout.proofs.Transfer.{Transfer, unreadIn, due}
-use Rattle.readout.proofs.Rules.{no-bytes}
 use Rattle.readout.proofs.Steps.{Steps, event-steps}
 use Rattle.readout.proofs.Histories.{run-append, all-append}
 use Rattle.readout.proofs.Carried.{takes-due, some-due, Before, before, After, after}
@@ -65,28 +59,9 @@ waits-arriving s b = record {
   whole = b .whole;
   packetsize = refl;
   waits = b .waits;
-  unread = no-bytes (unreadIn s) (length-unread (bufferOf (s .device) (s .io)) (whole-sound (numbersOf (s .device)) (s .io) (b .whole)) ∙ b .nothing);
+  unread = none-of (unreadIn s) (length-unread (bufferOf (s .device) (s .io)) (whole-sound (numbersOf (s .device)) (s .io) (b .whole)) ∙ b .nothing);
   none-in-3 = λ _. refl;
 }
-
--- ---- an accepted status
-
--- the record with it, and its byte
-record Accepted (d : Device) (f : Figure) (o : Stating) : Type 0 where
-  device : o .device ≡ withFigure f d
-  byte : f .status ≤ 2
-
-accepted-is : (d : Device) (io : List ℕ) (f : Figure) → eqb (setStatusCall d io f .number) 0 ≡ true → Accepted d f (setStatusCall d io f)
-accepted-is d io f =
-    by-status d io f (λ (o : Stating). eqb (o .number) 0 ≡ true → Accepted d f o) (λ h. absurd (clash (sym h))) (λ h. absurd (clash (sym h)))
-    (λ _ byte _. record { device = refl; byte = byte })
-
--- 0, 1 and 2 are the bytes of the three
-byte-is : (b : ℕ) → b ≤ 2 → statusNumber (statusOf b) ≡ b
-unfolding statusOf
-byte-is b h =
-    cases (eqb b 0) (λ e. rw e (sym (eqb-true b 0 e)))
-    (λ e. cases (eqb b 1) (λ k. rw (e, k) (sym (eqb-true b 1 k))) (λ k. rw (e, k) (omega (arith, eqb-false b 0 e, eqb-false b 1 k))))
 
 -- ---- a story
 
@@ -147,7 +122,7 @@ module _ (t : Story) (u : Supposed t) where
 
   here : Accepted (reached t .device) (t .figure) (setStatusCall (reached t .device) (reached t .io) (t .figure))
   unfolding accepts isStatus shows
-  here = accepted-is (reached t .device) (reached t .io) (t .figure) (u .accepted)
+  here = status-accepted (reached t .device) (reached t .io) (t .figure) (u .accepted)
 
   -- the record with it
   told-is : told t .device ≡ withFigure (t .figure) (reached t .device)
@@ -207,7 +182,7 @@ module _ (t : Story) (u : Supposed t) where
 
   -- the status that is promised is the one that is present
   the-status : bytesFor (wrapper t .tag) (Present (statusOf (t .figure .status)) (residueOf (L t) (t .figure .processed))) ≡ theStatus t
-  the-status = rw (byte-is (t .figure .status) (here .byte))
+  the-status = rw (status-byte (t .figure .status) (here .byte))
 
   positive : 0 < P t
   positive = omega (arith, packet-bounds (P t) (packet-known (numbersOf (t .start .device)) (length (t .start .io)) (u .between .whole)) .0)

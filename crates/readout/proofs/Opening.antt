@@ -1,13 +1,10 @@
 -- The poll that completes a valid wrapper starts its transfer: nothing was sent or put in for it, and a status is taken. Assumes nothing.
 use mathlib.Core.Path.{_≡_, refl, sym, ap, _∙_}
-use mathlib.Core.Bool.{Bool, true, false}
+use mathlib.Core.Bool.{true, false}
 use mathlib.Core.List.{List, [], _++_}
 use Prim.Native.Nat.{ℕ, _≤_, _<_, zero-le}
 use native.Mathlib.Nat.{add-zero}
 use native.Mathlib.Omega.{arith}
-use lib.Dec.{eqb}
-use borrow.Author.Tests.{eqb-true}
-use borrow.Table.Steps.{cases}
 use lib.ListN.{length, take, drop, length-append, drop-of-length-le}
 use lib.Seq.{take-all}
 use Rattle.fields.proofs.Bools.{clash}
@@ -20,8 +17,8 @@ use Rattle.ring.specs.Ring.{byDirection}
 use Rattle.wrapper.specs.declared.DataDirection.{DataDirection}
 use Rattle.wrapper.specs.declared.DataDirection.the-variants.{Out, In, NotExpected}
 use Rattle.wrapper.specs.declared.Wrapper.{Wrapper}
-use Rattle.wrapper.specs.Wrapper.{Valid, wrapperOf, directionOf, direction}
-use Rattle.wrapper.proofs.Cbw.{valid-is}
+use Rattle.wrapper.specs.Wrapper.{Valid, wrapperOf, direction}
+use Rattle.wrapper.proofs.Cbw.{valid-is, no-data-only}
 use Rattle.device.specs.declared.Status.{Status}
 use Rattle.device.specs.Device.{numbersOf, isPresent}
 use Rattle.device.specs.Broken.{statusFits, Whole}
@@ -33,18 +30,6 @@ use Rattle.readout.specs.History.{Socket, socket, poll, Shows, shows, fi
 use Rattle.readout.proofs.Transfer.{Phase, toHost, waiting, toHostEnding, fromHost, fromHostEnding, sending, Transfer}
 use Rattle.readout.proofs.Rules.{bytesOf, packetsOf, poll-long, owing, Fit, Leads, leads-await, leads-to, leads-from}
 use Rattle.readout.proofs.Waiting.{Arriving, From, from-count, Reads, idle, short, ripe, ripe-first, by-reading}
-
--- "L = 0 means no data": and only that
-abbrev isExpected : DataDirection → Bool
-isExpected Out = true
-isExpected In = true
-isExpected NotExpected = false
-
-no-length : (l b : ℕ) → directionOf l b ≡ NotExpected → l ≡ 0
-unfolding directionOf
-no-length l b e =
-    cases (eqb l 0) (λ h. eqb-true l 0 h)
-    (λ h. cases (eqb b 1) (λ k. absurd (clash (ap isExpected (rw (h, k) at e)))) (λ k. absurd (clash (ap isExpected (rw (h, k) at e)))))
 
 -- without a status the device is where one is taken
 absent-takes : {w : Wrapper} {got put : List ℕ} {σ : State} {st : Status} {left : ℕ} {xs : List ℕ} → Phase w got put σ st left xs → isPresent st ≡ false → statusFits σ (isPresent st) ≡ true → takesStatus (stateNumber σ) ≡ true
@@ -73,7 +58,7 @@ module _ (msg : List ℕ) (g : Given) (y : Point) (fit : Fit (wrapperOf msg) (or
   unfolding noDataRule wrapperOf
   start-by Out e = leads-from w [] [] g z fit e refl (λ present. absurd (clash (sym present ∙ absent))) small
   start-by In e = leads-to w [] [] g z fit e none (add-zero _) zero-le
-  start-by NotExpected e = leads-await w [] [] g z fit (no-length (w .length) _ e) (rw e)
+  start-by NotExpected e = leads-await w [] [] g z fit (no-data-only (w .length) _ e) (rw e)
 
   leads-start : Starts (startRule w g y)
   unfolding startRule

@@ -7,6 +7,7 @@ use lib.Dec.{eqb}
 use borrow.Author.Tests.{eqb-true, eqb-false}
 use borrow.Table.Steps.{cases}
 use lib.ListN.{length, length-append}
+use Rattle.fields.proofs.Seq.{none-of}
 use Rattle.ring.specs.declared.State.{State}
 use Rattle.ring.specs.declared.State.the-variants.{StatusTransfer}
 use Rattle.wrapper.specs.declared.DataDirection.the-variants.{In}
@@ -21,7 +22,6 @@ use Rattle.readout.specs.Demand.{ceiling, filledTo, dataOf}
 use Rattle.readout.proofs.Ceiling.{ceiling-none, ceiling-some}
 use Rattle.readout.proofs.Filled.{filled-behind}
 use Rattle.readout.proofs.Transfer.{Phase, toHost, waiting, toHostEnding, fromHost, fromHostEnding, sending, dueIn}
-use Rattle.readout.proofs.Rules.{no-bytes}
 
 -- the bytes of a status that is present
 abbrev pub bytesFor : ℕ → Status → List ℕ
@@ -84,5 +84,5 @@ module _ (w : Wrapper) (got put : List ℕ) (p : ℕ) (size : 0 < p) (σ : State
   rests (fromHostEnding e dir none) done = absurd (not-done (rw e at done))
   rests (sending c k e there all) done =
       let out : ceiling (length xs) p ≡ 0 = rw e at done in
-      let none : xs ≡ [] = no-bytes xs (cases (eqb (length xs) 0) (λ h. eqb-true (length xs) 0 h) (λ h. absurd (omega (arith, ceiling-some p (length xs) size (omega (arith, eqb-false (length xs) 0 h)))))) in
+      let none : xs ≡ [] = none-of xs (cases (eqb (length xs) 0) (λ h. eqb-true (length xs) 0 h) (λ h. absurd (omega (arith, ceiling-some p (length xs) size (omega (arith, eqb-false (length xs) 0 h)))))) in
       record { whole = sym (append-nil got) ∙ ap (λ (l : List ℕ). got ++ l) (sym none) ∙ rw there all; state = e; none = none }

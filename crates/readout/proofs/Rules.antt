@@ -12,6 +12,7 @@ use borrow.Author.Tests.{eqb-true, eqb-false, le-ltb}
 use lib.ListN.{length, take, replicate, length-append, length-replicate}
 use lib.Seq.{length-take-le}
 use Rattle.fields.proofs.Bools.{of-picked, clash}
+use Rattle.fields.proofs.Seq.{none-of}
 use Rattle.buffer.specs.Buffer.{Sound, buffer, at, unread, unreadBytes, lacksRoom}
 use Rattle.buffer.proofs.Kept.{length-unread}
 use Rattle.buffer.proofs.Room.{lacks-by-unread}
@@ -81,10 +82,6 @@ unfolding isServed
 unserved Served h = absurd (clash h)
 unserved Busy h = refl
 unserved (Failed n) h = refl
-
-pub no-bytes : (xs : List ℕ) → length xs ≡ 0 → xs ≡ []
-no-bytes [] e = refl
-no-bytes (x ∷ xs) e = absurd (omega arith)
 
 module _ (w : Wrapper) (got put : List ℕ) (g : Given) where
   -- where the packet buffer holds all that was sent
@@ -230,7 +227,7 @@ module _ (w : Wrapper) (got put : List ℕ) (g : Given) where
     all-got : x .device .left .0 ≡ 0 → got ≡ dataOf (w .direction) (w .length) put
     all-got none =
         let done : filledTo (x .device .left .0) (unreadBytes (bufferAt x)) ≡ [] =
-        filled-already _ (x .device .left .0) (unreadBytes (bufferAt x)) (omega arith) ∙ no-bytes (unreadBytes (bufferAt x)) (omega arith) in
+        filled-already _ (x .device .left .0) (unreadBytes (bufferAt x)) (omega arith) ∙ none-of (unreadBytes (bufferAt x)) (omega arith) in
         rw dir (sym (append-nil got) ∙ ap (λ (ys : List ℕ). got ++ ys) (sym done) ∙ all)
 
     pub leads-to-ending : isPresent (x .device .status) ≡ true → Goes x (owing x) (toHostEndingRule g x)

@@ -3,7 +3,7 @@
 --     parsed-valid, parsed-accepted    what is valid parses to all its fields, and nothing else is taken
 --     ways                             what each way through a function owes
 -- Assumes nothing.
-use mathlib.Core.Path.{_≡_, refl, sym, _∙_}
+use mathlib.Core.Path.{_≡_, refl, sym, ap, _∙_}
 use mathlib.Core.Bool.{Bool, true, false, cond}
 use mathlib.Core.List.{List}
 use Prim.Native.Nat.{ℕ, _≤_, _<_}
@@ -12,7 +12,8 @@ use lib.Dec.{eqb, leb}
 use lib.ListN.{length}
 use borrow.Author.Tests.{eq-eqb, ne-eqb, eqb-true, leb-true, le-leb, lt-leb}
 use Rattle.fields.specs.Field.{get, bytesAt, getBits}
-use Rattle.fields.proofs.Bools.{and-left, and-right}
+use borrow.Table.Steps.{cases}
+use Rattle.fields.proofs.Bools.{and-left, and-right, clash}
 use Rattle.fields.proofs.Seq.{length-part, listed, part-listed}
 use Rattle.wrapper.specs.declared.DataDirection.{DataDirection}
 use Rattle.wrapper.specs.declared.DataDirection.the-variants.{Out, In, NotExpected}
@@ -104,6 +105,18 @@ length-block m v = length-part 15 16 m (omega (arith, v .whole))
 pub no-data : (l b : ℕ) → l ≡ 0 → NotExpected ≡ directionOf l b
 unfolding directionOf
 no-data l b e = rw (eq-eqb _ _ e)
+
+-- and nothing else means no data
+abbrev isExpected : DataDirection → Bool
+isExpected Out = true
+isExpected In = true
+isExpected NotExpected = false
+
+pub no-data-only : (l b : ℕ) → directionOf l b ≡ NotExpected → l ≡ 0
+unfolding directionOf
+no-data-only l b e =
+    cases (eqb l 0) (λ h. eqb-true l 0 h)
+    (λ h. cases (eqb b 1) (λ k. absurd (clash (ap isExpected (rw (h, k) at e)))) (λ k. absurd (clash (ap isExpected (rw (h, k) at e)))))
 
 pub to-host : (l b : ℕ) → (l ≡ 0 → ⊥) → b ≡ 1 → In ≡ directionOf l b
 unfolding directionOf
