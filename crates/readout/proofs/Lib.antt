@@ -1,3 +1,18 @@
+-- proofs.Ceiling      the quotient rounded up
+-- proofs.Filled       bytes, and then a filler
+-- proofs.Transfer     a command's transfer: the invariant, and the number that falls at each served poll
+-- proofs.Rules        what each rule of a poll does to a transfer
+-- proofs.Steps        what each event does to it
+-- proofs.Histories    a history that goes on
+-- proofs.Carried      the invariant and the number, carried through a history
+-- proofs.Waiting      a device that waits for a wrapper, and a poll of it
+-- proofs.Arrival      while the wrapper arrives
+-- proofs.Opening      the poll that completes it
+-- proofs.Owed         what the host is still to get
+-- proofs.Willing      which polls are served
+-- proofs.Demand       demand 3
+-- proofs.Called       the same for the calls themselves
+-- proofs.Premises     what is supposed can be met
 pub mod Ceiling
 pub mod Filled
 pub mod Transfer

@@ -1,6 +1,6 @@
 -- A device that waits for a wrapper, and a poll of it: from where it reads, and what comes of the packet. Assumes nothing.
 use mathlib.Core.Path.{_≡_, refl, sym, ap, _∙_, subst}
-use mathlib.Core.Bool.{true, false}
+use mathlib.Core.Bool.{Bool, true, false}
 use mathlib.Core.List.{List, [], _∷_}
 use Prim.Native.Nat.{ℕ, zero, suc, _+_, _≤_, _<_}
 use native.Mathlib.Omega.{arith}
@@ -15,7 +15,8 @@ use Rattle.answers.specs.Answers.{no, serves}
 use Rattle.ring.specs.declared.State.{State}
 use Rattle.ring.specs.declared.State.the-variants.{CommandTransfer, CommandTransferInvalid, DataTransferNoData, StatusTransfer, DataTransferToHost, DataTransferToHostStatusAwait, DataTransferToHostEnding, DataTransferFromHost, DataTransferFromHostEnding}
 use Rattle.ring.specs.States.{stateNumber}
-use Rattle.device.specs.Device.{numbersOf, isPresent}
+use Rattle.device.specs.declared.Device.{Device}
+use Rattle.device.specs.Device.{numbersOf, isPresent, entering0}
 use Rattle.device.specs.Broken.{Whole}
 use Rattle.device.proofs.Wholly.{whole-sound, absent-in-0, wrapper-fits, packet-fits, packet-known, packet-bounds}
 use Rattle.bbb.specs.Poll.{Given, Polling, Point, point, bufferAt, ends, parseRule, readCbwRule, entering, statusTransferRule, ruleIn, pollRule, Fits}
@@ -104,38 +105,29 @@ module _ (p : ℕ) (m : List ℕ) (s : Socket) (a : Arriving p m s) (g : Given) 
   marks-sound : Sound (bufferOf (s .device) (s .io))
   marks-sound = whole-sound (numbersOf (s .device)) (s .io) (a .whole)
 
-  -- the poll reads where it starts
-  from-0 : s .device .state ≡ CommandTransfer → From m g start
-  from-0 e = record {
-    sound = marks-sound;
-    small = fits .first;
-    some = omega (arith, packet-bounds (s .device .packetsize) (packet-known (numbersOf (s .device)) (length (s .io)) (a .whole)) .0);
-    packet = packet-fits (numbersOf (s .device)) (length (s .io)) (a .whole);
-    wide = wrapper-fits (numbersOf (s .device)) (length (s .io)) (a .whole);
-    unread = a .unread;
-    state = e;
-    absent = absent-in-0 (numbersOf (s .device)) (length (s .io)) (a .whole) e;
-    taken = refl;
-  }
+  -- a point with the record's marks reads what is unread
+  from : (d : Device) (unstalled : Bool) → d .packetsize ≡ s .device .packetsize → d .marks ≡ s .device .marks → d .state ≡ CommandTransfer → isPresent (d .status) ≡ false → From m g (point d (s .io) 0 unstalled)
+  from d unstalled size marks state absent =
+      let n = numbersOf (s .device) in
+      let len = length (s .io) in
+      record {
+        sound = rw marks marks-sound;
+        small = rw size (fits .first);
+        some = rw size (omega (arith, packet-bounds (s .device .packetsize) (packet-known n len (a .whole)) .0));
+        packet = rw size (packet-fits n len (a .whole));
+        wide = wrapper-fits n len (a .whole);
+        unread = rw marks (a .unread);
+        state = state;
+        absent = absent;
+        taken = refl;
+      }
 
+  -- the poll reads where it starts
   rule-0 : s .device .state ≡ CommandTransfer → polled ≡ readCbwRule g start
   unfolding pollRule ruleIn
   rule-0 e = subst (λ (σ : State). ruleIn σ g start ≡ readCbwRule g start) (sym e) refl
 
   -- or behind entering 0
-  from-3 : From m g (entering start)
-  from-3 = record {
-    sound = marks-sound;
-    small = fits .first;
-    some = omega (arith, packet-bounds (s .device .packetsize) (packet-known (numbersOf (s .device)) (length (s .io)) (a .whole)) .0);
-    packet = packet-fits (numbersOf (s .device)) (length (s .io)) (a .whole);
-    wide = wrapper-fits (numbersOf (s .device)) (length (s .io)) (a .whole);
-    unread = a .unread;
-    state = refl;
-    absent = refl;
-    taken = refl;
-  }
-
   rule-3 : s .device .state ≡ StatusTransfer → polled ≡ readCbwRule g (entering start)
   unfolding pollRule ruleIn statusTransferRule
   rule-3 e =
@@ -144,5 +136,7 @@ module _ (p : ℕ) (m : List ℕ) (s : Socket) (a : Arriving p m s) (g : Given) 
 
   pub by-reading : {A : Type 0} → ((x : Point) → From m g x → Reads g x polled → A) → A
   by-reading {A} go =
-      let from : (x : Point) → From m g x → polled ≡ readCbwRule g x → A = λ x f e. go x f (subst (Reads g x) (sym e) (reads g x (f .sound) (f .small))) in
-      waits-by (s .device .state) (a .waits) (λ e. from start (from-0 e) (rule-0 e)) (λ e. from (entering start) from-3 (rule-3 e))
+      let reading : (x : Point) → From m g x → polled ≡ readCbwRule g x → A = λ x f e. go x f (subst (Reads g x) (sym e) (reads g x (f .sound) (f .small))) in
+      waits-by (s .device .state) (a .waits)
+      (λ e. reading start (from (s .device) false refl refl e (absent-in-0 (numbersOf (s .device)) (length (s .io)) (a .whole) e)) (rule-0 e))
+      (λ e. reading (entering start) (from (entering0 (s .device)) true refl refl refl refl) (rule-3 e))
