@@ -12,7 +12,9 @@
 -- proofs.Willing      which polls are served
 -- proofs.Demand       demand 3
 -- proofs.Called       the same for the calls themselves
--- proofs.Premises     what is supposed can be met
+-- proofs.Premises     what is supposed, as tests; it can be met
+-- proofs.Enough       ten of the twelve premises suffice
+-- proofs.Needed       each of the ten is needed
 pub mod Ceiling
 pub mod Filled
 pub mod Transfer
@@ -28,3 +30,5 @@ pub mod Willing
 pub mod Demand
 pub mod Called
 pub mod Premises
+pub mod Enough
+pub mod Needed

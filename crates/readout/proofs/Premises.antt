@@ -1,14 +1,17 @@
--- What demand 3 supposes can be met: document 01's three cases and one of ours are such stories, and one more served poll ends each.
+-- What demand 3 supposes, as tests; and it can be met: document 01's three cases and one of ours are such stories, and one more served poll
+-- ends each.
+--     broken     the premises that a story breaks
 --     met-..     all that is supposed of the story
 --     ends-..    what the demand says of the poll that ends it
 -- Assumes nothing.
-use mathlib.Core.Path.{_≡_, refl}
-use mathlib.Core.Bool.{Bool, true, not, _&&_}
-use mathlib.Core.List.{List, [], _∷_}
+use mathlib.Core.Path.{_≡_, refl, sym}
+use mathlib.Core.Bool.{Bool, true, false, cond, not, _&&_}
+use mathlib.Core.List.{List, [], _∷_, nil≢cons}
 use Prim.Native.Nat.{ℕ, _+_, min}
 use lib.Dec.{eqb, ltb, leb}
 use lib.ListN.{length}
 use borrow.Author.Tests.{eqb-true, ltb-true, leb-true}
+use borrow.Table.Steps.{cases}
 use Rattle.fields.proofs.Bools.{and-left, and-right, not-true}
 use Rattle.buffer.specs.Buffer.{unread}
 use Rattle.ring.specs.States.{stateNumber}
@@ -25,17 +28,21 @@ use Rattle.readout.specs.Demand.{Story, parsed, reached, told, ended, me
 use Rattle.readout.specs.Cases.{computing, sending, read64, bare8, short8, write8}
 use Rattle.readout.proofs.Demand.{demand}
 
--- ---- what is supposed, as tests that can be computed
+-- ---- what is supposed of events, as tests that can be computed
 
-isEarlier : Event → Socket → Bool
-isEarlier e s = not (isReset e) && takesStatus (stateNumber (next e s .device .state))
+-- it is no reset
+keeps : Event → Socket → Bool
+keeps e s = not (isReset e)
 
-is-earlier : (e : Event) (s : Socket) → isEarlier e s ≡ true → Earlier e s
-unfolding isEarlier
-is-earlier e s h =
-    let same = takesStatus (stateNumber (next e s .device .state)) in
-    record { no-reset = not-true _ (and-left (not (isReset e)) same h); same-command = and-right (not (isReset e)) same h }
+-- behind it the device is where a status is taken
+stays : Event → Socket → Bool
+stays e s = takesStatus (stateNumber (next e s .device .state))
 
+-- it is no accepted status
+leaves : Event → Socket → Bool
+leaves e s = not (accepts e s)
+
+-- the packets that it takes are full
 isFull : ℕ → List (List ℕ) → Bool
 isFull n [] = true
 isFull n (packet ∷ packets) = eqb (length packet) n && isFull n packets
@@ -45,81 +52,145 @@ unfolding isFull
 is-full n [] h = tt
 is-full n (packet ∷ packets) h = (eqb-true _ _ (and-left (eqb (length packet) n) (isFull n packets) h), is-full n packets (and-right (eqb (length packet) n) (isFull n packets) h))
 
-isLater : Event → Socket → Bool
-isLater e s = not (isReset e) && (not (accepts e s) && isFull (min (s .device .packetsize) (s .device .left .0)) (shows e s .taken))
-
-is-later : (e : Event) (s : Socket) → isLater e s ≡ true → Later e s
-unfolding isLater
-is-later e s h =
-    let full = isFull (min (s .device .packetsize) (s .device .left .0)) (shows e s .taken) in
-    let rest = and-right (not (isReset e)) (not (accepts e s) && full) h in
-    record {
-      no-reset = not-true _ (and-left (not (isReset e)) (not (accepts e s) && full) h);
-      no-status = not-true _ (and-left (not (accepts e s)) full rest);
-      full = is-full _ _ (and-right (not (accepts e s)) full rest);
-    }
+pub fills : Event → Socket → Bool
+fills e s = isFull (min (s .device .packetsize) (s .device .left .0)) (shows e s .taken)
 
 -- at each event of a history
 throughout : (Event → Socket → Bool) → List Event → Socket → Bool
 throughout test [] s = true
 throughout test (e ∷ h) s = test e s && throughout test h (next e s)
 
-is-throughout : (test : Event → Socket → Bool) (Holds : Event → Socket → Type 0) → ((e : Event) (s : Socket) → test e s ≡ true → Holds e s)
-    → (h : List Event) (s : Socket) → throughout test h s ≡ true → Throughout Holds h s
+is-throughout : (test : Event → Socket → Bool) (h : List Event) (s : Socket) → throughout test h s ≡ true → Throughout (λ e s. test e s ≡ true) h s
 unfolding throughout
-is-throughout test Holds holds [] s q = tt
-is-throughout test Holds holds (e ∷ h) s q =
+is-throughout test [] s q = tt
+is-throughout test (e ∷ h) s q =
     let rest = throughout test h (next e s) in
-    (holds e s (and-left (test e s) rest q), is-throughout test Holds holds h (next e s) (and-right (test e s) rest q))
+    (and-left (test e s) rest q, is-throughout test h (next e s) (and-right (test e s) rest q))
 
-supposed-by : (t : Story)
-    → isWhole (numbersOf (t .start .device)) (length (t .start .io)) ≡ true → waitsIn (t .start .device .state) ≡ true → unread (bufferOf (t .start .device) (t .start .io)) ≡ 0
-    → ltb (length (arrivedIn (t .arrival) (t .start))) 31 ≡ true → isValid (message t) ≡ true
-    → throughout isEarlier (t .before) (parsed t) ≡ true → accepts (status (t .figure)) (reached t) ≡ true → throughout isLater (t .after) (told t) ≡ true
-    → leb (length (firmware t)) (L t) ≡ true → Supposed t
-supposed-by t whole waits nothing unfinished valid earlier accepted later few = record {
-  between = record { whole = is-whole _ _ whole; waits = waits; nothing = nothing };
-  unfinished = ltb-true _ _ unfinished;
-  valid = is-valid _ valid;
-  earlier = is-throughout isEarlier Earlier is-earlier (t .before) (parsed t) earlier;
-  accepted = accepted;
-  later = is-throughout isLater Later is-later (t .after) (told t) later;
-  few = leb-true _ _ few;
+both : {A B C : Event → Socket → Type 0} → ((e : Event) (s : Socket) → A e s → B e s → C e s) → (h : List Event) (s : Socket) → Throughout A h s → Throughout B h s → Throughout C h s
+both join [] s _ _ = tt
+both join (e ∷ h) s (a, more) (b, rest) = (join e s a b, both join h (next e s) more rest)
+
+is-earlier : (h : List Event) (s : Socket) → throughout keeps h s ≡ true → throughout stays h s ≡ true → Throughout Earlier h s
+unfolding keeps stays
+is-earlier h s kept same = both (λ e s a b. record { no-reset = not-true _ a; same-command = b }) h s (is-throughout keeps h s kept) (is-throughout stays h s same)
+
+is-later : (h : List Event) (s : Socket) → throughout keeps h s ≡ true → throughout leaves h s ≡ true → throughout fills h s ≡ true → Throughout Later h s
+unfolding keeps leaves fills
+is-later h s kept left filled =
+    let quiet : Throughout (λ e s. (isReset e ≡ false) × (accepts e s ≡ false)) h s = both (λ e s a b. (not-true _ a, not-true _ b)) h s (is-throughout keeps h s kept) (is-throughout leaves h s left) in
+    both (λ e s a b. record { no-reset = a .0; no-status = a .1; full = is-full _ _ b }) h s quiet (is-throughout fills h s filled)
+
+-- a poll is no reset and no status
+pub poll-later : (g : Given) (s : Socket) → fills (poll g) s ≡ true → Later (poll g) s
+unfolding fills isReset isStatus accepts
+poll-later g s filled = record { no-reset = refl; no-status = refl; full = is-full _ _ filled }
+
+-- ---- the premises
+
+-- by their names in `Supposed`; of the two that are `no-reset` there, the one up to the status, and the one behind it
+pub data Premise : Type 0 where
+  whole : Premise
+  waits : Premise
+  nothing : Premise
+  unfinished : Premise
+  valid : Premise
+  no-reset-before : Premise
+  same-command : Premise
+  accepted : Premise
+  no-reset : Premise
+  no-status : Premise
+  full : Premise
+  few : Premise
+
+abbrev premises : List Premise
+premises = whole ∷ waits ∷ nothing ∷ unfinished ∷ valid ∷ no-reset-before ∷ same-command ∷ accepted ∷ no-reset ∷ no-status ∷ full ∷ few ∷ []
+
+test : Story → Premise → Bool
+test t whole = isWhole (numbersOf (t .start .device)) (length (t .start .io))
+test t waits = waitsIn (t .start .device .state)
+test t nothing = eqb (unread (bufferOf (t .start .device) (t .start .io))) 0
+test t unfinished = ltb (length (arrivedIn (t .arrival) (t .start))) 31
+test t valid = isValid (message t)
+test t no-reset-before = throughout keeps (t .before) (parsed t)
+test t same-command = throughout stays (t .before) (parsed t)
+test t accepted = accepts (status (t .figure)) (reached t)
+test t no-reset = throughout keeps (t .after) (told t)
+test t no-status = throughout leaves (t .after) (told t)
+test t full = throughout fills (t .after) (told t)
+test t few = leb (length (firmware t)) (L t)
+
+-- of these the ones that a story breaks; and that it meets them
+failing : Story → List Premise → List Premise
+failing t [] = []
+failing t (p ∷ ps) = cond (test t p) (failing t ps) (p ∷ failing t ps)
+
+abbrev Meets : Story → List Premise → Type 0
+Meets t [] = Unit {0}
+Meets t (p ∷ ps) = (test t p ≡ true) × Meets t ps
+
+meets : (t : Story) (ps : List Premise) → failing t ps ≡ [] → Meets t ps
+unfolding failing
+meets t [] none = tt
+meets t (p ∷ ps) none = cases (test t p) (λ h. (h, meets t ps (rw h at none))) (λ h. absurd (nil≢cons (sym (rw h at none))))
+
+supposed-of : (t : Story) → Meets t premises → Supposed t
+unfolding test
+supposed-of t (sound, (ready, (clear, (under, (parses, (kept, (same, (taken, (kept′, (left, (filled, (most, _)))))))))))) = record {
+  between = record { whole = is-whole _ _ sound; waits = ready; nothing = eqb-true _ _ clear };
+  unfinished = ltb-true _ _ under;
+  valid = is-valid _ parses;
+  earlier = is-earlier (t .before) (parsed t) kept same;
+  accepted = taken;
+  later = is-later (t .after) (told t) kept′ left filled;
+  few = leb-true _ _ most;
 }
 
-ends-by : (t : Story) → Supposed t → (g : Given) → servedSince t + 1 ≡ number t → isLater (poll g) (ended t) ≡ true → served (poll g) (ended t) ≡ 1 → Ends t g
-ends-by t met g last later one = demand t met .exactly last g (is-later (poll g) (ended t) later) one
+pub broken : Story → List Premise
+broken t = failing t premises
+
+supposed-by : (t : Story) → broken t ≡ [] → Supposed t
+unfolding broken
+supposed-by t none = supposed-of t (meets t premises none)
+
+ends-by : (t : Story) → Supposed t → (g : Given) → servedSince t + 1 ≡ number t → fills (poll g) (ended t) ≡ true → served (poll g) (ended t) ≡ 1 → Ends t g
+ends-by t met g last filled one = demand t met .exactly last g (poll-later g (ended t) filled) one
+
+-- to unfold this is to unfold all the tests
+unfoldable pub testing : Unit {0}
+unfolding computing isReset isStatus accepts keeps stays leaves isFull fills throughout test failing broken
+testing = tt
 
 -- ---- the stories
 
 pub met-read64 : Supposed read64
-unfolding computing read64 isEarlier isFull isLater throughout isReset isStatus accepts
-met-read64 = supposed-by read64 refl refl refl refl refl refl refl refl refl
+unfolding testing read64
+met-read64 = supposed-by read64 refl
 
 pub ends-read64 : Ends read64 (sending 64)
-unfolding computing read64 isFull isLater isReset isStatus accepts
+unfolding testing read64
 ends-read64 = ends-by read64 met-read64 (sending 64) refl refl refl
 
 pub met-bare8 : Supposed bare8
-unfolding computing bare8 isEarlier isFull isLater throughout isReset isStatus accepts
-met-bare8 = supposed-by bare8 refl refl refl refl refl refl refl refl refl
+unfolding testing bare8
+met-bare8 = supposed-by bare8 refl
 
 pub ends-bare8 : Ends bare8 (sending 8)
-unfolding computing bare8 isFull isLater isReset isStatus accepts
+unfolding testing bare8
 ends-bare8 = ends-by bare8 met-bare8 (sending 8) refl refl refl
 
 pub met-short8 : Supposed short8
-unfolding computing short8 isEarlier isFull isLater throughout isReset isStatus accepts
-met-short8 = supposed-by short8 refl refl refl refl refl refl refl refl refl
+unfolding testing short8
+met-short8 = supposed-by short8 refl
 
 pub ends-short8 : Ends short8 (sending 8)
-unfolding computing short8 isFull isLater isReset isStatus accepts
+unfolding testing short8
 ends-short8 = ends-by short8 met-short8 (sending 8) refl refl refl
 
 pub met-write8 : Supposed write8
-unfolding computing short8 write8 isEarlier isFull isLater throughout isReset isStatus accepts
-met-write8 = supposed-by write8 refl refl refl refl refl refl refl refl refl
+unfolding testing short8 write8
+met-write8 = supposed-by write8 refl
 
 pub ends-write8 : Ends write8 (sending 8)
-unfolding computing short8 write8 isFull isLater isReset isStatus accepts
+unfolding testing short8 write8
 ends-write8 = ends-by write8 met-write8 (sending 8) refl refl refl

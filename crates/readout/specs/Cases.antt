@@ -30,10 +30,10 @@ computing = tt
 -- ---- the polls
 
 -- a poll with a packet on OUT, one with two, and one with none, where IN does its part: the packet buffer has n bytes of 7
-abbrev taking : ℕ → List ℕ → Given
+abbrev pub taking : ℕ → List ℕ → Given
 taking n packet = given (replicate n 7) packet [] (record { first = 0; second = 1; write = 0 })
 
-abbrev takingTwo : ℕ → List ℕ → List ℕ → Given
+abbrev pub takingTwo : ℕ → List ℕ → List ℕ → Given
 takingTwo n one two = given (replicate n 7) one two (record { first = 0; second = 0; write = 0 })
 
 abbrev pub sending : ℕ → Given
@@ -46,19 +46,23 @@ busy n = given (replicate n 7) [] [] (record { first = 1; second = 1; write = 1 
 -- ---- the stories
 
 -- a new device, and an IO buffer of zeros
-abbrev new : ℕ → ℕ → Socket
+abbrev pub new : ℕ → ℕ → Socket
 new p size = socket (newDevice p 0 size) (replicate size 0)
 
--- a wrapper to the host, with tag 1, LUN 0 and a block of 6 zeros, which declares L below 256 bytes; with L = 0 the flags do not count
+-- a wrapper with this tag and these flags, LUN 0 and a block of 6 zeros, which declares L below 256 bytes
+abbrev pub cbw : ℕ → ℕ → ℕ → List ℕ
+cbw tag flags l = 0x55 ∷ 0x53 ∷ 0x42 ∷ 0x43 ∷ tag ∷ 0 ∷ 0 ∷ 0 ∷ l ∷ 0 ∷ 0 ∷ 0 ∷ flags ∷ 0 ∷ 6 ∷ replicate 16 0
+
+-- one to the host, with tag 1; with L = 0 the flags do not count
 abbrev wrapper : ℕ → List ℕ
-wrapper l = 0x55 ∷ 0x53 ∷ 0x42 ∷ 0x43 ∷ 1 ∷ 0 ∷ 0 ∷ 0 ∷ l ∷ 0 ∷ 0 ∷ 0 ∷ 0x80 ∷ 0 ∷ 6 ∷ replicate 16 0
+wrapper l = cbw 1 0x80 l
 
 -- at P 8 it comes in packets of 8, 8, 8 and 7 bytes: three of them, with a poll between them in which OUT is busy, and the fourth
-abbrev three : ℕ → List Event
-three l = poll (taking 8 (take 8 (wrapper l))) ∷ poll (taking 8 (take 8 (drop 8 (wrapper l)))) ∷ poll (sending 8) ∷ poll (taking 8 (take 8 (drop 16 (wrapper l)))) ∷ []
+abbrev pub three : List ℕ → List Event
+three bytes = poll (taking 8 (take 8 bytes)) ∷ poll (taking 8 (take 8 (drop 8 bytes))) ∷ poll (sending 8) ∷ poll (taking 8 (take 8 (drop 16 bytes))) ∷ []
 
-abbrev fourth : ℕ → Given
-fourth l = taking 8 (drop 24 (wrapper l))
+abbrev pub fourth : List ℕ → Given
+fourth bytes = taking 8 (drop 24 bytes)
 
 -- Each story ends one served poll before the last status byte. Polls that are not served stand between: one where IN is busy, and one
 -- whose packet buffer is a byte below P.
@@ -78,8 +82,8 @@ read64 = record {
 unfoldable pub bare8 : Story
 bare8 = record {
   start = new 8 40;
-  arrival = three 0;
-  completing = fourth 0;
+  arrival = three (wrapper 0);
+  completing = fourth (wrapper 0);
   before = [];
   figure = record { status = 0; processed = 0 };
   after = poll (busy 8) ∷ poll (sending 8) ∷ poll (sending 7) ∷ [];
@@ -89,8 +93,8 @@ bare8 = record {
 unfoldable pub short8 : Story
 short8 = record {
   start = new 8 40;
-  arrival = three 10;
-  completing = fourth 10;
+  arrival = three (wrapper 10);
+  completing = fourth (wrapper 10);
   before = write (1 ∷ 2 ∷ 3 ∷ 4 ∷ []) ∷ [];
   figure = record { status = 0; processed = 4 };
   after = poll (sending 8) ∷ poll (busy 8) ∷ poll (sending 8) ∷ poll (sending 7) ∷ poll (sending 8) ∷ [];
@@ -99,7 +103,7 @@ short8 = record {
 -- ours: the command behind that one, from where it ended. P 8, a write of L = 20 whose first data packet comes with the wrapper's last;
 -- the firmware reads two bytes, and its second status replaces the first
 abbrev from-host : ℕ → List ℕ
-from-host l = 0x55 ∷ 0x53 ∷ 0x42 ∷ 0x43 ∷ 9 ∷ 0 ∷ 0 ∷ 0 ∷ l ∷ 0 ∷ 0 ∷ 0 ∷ 0 ∷ 0 ∷ 6 ∷ replicate 16 0
+from-host l = cbw 9 0 l
 
 unfoldable pub write8 : Story
 write8 = record {
