@@ -15,14 +15,14 @@ use std::process::{Command, ExitCode, Stdio};
 const BETWEEN: &str = "==\n";
 
 /// The program under test, and the folder where files for it may lie.
-struct Tested<'a> {
-    words: &'a [&'a str],
-    folder: &'a str,
+pub struct Tested<'a> {
+    pub words: &'a [&'a str],
+    pub folder: &'a str,
 }
 
 impl Tested<'_> {
     /// The text for each file. A program that ends early has the rest empty, a failing one says so in its last text.
-    fn texts(&self, files: &[Vec<u8>]) -> io::Result<Vec<String>> {
+    pub fn texts(&self, files: &[Vec<u8>]) -> io::Result<Vec<String>> {
         let input = format!("{}/input", self.folder);
         std::fs::write(&input, stream(files))?;
         let ended = Command::new(self.words[0])

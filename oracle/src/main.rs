@@ -9,6 +9,10 @@ mod codecs;
 mod coverage;
 mod damage;
 mod decode;
+mod demand;
+mod demandfaults;
+mod demandrun;
+mod demandtally;
 mod device;
 mod diff;
 mod endpoints;
@@ -17,6 +21,7 @@ mod generator;
 mod host;
 mod lines;
 mod panics;
+mod printed;
 mod reachable;
 mod reached;
 mod rng;
@@ -65,6 +70,16 @@ fn command(words: &[&str], flags: &[&str]) -> io::Result<ExitCode> {
         (["diff", events, seed, folder, program @ ..], []) if !program.is_empty() => {
             return diff::command(number(events)?, number(seed)?, folder, program);
         }
+        (["demand", "random", events, seed, folder, program @ ..], []) if !program.is_empty() => {
+            return demandrun::random(number(events)?, number(seed)?, folder, program);
+        }
+        (["demand", "read", files @ ..], []) if !files.is_empty() => {
+            return demandrun::files(files, false);
+        }
+        (["demand", "read", files @ ..], ["--list"]) if !files.is_empty() => {
+            return demandrun::files(files, true);
+        }
+        (["demand", "faults", files @ ..], []) => return demandfaults::command(files),
         (["buffer-ops", seed, count, operations, results], []) => {
             bufferops::command(number(seed)?, number(count)? as usize, operations, results)?;
         }

@@ -1,7 +1,7 @@
 -- The wrapper arrives: while fewer than 31 bytes came nothing is sent and nothing put in, whatever happens. Assumes nothing.
 use mathlib.Core.Path.{_≡_, refl, sym, ap, _∙_}
 use mathlib.Core.Bool.{true, false}
-use mathlib.Core.List.{List, [], _∷_, _++_, append-assoc, append-nil}
+use mathlib.Core.List.{List, [], _∷_, _++_, append-assoc, append-nil, flatten}
 use Prim.Native.Nat.{ℕ, _<_}
 use native.Mathlib.Omega.{arith}
 use lib.Dec.{eqb}
@@ -20,7 +20,7 @@ use Rattle.calls.specs.Checks.{isIn}
 use Rattle.calls.specs.Status.{Stating, takesStatus}
 use Rattle.calls.specs.Bus.{Handling, entering}
 use Rattle.calls.proofs.After.{by-status, data-elsewhere, reset-done, by-request}
-use Rattle.readout.specs.History.{Socket, socket, Event, poll, status, write, writeAll, read, reset, control, command, commandStep, Shows, ofStatus, ofBus, shows, next, run, all, sentIn, putIn, firstOf, arrivedIn}
+use Rattle.readout.specs.History.{Socket, socket, Event, poll, status, write, writeAll, read, reset, control, command, commandStep, Shows, ofStatus, ofBus, shows, next, run, all, sentIn, putIn, takenIn, firstOf, arrivedIn}
 use Rattle.readout.specs.Demand.{waitsIn}
 use Rattle.readout.proofs.Rules.{bytesOf, packetsOf}
 use Rattle.readout.proofs.Waiting.{Arriving, waits-by, apart, From, from-count, Reads, idle, short, ripe, ripe-first, by-reading}
@@ -30,6 +30,7 @@ record Arrives (p : ℕ) (m : List ℕ) (o : Shows) : Type 0 where
   arriving : Arriving p (m ++ firstOf (o .taken)) (o .socket)
   sent : o .sent ≡ []
   put : o .put ≡ []
+  alone : flatten (o .taken) ≡ firstOf (o .taken)
 
 module _ (p : ℕ) (m : List ℕ) (s : Socket) (a : Arriving p m s) where
   -- ---- polls
@@ -41,16 +42,18 @@ module _ (p : ℕ) (m : List ℕ) (s : Socket) (a : Arriving p m s) where
       none-in-3 : o .device .state ≡ StatusTransfer → m ++ firstOf (packetsOf g o) ≡ []
       unread : unreadBytes (bufferAfter o) ≡ m ++ firstOf (packetsOf g o)
       sent : bytesOf o ≡ []
+      alone : flatten (packetsOf g o) ≡ firstOf (packetsOf g o)
 
-    shown-in-0 : (o : Polling) → o .device .state ≡ CommandTransfer → unreadBytes (bufferAfter o) ≡ m ++ firstOf (packetsOf g o) → bytesOf o ≡ [] → Shown o
-    shown-in-0 o e same none = record { state = rw e; none-in-3 = λ in3. absurd (apart e in3); unread = same; sent = none }
+    shown-in-0 : (o : Polling) → o .device .state ≡ CommandTransfer → unreadBytes (bufferAfter o) ≡ m ++ firstOf (packetsOf g o) → bytesOf o ≡ [] → flatten (packetsOf g o) ≡ firstOf (packetsOf g o) → Shown o
+    shown-in-0 o e same none alone = record { state = rw e; none-in-3 = λ in3. absurd (apart e in3); unread = same; sent = none; alone = alone }
 
     module _ (x : Point) (f : From m g x) where
       shown : (o : Polling) → Reads g x o → length (m ++ firstOf (packetsOf g o)) < 31 → Shown o
+      unfolding flatten
       shown o (idle i) few =
-          shown-in-0 o (ap (λ (d : Device). d .state) (i .device) ∙ f .state) (i .unread ∙ f .unread ∙ sym (rw (i .taken, f .taken) (append-nil m))) (rw (i .sent))
+          shown-in-0 o (ap (λ (d : Device). d .state) (i .device) ∙ f .state) (i .unread ∙ f .unread ∙ sym (rw (i .taken, f .taken) (append-nil m))) (rw (i .sent)) (rw (i .taken, f .taken))
       shown o (short room serving e under) few =
-          rw e (shown-in-0 (ends g (arrived g x) (no 0)) (f .state) (read-unread g x (f .sound) (f .small) room serving ∙ rw (f .unread, f .taken)) refl)
+          rw e (shown-in-0 (ends g (arrived g x) (no 0)) (f .state) (read-unread g x (f .sound) (f .small) room serving ∙ rw (f .unread, f .taken)) refl (rw (f .taken) (append-nil (g .one))))
       shown o (ripe room serving e many) few =
           absurd (omega (arith, length-append m (g .one), rw (ripe-first g x o e) at few, from-count f))
 
@@ -59,11 +62,11 @@ module _ (p : ℕ) (m : List ℕ) (s : Socket) (a : Arriving p m s) where
 
     -- a poll, refused or not
     poll-arrives : length (m ++ firstOf (shows (poll g) s .taken)) < 31 → Arrives p m (shows (poll g) s)
-    unfolding shows
+    unfolding shows flatten
     poll-arrives few =
         let o : Polling = pollCall (s .device) (s .io) g in
         let refused : (n : ℕ) → length (m ++ []) < 31 → Shown (refusing (s .device) (s .io) g n) =
-        λ n _. record { state = a .waits; none-in-3 = λ e. rw append-nil (a .none-in-3 e); unread = rw append-nil (a .unread); sent = refl } in
+        λ n _. record { state = a .waits; none-in-3 = λ e. rw append-nil (a .none-in-3 e); unread = rw append-nil (a .unread); sent = refl; alone = refl } in
         let here : Shown o = by-call (s .device) (s .io) g (λ (o : Polling). length (m ++ firstOf (packetsOf g o)) < 31 → Shown o) (refused 10) (refused 11) (λ _. rule-shown) few in
         record {
           arriving = record {
@@ -75,15 +78,18 @@ module _ (p : ℕ) (m : List ℕ) (s : Socket) (a : Arriving p m s) where
           };
           sent = here .sent;
           put = refl;
+          alone = here .alone;
         }
 
   -- ---- the other calls
 
   nothing-arrives : (n : ℕ) → Arrives p m (record { socket = s; number = n; taken = []; sent = []; put = [] })
-  nothing-arrives n = record { arriving = rw append-nil a; sent = refl; put = refl }
+  unfolding flatten
+  nothing-arrives n = record { arriving = rw append-nil a; sent = refl; put = refl; alone = refl }
 
   -- entering 0 keeps what came
   reset-arrives : (n : ℕ) → Arrives p m (record { socket = socket (entering0 (s .device)) (s .io); number = n; taken = []; sent = []; put = [] })
+  unfolding flatten
   reset-arrives n = record {
     arriving = record {
       whole = record { lent = a .whole .lent; created = a .whole .created; order = a .whole .order; within = a .whole .within; block = a .whole .block; lun = a .whole .lun; status = refl };
@@ -94,6 +100,7 @@ module _ (p : ℕ) (m : List ℕ) (s : Socket) (a : Arriving p m s) where
     };
     sent = refl;
     put = refl;
+    alone = refl;
   }
 
   -- it is in no state in which a status is taken, or data
@@ -123,14 +130,15 @@ pub record Arrived (p : ℕ) (m : List ℕ) (h : List Event) (s : Socket) : Type
   pub arriving : Arriving p (m ++ arrivedIn h s) (run h s)
   pub sent : sentIn h s ≡ []
   pub put : putIn h s ≡ []
+  pub alone : takenIn h s ≡ arrivedIn h s
 
 -- while fewer than 31 bytes came
 pub history-arrives : (p : ℕ) (h : List Event) (m : List ℕ) (s : Socket) → Arriving p m s → length (m ++ arrivedIn h s) < 31 → Arrived p m h s
 unfolding run all
-history-arrives p [] m s a few = record { arriving = rw append-nil a; sent = refl; put = refl }
+history-arrives p [] m s a few = record { arriving = rw append-nil a; sent = refl; put = refl; alone = refl }
 history-arrives p (e ∷ h) m s a few =
     let ys : List ℕ = firstOf (shows e s .taken) in
     let zs : List ℕ = arrivedIn h (next e s) in
     let first : Arrives p m (shows e s) = event-arrives p m s a e (omega (arith, length-append m (ys ++ zs), length-append ys zs, length-append m ys)) in
     let rest : Arrived p (m ++ ys) h (next e s) = history-arrives p h (m ++ ys) (next e s) (first .arriving) (rw append-assoc few) in
-    record { arriving = rw (← append-assoc m ys zs) (rest .arriving); sent = rw (first .sent, rest .sent); put = rw (first .put, rest .put) }
+    record { arriving = rw (← append-assoc m ys zs) (rest .arriving); sent = rw (first .sent, rest .sent); put = rw (first .put, rest .put); alone = rw (first .alone, rest .alone) }

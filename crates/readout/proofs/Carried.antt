@@ -2,8 +2,8 @@
 -- Assumes nothing.
 use mathlib.Core.Path.{_≡_, refl, sym, _∙_}
 use mathlib.Core.Bool.{true}
-use mathlib.Core.List.{List, [], _∷_, _++_, append-assoc, append-nil}
-use Prim.Native.Nat.{ℕ, _+_, _≤_, _<_}
+use mathlib.Core.List.{List, [], _∷_, _++_, append-assoc, append-nil, flatten}
+use Prim.Native.Nat.{ℕ, _+_, _-_, _≤_, _<_}
 use native.Mathlib.Nat.{add-zero}
 use native.Mathlib.Omega.{arith}
 use lib.ListN.{length, length-append}
@@ -15,10 +15,11 @@ use Rattle.wrapper.specs.declared.Wrapper.{Wrapper}
 use Rattle.device.specs.Device.{numbersOf, isPresent}
 use Rattle.device.proofs.Wholly.{packet-known, packet-bounds}
 use Rattle.calls.specs.Status.{takesStatus}
-use Rattle.readout.specs.History.{Socket, Event, shows, next, run, all, sentIn, putIn, served, servedIn, accepts, Throughout}
+use Rattle.readout.specs.History.{Socket, Event, shows, next, run, all, sentIn, putIn, takenIn, served, servedIn, accepts, Throughout}
 use Rattle.readout.specs.Demand.{Earlier, Later, ceiling}
 use Rattle.readout.proofs.Ceiling.{ceiling-some}
 use Rattle.readout.proofs.Transfer.{Transfer, unreadIn, due, dueIn}
+use Rattle.readout.proofs.Rules.{still}
 use Rattle.readout.proofs.Steps.{Steps, event-steps}
 
 -- where a status is taken, all that is left and a whole status are due
@@ -45,15 +46,20 @@ module _ (w : Wrapper) (p : ℕ) where
   pub record Before (got put : List ℕ) (h : List Event) (s : Socket) : Type 0 where
     pub transfer : Transfer w p (got ++ sentIn h s) (put ++ putIn h s) (run h s)
     pub takes : takesStatus (stateNumber (run h s .device .state)) ≡ true
+    pub wire : run h s .device .left .0 ≡ s .device .left .0 - (length (sentIn h s) + length (takenIn h s))
 
   pub before : (h : List Event) (s : Socket) (got put : List ℕ) → Transfer w p got put s → takesStatus (stateNumber (s .device .state)) ≡ true → Throughout Earlier h s → length (put ++ putIn h s) ≤ w .length → Before got put h s
   unfolding run all
-  before [] s got put t takes _ few = record { transfer = rw (append-nil, append-nil) t; takes = takes }
+  before [] s got put t takes _ few = record { transfer = rw (append-nil, append-nil) t; takes = takes; wire = still (s .device .left .0) refl }
   before (e ∷ h) s got put t takes (f, fs) few =
       let o = shows e s in
       let st : Steps w p got put s (accepts e s) (served e s) o = event-steps w p got put (omega (arith, length-append put (o .put ++ putIn h (next e s)))) s t (some-due s got put t takes) e (f .no-reset) in
       let b : Before (got ++ o .sent) (put ++ o .put) h (next e s) = before h (next e s) (got ++ o .sent) (put ++ o .put) (st .transfer) (f .same-command) fs (rw append-assoc few) in
-      record { transfer = rw (← append-assoc got (o .sent) (sentIn h (next e s)), ← append-assoc put (o .put) (putIn h (next e s))) (b .transfer); takes = b .takes }
+      record {
+        transfer = rw (← append-assoc got (o .sent) (sentIn h (next e s)), ← append-assoc put (o .put) (putIn h (next e s))) (b .transfer);
+        takes = b .takes;
+        wire = omega (arith, st .wire (f .same-command), b .wire, length-append (o .sent) (sentIn h (next e s)), length-append (flatten (o .taken)) (takenIn h (next e s)));
+      }
 
   -- ---- behind it
 

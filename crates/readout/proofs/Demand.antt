@@ -1,8 +1,8 @@
 -- The mission's third demand, for every story that meets its premises. Assumes nothing.
 use mathlib.Core.Path.{_≡_, refl, sym, ap, ap₂, _∙_}
 use mathlib.Core.Bool.{true}
-use mathlib.Core.List.{List, [], _∷_, _++_, append-assoc, append-nil}
-use Prim.Native.Nat.{ℕ, _+_, _≤_, _<_}
+use mathlib.Core.List.{List, [], _∷_, _++_, append-assoc, append-nil, flatten}
+use Prim.Native.Nat.{ℕ, _+_, _-_, _≤_, _<_}
 use native.Mathlib.Omega.{arith}
 use lib.ListN.{length, drop, length-append}
 use lib.Seq.{drop-at}
@@ -23,8 +23,8 @@ use Rattle.bbb.specs.Poll.{Given}
 use Rattle.calls.specs.Checks.{bufferOf}
 use Rattle.calls.specs.Status.{takesStatus, statusOf, withFigure, setStatusCall}
 use Rattle.calls.proofs.After.{Accepted, status-accepted, status-byte}
-use Rattle.readout.specs.History.{Socket, Event, poll, status, Shows, shows, next, run, all, sentIn, putIn, firstOf, arrivedIn, served, isReset, isStatus, accepts}
-use Rattle.readout.specs.Demand.{Story, toWrapper, toStatus, history, parsed, reached, told, ended, message, wrapper, L, P, R, host, firmware, servedSince, Between, Later, Supposed, number, dataOf, theData, theStatus, NotYet, Ends, Demand}
+use Rattle.readout.specs.History.{Socket, Event, poll, status, Shows, shows, next, run, all, sentIn, putIn, takenIn, firstOf, arrivedIn, served, isReset, isStatus, accepts}
+use Rattle.readout.specs.Demand.{Story, toWrapper, toStatus, history, parsed, reached, told, ended, message, wrapper, L, P, R, host, firmware, servedSince, crossed, Between, Later, Supposed, number, dataOf, theData, theStatus, NotYet, Ends, Demand}
 use Rattle.readout.proofs.Filled.{length-filled}
 use Rattle.readout.proofs.Transfer.{Transfer, unreadIn, due}
 use Rattle.readout.proofs.Steps.{Steps, event-steps}
@@ -62,6 +62,12 @@ waits-arriving s b = record {
   unread = none-of (unreadIn s) (length-unread (bufferOf (s .device) (s .io)) (whole-sound (numbersOf (s .device)) (s .io) (b .whole)) ∙ b .nothing);
   none-in-3 = λ _. refl;
 }
+
+-- the first packet's bytes, and those of the others
+first-rest : (packets : List (List ℕ)) → length (flatten packets) ≡ length (firstOf packets) + length (flatten (drop 1 packets))
+unfolding flatten
+first-rest [] = refl
+first-rest (packet ∷ packets) = length-append packet (flatten packets)
 
 -- ---- a story
 
@@ -180,6 +186,35 @@ module _ (t : Story) (u : Supposed t) where
         count = rw ended-is (a .count ∙ told-due);
       }
 
+  -- ---- what crossed the wire
+
+  wrapper-taken : length (takenIn (toWrapper t) (t .start)) ≡ 31 + length (flatten (drop 1 (completing .taken)))
+  wrapper-taken =
+      let m : List ℕ = arrivedIn (t .arrival) (t .start) in
+      let ps : List (List ℕ) = completing .taken in
+      let last : takenIn (toWrapper t) (t .start) ≡ takenIn (t .arrival) (t .start) ++ flatten ps = all-one (t .arrival) (poll (t .completing)) (t .start) (λ (o : Shows). flatten (o .taken)) in
+      omega (arith, ap length last, length-append (takenIn (t .arrival) (t .start)) (flatten ps), ap length (came .alone), first-rest ps, length-append m (firstOf ps), ap length message-is, u .valid .whole)
+
+  left-is : R t ≡ L t - crossed t
+  left-is =
+      let sent : List ℕ = sentIn (t .before) (parsed t) in
+      let taken : List ℕ = takenIn (t .before) (parsed t) in
+      let begun-left : parsed t .device .left .0 ≡ L t - (length (completing .sent) + length (flatten (drop 1 (completing .taken)))) = ap (λ (z : Socket). z .device .left .0) parsed-is ∙ opened .wire in
+      let reached-left : R t ≡ parsed t .device .left .0 - (length sent + length taken) = ap (λ (z : Socket). z .device .left .0) reached-is ∙ met-before .wire in
+      omega (
+        arith,
+        begun-left,
+        reached-left,
+        wrapper-taken,
+        ap length sent-is,
+        ap length (all-append (λ (o : Shows). o .sent) (toWrapper t) (t .before) (t .start)),
+        length-append (sentIn (toWrapper t) (t .start)) sent,
+        ap length (all-append (λ (o : Shows). flatten (o .taken)) (toWrapper t) (t .before) (t .start)),
+        length-append (takenIn (toWrapper t) (t .start)) taken,
+      )
+
+  -- ---- what is promised
+
   -- the status that is promised is the one that is present
   the-status : bytesFor (wrapper t .tag) (Present (statusOf (t .figure .status)) (residueOf (L t) (t .figure .processed))) ≡ theStatus t
   the-status = rw (status-byte (t .figure .status) (here .byte))
@@ -226,4 +261,4 @@ promised-length t few = length-append (theData t) (theStatus t) ∙ ap₂ _+_ (b
 
 -- the mission's third demand
 pub demand : (t : Story) → Supposed t → Demand t
-demand t u = record { not-before = not-yet t u; exactly = ends t u; reachable = λ less g w. willing-served g (ended t) (sum t u less .transfer .whole) w }
+demand t u = record { left = left-is t u; not-before = not-yet t u; exactly = ends t u; reachable = λ less g w. willing-served g (ended t) (sum t u less .transfer .whole) w }

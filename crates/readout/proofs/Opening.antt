@@ -1,8 +1,8 @@
 -- The poll that completes a valid wrapper starts its transfer: nothing was sent or put in for it, and a status is taken. Assumes nothing.
-use mathlib.Core.Path.{_≡_, refl, sym, ap, _∙_}
+use mathlib.Core.Path.{_≡_, refl, sym, ap, _∙_, subst}
 use mathlib.Core.Bool.{true, false}
-use mathlib.Core.List.{List, [], _++_}
-use Prim.Native.Nat.{ℕ, _≤_, _<_, zero-le}
+use mathlib.Core.List.{List, [], _++_, flatten}
+use Prim.Native.Nat.{ℕ, _+_, _-_, _≤_, _<_, zero-le}
 use native.Mathlib.Nat.{add-zero}
 use native.Mathlib.Omega.{arith}
 use lib.ListN.{length, take, drop, length-append, drop-of-length-le}
@@ -44,7 +44,7 @@ absent-takes (sending s r e here all) absent fits = absurd (clash (sym (rw (e, a
 -- ---- behind the packet that completed it
 
 -- the wrapper of a message, at a point where nothing is unread and no status is present
-module _ (msg : List ℕ) (g : Given) (y : Point) (fit : Fit (wrapperOf msg) (ordered (wrapperOf msg) y)) (none : unreadBytes (bufferAt y) ≡ []) (absent : isPresent (y .device .status) ≡ false) (small : length (g .one) ≤ P y) where
+module _ (msg : List ℕ) (g : Given) (y : Point) (fit : Fit (wrapperOf msg) (ordered (wrapperOf msg) y)) (none : unreadBytes (bufferAt y) ≡ []) (absent : isPresent (y .device .status) ≡ false) (once : y .taken ≤ 1) (small : length (g .one) ≤ P y) where
   abbrev w : Wrapper
   w = wrapperOf msg
 
@@ -52,11 +52,11 @@ module _ (msg : List ℕ) (g : Given) (y : Point) (fit : Fit (wrapperOf msg) (or
   z = ordered (wrapperOf msg) y
 
   abbrev Starts : Polling → Type 0
-  Starts o = length (bytesOf o) ≡ o .sent → Leads w [] [] g (P y) (y .device .status) (w .length) (owing z) o
+  Starts o = length (bytesOf o) ≡ o .sent → Leads w [] [] g (y .taken) (P y) (y .device .status) (w .length) (owing z) o
 
   start-by : (q : DataDirection) → w .direction ≡ q → Starts (byDirection q (fromHostRule g z) (toHostRule g z) (noDataRule g z))
   unfolding noDataRule wrapperOf
-  start-by Out e = leads-from w [] [] g z fit e refl (λ present. absurd (clash (sym present ∙ absent))) small
+  start-by Out e = leads-from w [] [] g z fit e refl (λ present. absurd (clash (sym present ∙ absent))) once small
   start-by In e = leads-to w [] [] g z fit e none (add-zero _) zero-le
   start-by NotExpected e = leads-await w [] [] g z fit (no-data-only (w .length) _ e) (rw e)
 
@@ -70,6 +70,7 @@ module _ (msg : List ℕ) (g : Given) (y : Point) (fit : Fit (wrapperOf msg) (or
 pub record Opened (p : ℕ) (msg : List ℕ) (o : Shows) : Type 0 where
   pub transfer : Transfer (wrapperOf msg) p (o .sent) (o .put) (o .socket)
   pub takes : takesStatus (stateNumber (o .socket .device .state)) ≡ true
+  pub wire : o .socket .device .left .0 ≡ wrapperOf msg .length - (length (o .sent) + length (flatten (drop 1 (o .taken))))
 
 module _ (m : List ℕ) (g : Given) where
   -- what a poll leads to that completes a message
@@ -78,7 +79,7 @@ module _ (m : List ℕ) (g : Given) where
     p : ℕ
     status : Status
     absent : isPresent status ≡ false
-    leads : Leads (wrapperOf (m ++ firstOf (packetsOf g o))) [] [] g p status (wrapperOf (m ++ firstOf (packetsOf g o)) .length) n o
+    leads : Leads (wrapperOf (m ++ firstOf (packetsOf g o))) [] [] g 1 p status (wrapperOf (m ++ firstOf (packetsOf g o)) .length) n o
 
   module _ (x : Point) (f : From m g x) (few : length m < 31) where
     module _ (room : lacksRoom (P x) (bufferAt x) ≡ false) (serving : serves (firstFor g) ≡ true) (valid : Valid (m ++ g .one)) where
@@ -120,12 +121,16 @@ module _ (m : List ℕ) (g : Given) where
     begins o (ripe room serving e many) long valid =
         let it : firstOf (packetsOf g o) ≡ g .one = ripe-first g x o e in
         let v : Valid (m ++ g .one) = rw it at valid in
+        let w : Wrapper = wrapperOf (m ++ g .one) in
+        let z : Point = y room serving v in
+        let second : z .taken ≡ 1 = ap (λ (k : ℕ). k + 1) (f .taken) in
         record {
-          n = owing (ordered (wrapperOf (m ++ g .one)) (y room serving v));
+          n = owing (ordered w z);
           p = P x;
           status = x .device .status;
           absent = f .absent;
-          leads = rw (it, e, parsed room serving v) (leads-start (m ++ g .one) g (y room serving v) (fit room serving v) (nothing-behind room serving v) (f .absent) (f .small) (rw (e, parsed room serving v) at long));
+          leads = rw (it, e, parsed room serving v) (subst (λ (k : ℕ). Leads w [] [] g k (P x) (x .device .status) (w .length) (owing (ordered w z)) (startRule w g z)) second
+              (leads-start (m ++ g .one) g z (fit room serving v) (nothing-behind room serving v) (f .absent) (omega arith) (f .small) (rw (e, parsed room serving v) at long)));
         }
 
 module _ (p : ℕ) (m : List ℕ) (s : Socket) (a : Arriving p m s) (few : length m < 31) (g : Given) where
@@ -143,7 +148,9 @@ module _ (p : ℕ) (m : List ℕ) (s : Socket) (a : Arriving p m s) (few : lengt
   opens valid =
       let b : Begins m g (pollCall (s .device) (s .io) g) = call-begins valid in
       let whole : Whole (numbersOf (pollCall (s .device) (s .io) g .device)) (length (pollCall (s .device) (s .io) g .io)) = call-whole (s .device) (s .io) g (a .whole) in
+      let takes : takesStatus (stateNumber (pollCall (s .device) (s .io) g .device .state)) ≡ true = absent-takes (b .leads .phase) (rw (b .leads .status) (b .absent)) (whole .status) in
       record {
         transfer = record { whole = whole; packetsize = call-sizes (s .device) (s .io) g .packetsize ∙ a .packetsize; wrapper = b .leads .wrapper; phase = b .leads .phase };
-        takes = absent-takes (b .leads .phase) (rw (b .leads .status) (b .absent)) (whole .status);
+        takes = takes;
+        wire = b .leads .wire takes;
       }

@@ -1,25 +1,26 @@
 -- What each rule of a poll does to a command's transfer: the bytes that it sends, the phase that it leads to, and, with a status
 -- present, what is due then. For any point x from which a rule starts. Assumes nothing.
 use mathlib.Core.Path.{_≡_, refl, sym, ap, _∙_, subst}
-use mathlib.Core.Bool.{true, false, cond}
-use mathlib.Core.List.{List, [], _∷_, _++_, append-assoc, append-nil}
-use Prim.Native.Nat.{ℕ, _+_, _-_, _≤_, _<_, min, zero-le}
+use mathlib.Core.Bool.{Bool, true, false, cond}
+use mathlib.Core.List.{List, [], _∷_, _++_, append-assoc, append-nil, flatten}
+use Prim.Native.Nat.{ℕ, zero, suc, _+_, _-_, _≤_, _<_, min, zero-le}
 use native.Mathlib.Nat.{add-zero, zero-add}
 use native.Mathlib.Omega.{arith}
 use lib.Dec.{eqb}
 use borrow.Table.Steps.{cases}
 use borrow.Author.Tests.{eqb-true, eqb-false, le-ltb}
-use lib.ListN.{length, take, replicate, length-append, length-replicate}
+use lib.ListN.{length, take, drop, replicate, length-append, length-replicate}
 use lib.Seq.{length-take-le}
 use Rattle.fields.proofs.Bools.{of-picked, clash}
 use Rattle.fields.proofs.Seq.{none-of}
-use Rattle.buffer.specs.Buffer.{Sound, buffer, at, unread, unreadBytes, lacksRoom}
+use Rattle.buffer.specs.Buffer.{Buffer, Sound, buffer, at, unread, unreadBytes, lacksRoom}
 use Rattle.buffer.proofs.Kept.{length-unread}
 use Rattle.buffer.proofs.Room.{lacks-by-unread}
 use Rattle.answers.specs.declared.Endpoint.{Endpoint}
 use Rattle.answers.specs.declared.Endpoint.the-variants.{Served, Busy, Failed}
 use Rattle.answers.specs.Answers.{no, serves, answeredBy}
 use Rattle.ring.specs.declared.State.the-variants.{StatusTransfer, DataTransferToHost, DataTransferToHostStatusAwait, DataTransferFromHost, DataTransferFromHostEnding}
+use Rattle.ring.specs.States.{stateNumber}
 use Rattle.wrapper.specs.declared.DataDirection.the-variants.{Out, In}
 use Rattle.wrapper.specs.declared.Wrapper.{Wrapper}
 use Rattle.wrapper.specs.declared.counters.Residue.{Residue}
@@ -27,6 +28,7 @@ use Rattle.wrapper.specs.declared.status.CommandStatus.{CommandStatus}
 use Rattle.wrapper.specs.Counters.{fallen}
 use Rattle.wrapper.specs.Status.{statusNumber, statusBytes}
 use Rattle.wrapper.proofs.Csw.{length-status}
+use Rattle.packets.specs.Packets.{handed, takesOne, brought}
 use Rattle.device.specs.declared.Device.{Device}
 use Rattle.device.specs.declared.Status.{Status}
 use Rattle.device.specs.declared.Status.the-variants.{Absent, Present}
@@ -35,6 +37,7 @@ use Rattle.device.specs.Broken.{Whole}
 use Rattle.bbb.specs.Poll.{Given, Polling, Point, bufferAt, reaching, leaving, ends, statusBy, sendStatus, dataBy, sendData, offers, takeBy, takeData, enterStatus, statusAwaitRule, toHostEndingRule, fallsShort, toHostRule, fromHostEndingRule, fromHostRule, pollRule, Fits}
 use Rattle.bbb.proofs.Keeping.{follows-filled, follows-status, Sizes, poll-sizes}
 use Rattle.bbb.proofs.After.{P, inFor, outFor, offered, bufferAfter, Idle, data-unread, data-sent, data-left, data-told, data-unserved, status-unread, status-sent, status-told, status-unserved, fill-exact, topped, stated, stated-unread, stated-sound, take-left, take-taken, take-told, take-unserved}
+use Rattle.calls.specs.Status.{takesStatus}
 use Rattle.readout.specs.History.{isServed, socket}
 use Rattle.readout.specs.Demand.{Full, ceiling, filledTo, dataOf}
 use Rattle.readout.proofs.Ceiling.{ceiling-none, ceiling-falls}
@@ -62,12 +65,18 @@ one o = cond (isServed (o .told .number)) 1 0
 abbrev pub owing : Point → ℕ
 owing x = ceiling (x .device .left .0) (P x) + ceiling 13 (P x)
 
--- What a poll leads to, where P, the status and what was left were these, and n served polls were due.
-pub record Leads (w : Wrapper) (got put : List ℕ) (g : Given) (p : ℕ) (st : Status) (left n : ℕ) (o : Polling) : Type 0 where
+-- the bytes of the packets that a poll took behind the first n
+abbrev pub laterBytes : ℕ → Given → Polling → List ℕ
+laterBytes n g o = flatten (drop n (packetsOf g o))
+
+-- What a poll leads to, where k packets were taken, P, the status and what was left were these, and n served polls were due.
+pub record Leads (w : Wrapper) (got put : List ℕ) (g : Given) (k p : ℕ) (st : Status) (left n : ℕ) (o : Polling) : Type 0 where
   pub wrapper : o .device .wrapper ≡ w
   pub status : o .device .status ≡ st
   pub phase : Phase w (got ++ bytesOf o) put (o .device .state) (o .device .status) (o .device .left .0) (unreadBytes (bufferAfter o))
   pub count : isPresent st ≡ true → Full (min p left) (packetsOf g o) → due (socket (o .device) (o .io)) + one o ≡ n
+  -- while a status is taken, left falls by the data that crosses the wire
+  pub wire : takesStatus (stateNumber (o .device .state)) ≡ true → o .device .left .0 ≡ left - (length (bytesOf o) + length (laterBytes k g o))
 
 -- A point of this wrapper, with sound marks, in a buffer that holds a packet and a status.
 pub record Fit (w : Wrapper) (x : Point) : Type 0 where
@@ -83,13 +92,39 @@ unserved Served h = absurd (clash h)
 unserved Busy h = refl
 unserved (Failed n) h = refl
 
+-- behind the packets that were taken there is none
+drop-taken : (n : ℕ) (l : List (List ℕ)) → drop n (take n l) ≡ []
+drop-taken zero l = refl
+drop-taken (suc n) [] = refl
+drop-taken (suc n) (x ∷ xs) = drop-taken n xs
+
+no-later : (g : Given) (n : ℕ) → length (flatten (drop n (take n (g .one ∷ g .two ∷ [])))) ≡ 0
+unfolding flatten
+no-later g n = rw drop-taken
+
+-- where nothing crosses the wire, left stays
+pub still : (l : ℕ) {n : ℕ} → n ≡ 0 → l ≡ l - (0 + n)
+still l none = omega arith
+
+-- one more was taken, or none
+later-is : (g : Given) (took : Bool) (n : ℕ) → n ≤ 1 → length (flatten (drop n (take (cond took (n + 1) n) (g .one ∷ g .two ∷ [])))) ≡ cond took (length (offers n (g .one) (g .two))) 0
+unfolding flatten offers
+later-is g true zero once = rw append-nil
+later-is g true (suc zero) once = rw append-nil
+later-is g true (suc (suc n)) once = absurd (omega arith)
+later-is g false n once = no-later g n
+
+brought-is : (p : ℕ) (e : Endpoint) (packet : List ℕ) (s : Buffer) → brought p e packet s ≡ cond (takesOne p e s) (length packet) 0
+unfolding brought takesOne handed
+brought-is p e packet s = cases (lacksRoom p s) (λ full. rw full) (λ room. cases (serves e) (λ serving. rw (room, serving)) (λ idle. rw (room, idle)))
+
 module _ (w : Wrapper) (got put : List ℕ) (g : Given) where
   -- where the packet buffer holds all that was sent
   abbrev Long : Polling → Type 0
   Long o = length (bytesOf o) ≡ o .sent
 
   abbrev Goes : Point → ℕ → Polling → Type 0
-  Goes x n o = Long o → Leads w got put g (P x) (x .device .status) (x .device .left .0) n o
+  Goes x n o = Long o → Leads w got put g (x .taken) (P x) (x .device .status) (x .device .left .0) n o
 
   -- ---- 3
 
@@ -110,12 +145,13 @@ module _ (w : Wrapper) (got put : List ℕ) (g : Given) where
         rw (e, unserved (inFor g) idle) (add-zero _))
 
     pub leads-status : Goes x (ceiling (length (unreadBytes (bufferAt x))) (P x)) (sendStatus g x)
-    unfolding sendStatus statusBy
+    unfolding sendStatus statusBy takesStatus
     leads-status long = record {
       wrapper = fit .wrapper;
       status = refl;
       phase = sending s r in3 here (append-assoc got (bytesOf (sendStatus g x)) _ ∙ ap (λ (ys : List ℕ). got ++ ys) (status-unread g x (fit .sound)) ∙ all);
       count = λ _ _. rw in3 (status-falls long);
+      wire = λ takes. absurd (clash (sym (rw in3 at takes)));
     }
 
   -- ---- 3, entered, and 5
@@ -133,11 +169,11 @@ module _ (w : Wrapper) (got put : List ℕ) (g : Given) where
         let put-in : unreadBytes (bufferAt (stated x)) ≡ statusBytes (w .tag) r (statusNumber s) = stated-unread x s r here (fit .status) ∙ ap (λ (v : Wrapper). statusBytes (v .tag) r (statusNumber s)) (fit .wrapper) in
         let thirteen : length (unreadBytes (bufferAt (stated x))) ≡ 13 = ap length put-in ∙ length-status (w .tag) r (statusNumber s) in
         let n : ceiling (length (unreadBytes (bufferAt (stated x)))) (P x) ≡ owing x = rw (thirteen, none, ceiling-none (P x) (fit .some)) (sym (zero-add _)) in
-        subst (λ (k : ℕ). Leads w got put g (P x) (x .device .status) (x .device .left .0) k (enterStatus g x)) n
+        subst (λ (k : ℕ). Leads w got put g (x .taken) (P x) (x .device .status) (x .device .left .0) k (enterStatus g x)) n
         (leads-status (stated x) fit-stated s r here refl (rw (put-in, all)) (omega arith) long)
 
     leads-wait : isPresent (x .device .status) ≡ false → Goes x (owing x) (ends g (reaching DataTransferToHostStatusAwait x) (no 0))
-    leads-wait absent long = record { wrapper = fit .wrapper; status = refl; phase = waiting refl none (append-nil got ∙ all); count = λ present. absurd (clash (sym present ∙ absent)) }
+    leads-wait absent long = record { wrapper = fit .wrapper; status = refl; phase = waiting refl none (append-nil got ∙ all); count = λ present. absurd (clash (sym present ∙ absent)); wire = λ _. still (x .device .left .0) (no-later g (x .taken)) }
 
     pub leads-await : Goes x (owing x) (statusAwaitRule g x)
     unfolding statusAwaitRule
@@ -213,7 +249,7 @@ module _ (w : Wrapper) (got put : List ℕ) (g : Given) where
           ∙ all
 
       leads-fill : Goes x (owing x) (sendData g (topped x))
-      unfolding sendData dataBy fallen left xs
+      unfolding sendData dataBy fallen left xs takesStatus
       leads-fill long =
           let f : Figures = figures in
           record {
@@ -221,6 +257,7 @@ module _ (w : Wrapper) (got put : List ℕ) (g : Given) where
             status = refl;
             phase = toHostEnding refl dir (fill-bytes _ (omega (arith, f .parts, f .filled, long))) (omega (arith, f .parts, f .filled, long));
             count = λ _ _. fill-falls long;
+            wire = λ takes. absurd (clash (sym takes));
           }
 
     -- with nothing left nothing is unread, and the host got it all
@@ -253,6 +290,7 @@ module _ (w : Wrapper) (got put : List ℕ) (g : Given) where
         status = refl;
         phase = toHost refl dir (rw append-nil same) (rw append-nil sum);
         count = λ present. absurd (clash (sym present ∙ absent));
+        wire = λ _. still (x .device .left .0) (no-later g (x .taken));
       }
 
       leads-data : Goes x (owing x) (sendData g (reaching DataTransferToHost x))
@@ -263,11 +301,13 @@ module _ (w : Wrapper) (got put : List ℕ) (g : Given) where
           let rest : List ℕ = unreadBytes (bufferAfter (sendData g y)) in
           let split : ys ++ rest ≡ unreadBytes (bufferAt x) = data-unread g y (fit .sound) in
           let parts : length ys + length rest ≡ length (unreadBytes (bufferAt x)) = sym (length-append ys rest) ∙ ap length split in
+          let none : length (laterBytes (x .taken) g (sendData g y)) ≡ 0 = no-later g (x .taken) in
           record {
             wrapper = fit .wrapper;
             status = refl;
             phase = toHost refl dir (append-assoc got ys rest ∙ ap (λ (zs : List ℕ). got ++ zs) split ∙ same) (omega (arith, length-append got ys, unread-few));
             count = λ present. absurd (clash (sym present ∙ absent));
+            wire = λ _. ap (λ (n : ℕ). x .device .left .0 - n) (omega (arith, none, long));
           }
 
     pub leads-to : Goes x (owing x) (toHostRule g x)
@@ -307,8 +347,8 @@ module _ (w : Wrapper) (got put : List ℕ) (g : Given) where
           rw (u .0, unserved (outFor g dropped) idle, kept) (add-zero _))
 
       leads-drop : Goes x (owing x) (takeData g dropped)
-      unfolding takeData takeBy
-      leads-drop long = record { wrapper = fit .wrapper; status = refl; phase = fromHostEnding refl dir (append-nil got ∙ none); count = λ _. drop-falls }
+      unfolding takeData takeBy takesStatus
+      leads-drop long = record { wrapper = fit .wrapper; status = refl; phase = fromHostEnding refl dir (append-nil got ∙ none); count = λ _. drop-falls; wire = λ takes. absurd (clash (sym takes)) }
 
     pub leads-from-ending : x .taken ≡ 0 → length (g .one) ≤ P x → isPresent (x .device .status) ≡ true → Goes x (owing x) (fromHostEndingRule g x)
     unfolding fromHostEndingRule
@@ -317,14 +357,20 @@ module _ (w : Wrapper) (got put : List ℕ) (g : Given) where
         (λ e. leads-enter x fit (eqb-true _ _ e) no-data (x .device .status) refl present)
         (λ e. leads-drop first small (eqb-false _ _ e))
 
-    leads-take : isPresent (x .device .status) ≡ false → Goes x (owing x) (takeData g (reaching DataTransferFromHost x))
-    unfolding takeData takeBy
-    leads-take absent long = record { wrapper = fit .wrapper; status = refl; phase = fromHost refl dir (append-nil got ∙ none); count = λ present. absurd (clash (sym present ∙ absent)) }
+    leads-take : x .taken ≤ 1 → isPresent (x .device .status) ≡ false → Goes x (owing x) (takeData g (reaching DataTransferFromHost x))
+    unfolding takeData takeBy fallen
+    leads-take once absent long = record {
+      wrapper = fit .wrapper;
+      status = refl;
+      phase = fromHost refl dir (append-nil got ∙ none);
+      count = λ present. absurd (clash (sym present ∙ absent));
+      wire = λ _. ap (λ (n : ℕ). x .device .left .0 - n) (brought-is (P x) (outFor g x) (offered g x) (bufferAt x) ∙ sym (zero-add _ ∙ later-is g (takesOne (P x) (outFor g x) (bufferAt x)) (x .taken) once));
+    }
 
-    -- with a status present the poll has taken no packet before
-    pub leads-from : (isPresent (x .device .status) ≡ true → x .taken ≡ 0) → length (g .one) ≤ P x → Goes x (owing x) (fromHostRule g x)
+    -- with a status present the poll has taken no packet before; else one at most
+    pub leads-from : (isPresent (x .device .status) ≡ true → x .taken ≡ 0) → x .taken ≤ 1 → length (g .one) ≤ P x → Goes x (owing x) (fromHostRule g x)
     unfolding fromHostRule
-    leads-from first small =
+    leads-from first once small =
         of-picked (Goes x (owing x)) (eqb (x .device .left .0) 0)
         (λ e. leads-await x fit (eqb-true _ _ e) no-data)
-        (λ _. of-picked (Goes x (owing x)) (isPresent (x .device .status)) (λ present. leads-from-ending (first present) small present) leads-take)
+        (λ _. of-picked (Goes x (owing x)) (isPresent (x .device .status)) (λ present. leads-from-ending (first present) small present) (leads-take once))

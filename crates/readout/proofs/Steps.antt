@@ -2,8 +2,8 @@
 -- Assumes nothing.
 use mathlib.Core.Path.{_≡_, refl, sym, ap, ap₂, _∙_}
 use mathlib.Core.Bool.{Bool, true, false, cond, _&&_}
-use mathlib.Core.List.{List, [], _++_, append-assoc, append-nil}
-use Prim.Native.Nat.{ℕ, _+_, _≤_, _<_, min}
+use mathlib.Core.List.{List, [], _++_, append-assoc, append-nil, flatten}
+use Prim.Native.Nat.{ℕ, _+_, _-_, _≤_, _<_, min, zero-le}
 use native.Mathlib.Nat.{add-zero}
 use native.Mathlib.Omega.{arith}
 use lib.Dec.{eqb}
@@ -36,14 +36,20 @@ use Rattle.readout.specs.History.{Socket, socket, Event, poll, status, w
 use Rattle.readout.specs.Demand.{Full, ceiling}
 use Rattle.readout.proofs.Ceiling.{ceiling-none}
 use Rattle.readout.proofs.Transfer.{Phase, toHost, waiting, toHostEnding, fromHost, fromHostEnding, sending, Transfer, unreadIn, due, dueIn}
-use Rattle.readout.proofs.Rules.{bytesOf, poll-long, Fit, Leads, leads-status, leads-await, leads-to-ending, leads-to, leads-from-ending, leads-from}
+use Rattle.readout.proofs.Rules.{bytesOf, poll-long, still, Fit, Leads, leads-status, leads-await, leads-to-ending, leads-to, leads-from-ending, leads-from}
 
 -- From a socket to what an event shows, with k served polls: the invariant holds behind it, only an accepted status changes the status,
--- and, with one present, what is due falls by the served polls.
+-- with one present what is due falls by the served polls; and, where a status is taken, left by what crosses the wire.
 pub record Steps (w : Wrapper) (p : ℕ) (got put : List ℕ) (s : Socket) (accepted : Bool) (k : ℕ) (o : Shows) : Type 0 where
   pub transfer : Transfer w p (got ++ o .sent) (put ++ o .put) (o .socket)
   pub status : accepted ≡ false → o .socket .device .status ≡ s .device .status
   pub count : isPresent (s .device .status) ≡ true → Full (min (s .device .packetsize) (s .device .left .0)) (o .taken) → due (o .socket) + k ≡ due s
+  pub wire : takesStatus (stateNumber (o .socket .device .state)) ≡ true → o .socket .device .left .0 ≡ s .device .left .0 - (length (o .sent) + length (flatten (o .taken)))
+
+-- where nothing crosses the wire, left stays
+nothing-moved : (l : ℕ) → l ≡ l - (0 + length {A = ℕ} (flatten []))
+unfolding flatten
+nothing-moved l = still l refl
 
 -- ---- polls
 
@@ -52,7 +58,7 @@ module _ (w : Wrapper) (p : ℕ) (got put : List ℕ) (few : length put ≤ w .l
   start = point (s .device) (s .io) 0 false
 
   abbrev GoesOn : Polling → Type 0
-  GoesOn o = Leads w got put g (s .device .packetsize) (s .device .status) (s .device .left .0) (due s) o
+  GoesOn o = Leads w got put g 0 (s .device .packetsize) (s .device .status) (s .device .left .0) (due s) o
 
   fit : Fit w start
   fit =
@@ -82,9 +88,9 @@ module _ (w : Wrapper) (p : ℕ) (got put : List ℕ) (few : length put ≤ w .l
     -- the poll as a rule of the state σ
     abbrev GoesIn : State → Type 0
     GoesIn σ = length (bytesOf (ruleIn σ g start)) ≡ ruleIn σ g start .sent
-        → Leads w got put g (s .device .packetsize) (s .device .status) (s .device .left .0) (dueIn σ (s .device .packetsize) (s .device .left .0) (length (unreadIn s))) (ruleIn σ g start)
+        → Leads w got put g 0 (s .device .packetsize) (s .device .status) (s .device .left .0) (dueIn σ (s .device .packetsize) (s .device .left .0) (length (unreadIn s))) (ruleIn σ g start)
 
-    in-3 : s .device .state ≡ StatusTransfer → (length (bytesOf (sendStatus g start)) ≡ sendStatus g start .sent → Leads w got put g (s .device .packetsize) (s .device .status) (s .device .left .0) (ceiling (length (unreadIn s)) (s .device .packetsize)) (sendStatus g start))
+    in-3 : s .device .state ≡ StatusTransfer → (length (bytesOf (sendStatus g start)) ≡ sendStatus g start .sent → Leads w got put g 0 (s .device .packetsize) (s .device .status) (s .device .left .0) (ceiling (length (unreadIn s)) (s .device .packetsize)) (sendStatus g start))
         → GoesIn StatusTransfer
     unfolding ruleIn statusTransferRule
     in-3 e sends =
@@ -96,7 +102,7 @@ module _ (w : Wrapper) (p : ℕ) (got put : List ℕ) (few : length put ≤ w .l
     rule-leads σ (toHost e dir same sum) at-σ = rw e (leads-to w got put g start fit dir same sum few)
     rule-leads σ (waiting e none all) at-σ = rw e (leads-await w got put g start fit none all)
     rule-leads σ (toHostEnding e dir all few′) at-σ = rw e (leads-to-ending w got put g start fit dir all few′ (rw (at-σ, e) at (t .whole .status)))
-    rule-leads σ (fromHost e dir none) at-σ = rw e (leads-from w got put g start fit dir none (λ _. refl) (fits .first))
+    rule-leads σ (fromHost e dir none) at-σ = rw e (leads-from w got put g start fit dir none (λ _. refl) zero-le (fits .first))
     rule-leads σ (fromHostEnding e dir none) at-σ = rw e (leads-from-ending w got put g start fit dir none refl (fits .first) (rw (at-σ, e) at (t .whole .status)))
     rule-leads σ (sending st r e here all) at-σ = rw e (in-3 (at-σ ∙ e) (leads-status w got put g start fit st r here (at-σ ∙ e) all (unread-some (at-σ ∙ e))))
 
@@ -106,7 +112,7 @@ module _ (w : Wrapper) (p : ℕ) (got put : List ℕ) (few : length put ≤ w .l
 
   -- a refusal is not served, and all is as before
   refused-leads : (n : ℕ) → isServed n ≡ false → GoesOn (refusing (s .device) (s .io) g n)
-  refused-leads n unserved = record { wrapper = t .wrapper; status = refl; phase = rw append-nil (t .phase); count = λ _ _. rw unserved (add-zero _) }
+  refused-leads n unserved = record { wrapper = t .wrapper; status = refl; phase = rw append-nil (t .phase); count = λ _ _. rw unserved (add-zero _); wire = λ _. nothing-moved (s .device .left .0) }
 
   call-leads : GoesOn (pollCall (s .device) (s .io) g)
   unfolding isServed
@@ -125,6 +131,7 @@ module _ (w : Wrapper) (p : ℕ) (got put : List ℕ) (few : length put ≤ w .l
         };
         status = λ _. l .status;
         count = l .count;
+        wire = l .wire;
       }
 
 -- ---- the other calls
@@ -132,7 +139,7 @@ module _ (w : Wrapper) (p : ℕ) (got put : List ℕ) (few : length put ≤ w .l
 module _ (w : Wrapper) (p : ℕ) (got put : List ℕ) (s : Socket) (t : Transfer w p got put s) where
   -- a call that changes nothing
   unchanged : (n : ℕ) (accepted : Bool) → Steps w p got put s accepted 0 (record { socket = s; number = n; taken = []; sent = []; put = [] })
-  unchanged n accepted = record { transfer = rw (append-nil, append-nil) t; status = λ _. refl; count = λ _ _. add-zero _ }
+  unchanged n accepted = record { transfer = rw (append-nil, append-nil) t; status = λ _. refl; count = λ _ _. add-zero _; wire = λ _. nothing-moved (s .device .left .0) }
 
   -- 3 takes no status; where one is taken, no phase speaks of it
   restated : (σ : State) (st : Status) → takesStatus (stateNumber σ) ≡ true → Phase w got put σ (s .device .status) (s .device .left .0) (unreadIn s) → Phase w got put σ st (s .device .left .0) (unreadIn s)
@@ -154,6 +161,7 @@ module _ (w : Wrapper) (p : ℕ) (got put : List ℕ) (s : Socket) (t : Transfer
         transfer = record { whole = whole; packetsize = t .packetsize; wrapper = t .wrapper; phase = rw (append-nil, append-nil) (restated (s .device .state) _ takes (t .phase)) };
         status = λ refused. absurd (clash refused);
         count = λ _ _. add-zero _;
+        wire = λ _. nothing-moved (s .device .left .0);
       })
       (status-whole (s .device) (s .io) f (t .whole))
 
@@ -189,6 +197,7 @@ module _ (w : Wrapper) (p : ℕ) (got put : List ℕ) (s : Socket) (t : Transfer
       };
       status = λ _. same-status;
       count = λ _ _. rw (same-state, same-left, same-packetsize, at-σ, t .packetsize) (add-zero _ ∙ level _ _);
+      wire = λ _. same-left ∙ nothing-moved (s .device .left .0);
     }
 
     -- in 4: ys are put in behind what is unread

@@ -1,6 +1,6 @@
 -- Document 01's cases of demand 3, and one of ours: stories, tables, and one statement for each table, which antt computes. Assumes nothing.
 use mathlib.Core.Path.{refl}
-use mathlib.Core.List.{List, [], _∷_, _++_}
+use mathlib.Core.List.{List, [], _∷_, _++_, flatten}
 use Prim.Native.Nat.{ℕ, _+_}
 use lib.ListN.{replicate, take, drop}
 use Rattle.fields.specs.Overlay.{overlay}
@@ -20,11 +20,11 @@ use Rattle.calls.specs.Checks.{isBroken, unlessBroken, isIn}
 use Rattle.calls.specs.Status.{takesStatus, statusOf, withFigure, acceptedStatus, setStatusCall}
 use Rattle.calls.specs.Data.{worksIn, readOut, limited, writeIn}
 use Rattle.readout.specs.History.{Socket, socket, Event, poll, status, write, read, commandStep, Shows, shows, next, run, all, isServed, isPoll, served, servedIn}
-use Rattle.readout.specs.Demand.{Story, told, ended, R, number, host, servedSince, ceiling, filledWith, theData, theStatus}
+use Rattle.readout.specs.Demand.{Story, told, ended, R, number, host, servedSince, crossed, ceiling, filledWith, theData, theStatus}
 
 -- to unfold this is to unfold all that the cases compute with
 unfoldable pub computing : Unit {0}
-unfolding overlay bytesAt counted digits ordered get put getBits isSound unreadBytes moved withRoom appended fitting written filled lacksRoom writtenAll ready buffer.given readOff emptied endpointOf fallen residueOf statusBytes isSigned isBlockLength isValid directionOf wrapperOf blank handed readTold takesOne brought received accepted sendTold sentCount sentOff sentInto filledUp withStatus isPacketSize creation commandFits isWhole statusBy sendStatus dataBy sendData offers offeredBy takeBy takeData statusPut enterStatus statusAwaitRule noDataRule toHostEndingRule fallsShort toHostRule fromHostEndingRule fromHostRule startRule messageAt parseRule readBy readOneBy readCbwRule statusTransferRule ruleIn pollRule isFitting pollCall isBroken unlessBroken isIn takesStatus statusOf withFigure acceptedStatus setStatusCall worksIn readOut limited writeIn shows run all isServed isPoll served servedIn ceiling filledWith
+unfolding flatten overlay bytesAt counted digits ordered get put getBits isSound unreadBytes moved withRoom appended fitting written filled lacksRoom writtenAll ready buffer.given readOff emptied endpointOf fallen residueOf statusBytes isSigned isBlockLength isValid directionOf wrapperOf blank handed readTold takesOne brought received accepted sendTold sentCount sentOff sentInto filledUp withStatus isPacketSize creation commandFits isWhole statusBy sendStatus dataBy sendData offers offeredBy takeBy takeData statusPut enterStatus statusAwaitRule noDataRule toHostEndingRule fallsShort toHostRule fromHostEndingRule fromHostRule startRule messageAt parseRule readBy readOneBy readCbwRule statusTransferRule ruleIn pollRule isFitting pollCall isBroken unlessBroken isIn takesStatus statusOf withFigure acceptedStatus setStatusCall worksIn readOut limited writeIn shows run all isServed isPoll served servedIn ceiling filledWith
 computing = tt
 
 -- ---- the polls
@@ -172,6 +172,7 @@ pub ours : List Case
 ours =
     -- 12 of 20 are left at the second status: two packets of them, 8 bytes and 4, with a busy OUT between, and two of the status
     case (R write8) 12
+    ∷ case (crossed write8) 8
     ∷ case (number write8) 4
     ∷ case (servedSince write8) 3
     ∷ case (answersIn (write8 .after) (told write8)) (0 ∷ 6 ∷ 0 ∷ 0 ∷ [])

@@ -22,7 +22,7 @@ use Rattle.bbb.specs.Poll.{Given, Fits}
 use Rattle.calls.specs.declared.Figure.{Figure}
 use Rattle.calls.specs.Checks.{bufferOf}
 use Rattle.calls.specs.Status.{takesStatus}
-use Rattle.readout.specs.History.{Socket, Event, poll, status, shows, next, run, sentIn, putIn, arrivedIn, served, servedIn, isReset, accepts, Throughout}
+use Rattle.readout.specs.History.{Socket, Event, poll, status, shows, next, run, sentIn, putIn, takenIn, arrivedIn, served, servedIn, isReset, accepts, Throughout}
 
 -- ---- a command's story
 
@@ -86,6 +86,10 @@ firmware t = putIn (history t) (t .start)
 -- the served polls since the last accepted status
 abbrev pub servedSince : Story → ℕ
 servedSince t = servedIn (t .after) (told t)
+
+-- the data bytes that crossed the wire up to the last status: those sent, and those taken behind the wrapper's 31
+abbrev pub crossed : Story → ℕ
+crossed t = length (sentIn (toStatus t) (t .start)) + (length (takenIn (toStatus t) (t .start)) - 31)
 
 -- ---- what is supposed
 
@@ -184,9 +188,11 @@ pub record Willing (g : Given) (s : Socket) : Type 0 where
   pub second : serves (endpointOf (g .turn .second)) ≡ true
   pub write : serves (endpointOf (g .turn .write)) ≡ true
 
+-- "R data bytes left": L less what crossed the wire, never below 0. (A difference of ℕ is 0 where it would be below.)
 -- "the last status byte goes out after exactly R/P plus 13/P served polls": not in a story with fewer, whatever else happened in it, and
 -- in the served poll that makes the number full; and the number can be made full, since there each willing poll is served.
 pub record Demand (t : Story) : Type 0 where
+  pub left : R t ≡ L t - crossed t
   pub not-before : servedSince t < number t → NotYet t
   pub exactly : servedSince t + 1 ≡ number t → (g : Given) → Later (poll g) (ended t) → served (poll g) (ended t) ≡ 1 → Ends t g
   pub reachable : servedSince t < number t → (g : Given) → Willing g (ended t) → served (poll g) (ended t) ≡ 1

@@ -1,7 +1,7 @@
 -- Polls and calls as events, and what a history of them leaves and shows, by the very definitions that the calls' contracts cite. Assumes
 -- nothing: these are definitions.
 use mathlib.Core.Bool.{Bool, true, false, cond, not, _&&_, _||_}
-use mathlib.Core.List.{List, [], _∷_, _++_}
+use mathlib.Core.List.{List, [], _∷_, _++_, flatten}
 use Prim.Native.Nat.{ℕ, _+_}
 use lib.Dec.{eqb}
 use lib.ListN.{take}
@@ -91,7 +91,7 @@ unfoldable pub run : List Event → Socket → Socket
 run [] s = s
 run (e ∷ h) s = run h (next e s)
 
--- What its events show, one behind the other: the bytes sent, or put in, or of each poll the packet that it took first.
+-- What its events show, one behind the other: the bytes sent, or put in, or taken, or of each poll the packet that it took first.
 unfoldable pub all : (Shows → List ℕ) → List Event → Socket → List ℕ
 all what [] s = []
 all what (e ∷ h) s = what (shows e s) ++ all what h (next e s)
@@ -101,6 +101,9 @@ sentIn h s = all (λ (o : Shows). o .sent) h s
 
 abbrev pub putIn : List Event → Socket → List ℕ
 putIn h s = all (λ (o : Shows). o .put) h s
+
+abbrev pub takenIn : List Event → Socket → List ℕ
+takenIn h s = all (λ (o : Shows). flatten (o .taken)) h s
 
 abbrev pub firstOf : List (List ℕ) → List ℕ
 firstOf [] = []
