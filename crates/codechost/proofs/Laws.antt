@@ -23,7 +23,7 @@ use Rattle.wrapper.specs.declared.verdict.Verdict.{Verdict}
 use Rattle.wrapper.specs.Counters.{residueOf}
 use Rattle.wrapper.specs.Status.{statusNumber, statusBytes, statusCall}
 use Rattle.wrapper.specs.Status as bot
-use Rattle.wrapper.specs.Wrapper.{Valid, wrapperOf, parsed}
+use Rattle.wrapper.specs.Wrapper.{Valid, directionNumber, wrapperOf, parsed}
 use Rattle.wrapper.specs.Verdict.{verdictOf, verdictNumber}
 use Rattle.wrapper.proofs.Csw.{status-accepted, status-above, length-status}
 use Rattle.wrapper.proofs.Cbw.{valid-is, parsed-is, parsed-valid, parsed-accepted, length-block}
@@ -70,7 +70,7 @@ no-flag was block x h = rw (lt-leb x 1 h)
 
 -- ---- the wrapper
 
-pub five-stored : (l : List ℕ) (w : Wrapper) {d : ℕ} → length l ≡ 5 → d ≡ layout.directionNumber (w .direction)
+pub five-stored : (l : List ℕ) (w : Wrapper) {d : ℕ} → length l ≡ 5 → d ≡ directionNumber (w .direction)
     → set (set (set (set (set l 0 (w .tag)) 1 (w .length)) 2 d) 3 (w .lun)) 4 (w .blocklength) ≡ layout.numbers w
 five-stored l w h ed = rw ed (all-stored l (layout.numbers w) h)
 

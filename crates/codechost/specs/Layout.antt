@@ -4,18 +4,10 @@ use mathlib.Core.Bool.{Bool, cond, _&&_}
 use mathlib.Core.List.{List, [], _∷_}
 use lib.Dec.{eqb, leb}
 use lib.ListN.{length}
-use Rattle.wrapper.specs.declared.DataDirection.{DataDirection}
-use Rattle.wrapper.specs.declared.DataDirection.the-variants.{Out, In, NotExpected}
 use Rattle.wrapper.specs.declared.Wrapper.{Wrapper}
 use Rattle.wrapper.specs.Counters.{residueOf}
 use Rattle.wrapper.specs.Status.{statusBytes}
-use Rattle.wrapper.specs.Wrapper.{isValid, wrapperOf}
-
--- our numbers of the directions: 0 no data, 1 to the host, 2 from the host
-abbrev pub directionNumber : DataDirection → ℕ
-directionNumber Out = 2
-directionNumber In = 1
-directionNumber NotExpected = 0
+use Rattle.wrapper.specs.Wrapper.{isValid, directionNumber, wrapperOf}
 
 -- a wrapper in five numbers: tag, L, direction, LUN, block length
 abbrev pub numbers : Wrapper → List ℕ

@@ -1,23 +1,13 @@
 // The wrapper, the status and the verdict.
 use buffer::span::put;
-use wrapper::DataDirection;
 use wrapper::Wrapper;
+use wrapper::direction_number;
 use wrapper::status::StatusByte;
 use wrapper::verdict::Verdict;
 ghost use mathlib.Core.Path.{_≡_};
 ghost use lib.ListN.{length};
 ghost use Rattle.wrapper.specs.Verdict.{verdictOf, verdictNumber};
-ghost use Rattle.codechost.specs.Layout.{directionNumber, numbers, parse, shownParse, status, shownStatus};
-
-fn direction_number(direction: DataDirection) -> u32
-    ensures { λ r. ⌜ r ≡ directionNumber direction ⌝ }
-{
-    match direction {
-        DataDirection::Out => 2,
-        DataDirection::In => 1,
-        DataDirection::NotExpected => 0,
-    }
-}
+ghost use Rattle.codechost.specs.Layout.{numbers, parse, shownParse, status, shownStatus};
 
 fn put_fields(fields: &mut [u32], w: Wrapper)
     requires { ⌜ length (now fields) ≡ 5 ⌝ }
@@ -26,7 +16,7 @@ fn put_fields(fields: &mut [u32], w: Wrapper)
     let direction = w.direction;
     fields[0] = w.tag;
     fields[1] = w.length;
-    fields[2] = direction_number(direction);
+    fields[2] = direction_number(direction) as u32;
     fields[3] = w.lun as u32;
     fields[4] = w.blocklength as u32;
 }

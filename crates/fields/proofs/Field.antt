@@ -4,7 +4,8 @@
 --     get-append, get-front          what follows the message does not count
 --     put-stored, four-stored, byte-stored    stores in order write a field
 --     length-put                     a message stays as long as it is
---     get-put, get-before, get-behind    what was written is read; a field before or behind it reads as before
+--     get-put                        what was written is read
+--     bytes-before, bytes-behind, get-before, get-behind    a field before or behind it keeps its bytes, and reads as before
 --     shifted-one                    the divisor of a field of bits
 -- Assumes nothing.
 use mathlib.Core.Path.{_≡_, refl, sym, ap, _∙_}
@@ -136,13 +137,21 @@ module _ (f : Field) (n : ℕ) (m : List ℕ) (fits : f .start + f .width ≤ le
       let there = rw length-ys at (part-inside m (f .start) ys (omega arith)) in
       rw there (ap counted (ordered-twice (f .order) (digits (f .width) n)) ∙ counted-digits (f .width) n h)
 
+  pub bytes-before : (g : Field) → g .start + g .width ≤ f .start → bytesAt g (put f n m) ≡ bytesAt g m
+  unfolding put bytesAt ys
+  bytes-before g h = part-before m (f .start) ys (g .start) (g .width) h (omega (arith, length-ys))
+
+  pub bytes-behind : (g : Field) → f .start + f .width ≤ g .start → bytesAt g (put f n m) ≡ bytesAt g m
+  unfolding put bytesAt ys
+  bytes-behind g h = part-behind m (f .start) ys (g .start) (g .width) (omega (arith, length-ys)) (omega arith)
+
   pub get-before : (g : Field) → g .start + g .width ≤ f .start → get g (put f n m) ≡ get g m
-  unfolding get put bytesAt ys
-  get-before g h = rw (part-before m (f .start) ys (g .start) (g .width) h (omega (arith, length-ys)))
+  unfolding get
+  get-before g h = rw (bytes-before g h)
 
   pub get-behind : (g : Field) → f .start + f .width ≤ g .start → get g (put f n m) ≡ get g m
-  unfolding get put bytesAt ys
-  get-behind g h = rw (part-behind m (f .start) ys (g .start) (g .width) (omega (arith, length-ys)) (omega arith))
+  unfolding get
+  get-behind g h = rw (bytes-behind g h)
 
 -- ---- bits
 

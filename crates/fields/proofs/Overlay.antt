@@ -1,5 +1,6 @@
 -- Laws of `overlay`, and of any loop that makes one by stores in order.
---     overlay-nothing, overlay-whole, length-overlay    nothing laid over changes nothing; what is as long hides all; the length stays
+--     overlay-nothing, overlay-own, overlay-whole       nothing laid over, and a list's own part, change nothing; what is as long hides all
+--     length-overlay                                    the length stays
 --     take-overlay, drop-overlay                        the list up to the end of ys, and from there on
 --     overlay-before, overlay-inside, overlay-after     each element: before ys, in ys, behind ys
 --     part-inside, part-before, part-behind             parts: ys itself, and what lies before or behind it
@@ -20,6 +21,14 @@ use Rattle.fields.proofs.Seq.{drop-front}
 pub overlay-nothing : (d : List ℕ) (at : ℕ) → overlay d at [] ≡ d
 unfolding overlay
 overlay-nothing d at = simp (add-zero, append-nil, take-append-drop)
+
+-- a part of d where it stands already
+pub overlay-own : (d : List ℕ) (at n : ℕ) → at + n ≤ length d → overlay d at (take n (drop at d)) ≡ d
+unfolding overlay
+overlay-own d at n h =
+    let part : List ℕ = take n (drop at d) in
+    let long : length part ≡ n = length-take-le n (drop at d) (omega (arith, length-drop at d)) in
+    rw (long, ← drop-drop n at d, append-assoc (take at d) part (drop n (drop at d)), take-append-drop n (drop at d), take-append-drop at d)
 
 -- what is as long as d hides it
 pub overlay-whole : (d ys : List ℕ) → length ys ≡ length d → overlay d 0 ys ≡ ys

@@ -20,6 +20,8 @@ use Rattle.wrapper.proofs.status.status_bytes.Kinds as status-bytes-kin
 use Rattle.wrapper.proofs.status.status_bytes.Reads as status-bytes
 use Rattle.wrapper.proofs.valid.Kinds as valid-kinds
 use Rattle.wrapper.proofs.valid.Reads as valid
+use Rattle.wrapper.proofs.direction_number.Kinds as direction-number-kinds
+use Rattle.wrapper.proofs.direction_number.Reads as direction-number
 use Rattle.wrapper.proofs.head_of.Kinds as head-of-kinds
 use Rattle.wrapper.proofs.head_of.Reads as head-of
 use Rattle.wrapper.proofs.read_wrapper.Kinds as read-wrapper-kinds
@@ -56,6 +58,9 @@ status-number-only κs a x y s t p q = (p ∙ sym q, refl)
 
 pub status-bytes-only : Only 0 status-bytes-kinds.ps status-bytes-kinds.r status-bytes.Post (λ κs s. tt {0})
 status-bytes-only κs a x y s t p q = (p ∙ sym q, refl)
+
+pub direction-number-only : Only 0 direction-number-kinds.ps direction-number-kinds.r direction-number.Post (λ κs s. tt {0})
+direction-number-only κs a x y s t p q = (p ∙ sym q, refl)
 
 pub valid-only : Only 1 valid-kinds.ps valid-kinds.r valid.Post (λ κs s. tt {0})
 valid-only κs a x y s t p q = (p ∙ sym q, refl)

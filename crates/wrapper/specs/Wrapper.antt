@@ -69,6 +69,12 @@ isValid m = isSigned m && isBlockLength (get bCBWCBLength m)
 unfoldable pub directionOf : ℕ → ℕ → DataDirection
 directionOf length toHost = cond (eqb length 0) NotExpected (cond (eqb toHost 1) In Out)
 
+-- our numbers of the directions, for callers in C and Rust: 0 no data, 1 to the host, 2 from the host
+abbrev pub directionNumber : DataDirection → ℕ
+directionNumber Out = 2
+directionNumber In = 1
+directionNumber NotExpected = 0
+
 -- what a valid wrapper says
 unfoldable pub wrapperOf : List ℕ → Wrapper
 wrapperOf m = record {

@@ -11,7 +11,7 @@ use fields::le32;
 ghost use mathlib.Core.Path.{_≡_};
 ghost use lib.ListN.{length};
 ghost use Rattle.fields.specs.Field.{bytesAt};
-ghost use Rattle.wrapper.specs.Wrapper.{CBWCB, isSigned, isBlockLength, isValid, directionOf, wrapperOf, headOf, blank, parsed};
+ghost use Rattle.wrapper.specs.Wrapper.{CBWCB, isSigned, isBlockLength, isValid, directionOf, directionNumber, wrapperOf, headOf, blank, parsed};
 
 // 55 53 42 43, little-endian.
 const SIGNATURE: u32 = 0x43425355;
@@ -87,6 +87,17 @@ fn direction_of(length: u32, tohost: u8) -> DataDirection
         return DataDirection::In;
     }
     DataDirection::Out
+}
+
+// The direction's number for callers in C and Rust.
+pub fn direction_number(direction: DataDirection) -> u8
+    ensures { λ r. ⌜ r ≡ directionNumber direction ⌝ }
+{
+    match direction {
+        DataDirection::Out => 2,
+        DataDirection::In => 1,
+        DataDirection::NotExpected => 0,
+    }
 }
 
 // The command block of a wrapper.

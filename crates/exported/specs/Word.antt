@@ -1,0 +1,20 @@
+-- A result of several parts in one number of 64 bits: bits 0 to 7 the answer, 8 to 15 the number carried or a LUN, 16 to 23 what is asked
+-- of both endpoints, 24 to 31 a flag or the OUT packets taken, 32 to 63 a count. Assumes nothing: these are definitions.
+use Prim.Native.Nat.{ℕ, _+_, _*_}
+use mathlib.Core.Bool.{Bool, true, false}
+use Rattle.answers.specs.declared.Stalls.{Stalls}
+use Rattle.answers.specs.declared.Stalls.the-variants.{Kept, Stalled, Unstalled, UnstalledStalled}
+
+unfoldable pub word : ℕ → ℕ → ℕ → ℕ → ℕ → ℕ
+word answer carried stalls flag count = answer + 256 * carried + 65536 * stalls + 16777216 * flag + 4294967296 * count
+
+-- `-`, `S`, `U`, `US`
+abbrev pub stallsNumber : Stalls → ℕ
+stallsNumber Kept = 0
+stallsNumber Stalled = 1
+stallsNumber Unstalled = 2
+stallsNumber UnstalledStalled = 3
+
+-- an answer alone
+abbrev pub plain : ℕ → ℕ
+plain answer = word answer 0 0 0 0

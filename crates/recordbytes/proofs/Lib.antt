@@ -1,0 +1,8 @@
+-- proofs.Reading    what each way through a function that reads owes
+-- proofs.Storing    what storing one number leaves
+-- proofs.Stored     what storing many leaves
+-- proofs.Parts      the parts of a device
+pub mod Reading
+pub mod Storing
+pub mod Stored
+pub mod Parts

@@ -1,0 +1,108 @@
+-- Laws of storing.
+--     length-store, get-stored, bytes-apart    the length stays; the number stored is read; a field apart from it keeps its bytes
+--     store-same                               a number that stands there already changes nothing
+--     ways                                     what each way through a function owes
+-- Assumes nothing.
+use mathlib.Core.Path.{_≡_, refl, sym, ap, _∙_}
+use mathlib.Core.Bool.{Bool, true, false, _||_}
+use mathlib.Core.List.{List}
+use Prim.Native.Nat.{ℕ, _+_, _^_, _≤_, _<_}
+use native.Mathlib.Omega.{arith}
+use lib.Dec.{eqb, leb}
+use lib.ListN.{length, set}
+use borrow.Author.Tests.{eq-eqb, ne-eqb, eqb-true, leb-true}
+use Rattle.fields.specs.Field.{Field, littleEndian, oneByte, bytesAt, get, put}
+use Rattle.fields.specs.Overlay.{overlay}
+use Rattle.fields.proofs.Bools.{of-picked}
+use Rattle.fields.proofs.Field.{length-put, get-put, bytes-before, bytes-behind, byte-stored}
+use Rattle.buffer.specs.declared.Marks.{Marks}
+use Rattle.ring.specs.declared.State.{State}
+use Rattle.ring.specs.States.{stateNumber}
+use Rattle.wrapper.specs.declared.Head.{Head}
+use Rattle.wrapper.specs.declared.counters.Left.{Left}
+use Rattle.wrapper.specs.declared.counters.Residue.{Residue}
+use Rattle.wrapper.specs.declared.status.CommandStatus.{CommandStatus}
+use Rattle.wrapper.specs.Status.{statusNumber}
+use Rattle.wrapper.specs.Wrapper.{directionNumber}
+use Rattle.device.specs.declared.Status.{Status}
+use Rattle.device.specs.declared.Status.the-variants.{Absent, Present}
+use Rattle.recordbytes.specs.Layout as field
+use Rattle.recordbytes.specs.Record.{store, joined, storeState, storeMarks, storeLeft, storeStatus, storeWrapper}
+
+-- ---- one field
+
+-- whether one of two fields stands behind the other
+unfoldable pub isApart : Field → Field → Bool
+isApart f g = leb (g .start + g .width) (f .start) || leb (f .start + f .width) (g .start)
+
+put-apart : (f : Field) (n : ℕ) (r : List ℕ) → f .start + f .width ≤ length r → (g : Field) → isApart f g ≡ true → bytesAt g (put f n r) ≡ bytesAt g r
+unfolding isApart
+put-apart f n r fits g h = by (leb (g .start + g .width) (f .start)) refl
+  where
+    by : (b : Bool) → leb (g .start + g .width) (f .start) ≡ b → bytesAt g (put f n r) ≡ bytesAt g r
+    by true e = bytes-before f n r fits g (leb-true _ _ e)
+    by false e = bytes-behind f n r fits g (leb-true _ _ (rw e at h))
+
+module _ (f : Field) (n : ℕ) (r : List ℕ) where
+  pub store-same : get f r ≡ n → store f n r ≡ r
+  unfolding store
+  store-same e = rw (eq-eqb _ _ e)
+
+  stored-new : (get f r ≡ n → ⊥) → store f n r ≡ put f n r
+  unfolding store
+  stored-new e = rw (ne-eqb _ _ e)
+
+  module _ (fits : f .start + f .width ≤ length r) where
+    pub length-store : length (store f n r) ≡ length r
+    unfolding store
+    length-store = of-picked (λ (l : List ℕ). length l ≡ length r) (eqb (get f r) n) (λ _. refl) (λ _. length-put f n r fits)
+
+    pub get-stored : n < 256 ^ f .width → get f (store f n r) ≡ n
+    unfolding store
+    get-stored h = of-picked (λ (l : List ℕ). get f l ≡ n) (eqb (get f r) n) (λ q. eqb-true _ _ q) (λ _. get-put f n r fits h)
+
+    pub bytes-apart : (g : Field) → isApart f g ≡ true → bytesAt g (store f n r) ≡ bytesAt g r
+    unfolding store
+    bytes-apart g h = of-picked (λ (l : List ℕ). bytesAt g l ≡ bytesAt g r) (eqb (get f r) n) (λ _. refl) (λ _. put-apart f n r fits g h)
+
+-- what a function that stores a number owes
+module _ (r : List ℕ) (at n : ℕ) where
+  pub leaves-byte : {x : ℕ} → at < length r → n < 256 → x ≡ get (oneByte at) r → (x ≡ n → ⊥) → set r at n ≡ store (oneByte at) n r
+  leaves-byte h k e q = byte-stored r at n k h ∙ sym (stored-new (oneByte at) n r (λ p. q (e ∙ p)))
+
+  pub keeps-byte : {x : ℕ} → x ≡ get (oneByte at) r → x ≡ n → r ≡ store (oneByte at) n r
+  keeps-byte e q = sym (store-same (oneByte at) n r (sym e ∙ q))
+
+  pub leaves-four : {x : ℕ} {l : List ℕ} → x ≡ get (littleEndian at 4) r → (x ≡ n → ⊥) → l ≡ put (littleEndian at 4) n r → l ≡ store (littleEndian at 4) n r
+  leaves-four e q h = h ∙ sym (stored-new (littleEndian at 4) n r (λ p. q (e ∙ p)))
+
+  pub keeps-four : {x : ℕ} → x ≡ get (littleEndian at 4) r → x ≡ n → r ≡ store (littleEndian at 4) n r
+  keeps-four e q = sym (store-same (littleEndian at 4) n r (sym e ∙ q))
+
+-- ---- parts
+
+module _ (r : List ℕ) where
+  pub leaves-state : (s : State) {n : ℕ} {l : List ℕ} → n ≡ stateNumber s → l ≡ store field.state n r → l ≡ storeState s r
+  unfolding storeState
+  leaves-state s en h = rw en at h
+
+  pub leaves-left : (x : Left) {l : List ℕ} → l ≡ store field.left (x .0) r → l ≡ storeLeft x r
+  unfolding storeLeft
+  leaves-left x h = h
+
+  pub leaves-marks : (m : Marks) {x y : ℕ} {l k : List ℕ} → x ≡ m .read → l ≡ store field.readMark x r → y ≡ m .write → k ≡ store field.writeMark y l → k ≡ storeMarks m r
+  unfolding storeMarks
+  leaves-marks m ex hl ey hk = rw (ey, hl, ex) at hk
+
+  pub leaves-absent : (s : Status) {l : List ℕ} → s ≡ Absent → l ≡ store field.present 0 r → l ≡ storeStatus s r
+  leaves-absent s e h = rw e h
+
+  pub leaves-present : (s : Status) (b : CommandStatus) (x : Residue) {n : ℕ} {l k j : List ℕ} → s ≡ Present b x → l ≡ store field.present 1 r → k ≡ store field.residue (x .0) l → n ≡ statusNumber b → j ≡ store field.status n k → j ≡ storeStatus s r
+  leaves-present s b x e hl hk en hj = rw e (rw (en, hk, hl) at hj)
+
+  pub leaves-wrapper : (h : Head) (block : List ℕ) {n : ℕ} {a b c d e l : List ℕ} → n ≡ directionNumber (h .direction) → a ≡ store field.direction n r → b ≡ store field.lun (h .lun) a
+      → c ≡ store field.blockLength (h .blocklength) b → d ≡ store field.tag (h .tag) c → e ≡ store field.declared (h .length) d → l ≡ overlay e 36 block → l ≡ storeWrapper (joined h block) r
+  unfolding storeWrapper
+  leaves-wrapper h block en ha hb hc hd he hl = rw (he, hd, hc, hb, ha, en) at hl
+
+pub ruleset ways = (leaves-byte, keeps-byte, leaves-four, keeps-four, leaves-state, leaves-left, leaves-marks, leaves-absent, leaves-present, leaves-wrapper)

@@ -1,0 +1,107 @@
+// A device's parts into the bytes of a record. Where a number stands in its field already, nothing is written.
+use buffer::Marks;
+use buffer::span::put;
+use device::Status;
+use fields::byte;
+use fields::le32;
+use fields::put_le32;
+use ring::State;
+use ring::state_number;
+use wrapper::Head;
+use wrapper::counters::Left;
+use wrapper::direction_number;
+use wrapper::status::status_number;
+ghost use mathlib.Core.Path.{_≡_};
+ghost use Prim.Native.Nat.{_+_, _≤_, _<_, _^_};
+ghost use lib.ListN.{length};
+ghost use Rattle.fields.specs.Field.{littleEndian, oneByte};
+ghost use Rattle.recordbytes.specs.Layout as field;
+ghost use Rattle.recordbytes.specs.Record.{joined, store, storeState, storeMarks, storeLeft, storeStatus, storeWrapper, newRecord};
+
+fn store8(r: &mut [u8], at: usize, n: u8)
+    requires { ⌜ at < length (now r) ⌝ }
+    ensures { λ _. ⌜ now (r .exit) ≡ store (oneByte at) n (now (r .entry)) ⌝ }
+{
+    if byte(r, at) != n {
+        r[at] = n;
+    }
+}
+
+fn store32(r: &mut [u8], at: usize, n: u32)
+    requires { ⌜ at + 4 ≤ length (now r) ⌝ }
+    ensures { λ _. ⌜ now (r .exit) ≡ store (littleEndian at 4) n (now (r .entry)) ⌝ }
+{
+    if le32(r, at) != n {
+        put_le32(r, at, n);
+    }
+}
+
+// A number of 32 bits.
+pub fn narrow(n: usize) -> u32
+    requires { ⌜ n < 2 ^ 32 ⌝ }
+    ensures { λ x. ⌜ x ≡ n ⌝ }
+{
+    (n % 4294967296) as u32
+}
+
+// A new device's record: all bytes are written, whatever they were.
+pub fn new(r: &mut [u8], packetsize: u8, maxlun: u8, size: u32)
+    requires { ⌜ length (now r) ≡ field.recordSize ⌝ }
+    ensures { λ _. ⌜ now (r .exit) ≡ newRecord packetsize maxlun size ⌝ }
+{
+    let zeros = [0u8; 52];
+    put(r, 0, &zeros);
+    store8(r, 0, packetsize);
+    store8(r, 1, maxlun);
+    store32(r, 4, size);
+}
+
+pub fn state(r: &mut [u8], state: State)
+    requires { ⌜ length (now r) ≡ field.recordSize ⌝ }
+    ensures { λ _. ⌜ now (r .exit) ≡ storeState state (now (r .entry)) ⌝ }
+{
+    store8(r, 2, state_number(state));
+}
+
+pub fn marks(r: &mut [u8], marks: Marks)
+    requires { ⌜ (length (now r) ≡ field.recordSize) × (marks .read < 2 ^ 32) × (marks .write < 2 ^ 32) ⌝ }
+    ensures { λ _. ⌜ now (r .exit) ≡ storeMarks marks (now (r .entry)) ⌝ }
+{
+    store32(r, 8, narrow(marks.read));
+    store32(r, 12, narrow(marks.write));
+}
+
+pub fn left(r: &mut [u8], left: Left)
+    requires { ⌜ length (now r) ≡ field.recordSize ⌝ }
+    ensures { λ _. ⌜ now (r .exit) ≡ storeLeft left (now (r .entry)) ⌝ }
+{
+    store32(r, 16, left.0);
+}
+
+pub fn status(r: &mut [u8], status: Status)
+    requires { ⌜ length (now r) ≡ field.recordSize ⌝ }
+    ensures { λ _. ⌜ now (r .exit) ≡ storeStatus status (now (r .entry)) ⌝ }
+{
+    match status {
+        Status::Absent => store8(r, 3, 0),
+        Status::Present(byte, residue) => {
+            store8(r, 3, 1);
+            store32(r, 20, residue.0);
+            store8(r, 24, status_number(byte));
+        }
+    }
+}
+
+// The wrapper of this head and this command block.
+pub fn wrapper(r: &mut [u8], head: Head, block: &[u8])
+    requires { ⌜ (length (now r) ≡ field.recordSize) × (length (now block) ≡ 16) ⌝ }
+    ensures { λ _. ⌜ now (r .exit) ≡ storeWrapper (joined head (now (block .entry))) (now (r .entry)) ⌝ }
+{
+    let direction = head.direction;
+    store8(r, 25, direction_number(direction));
+    store8(r, 26, head.lun);
+    store8(r, 27, head.blocklength);
+    store32(r, 28, head.tag);
+    store32(r, 32, head.length);
+    put(r, 36, block);
+}
