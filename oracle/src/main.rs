@@ -1,38 +1,10 @@
-//! The oracle: the Rust of docs/src, unchanged, behind document 01's bench file.
+//! The commands of the oracle, as oracle/README.md names them.
 
-mod benchfile;
-mod bufferops;
-mod cases;
-mod chains;
-mod codecinputs;
-mod codecs;
-mod coverage;
-mod damage;
-mod decode;
-mod demand;
-mod demandfaults;
-mod demandrun;
-mod demandtally;
-mod device;
-mod diff;
-mod endpoints;
-mod firmware;
-mod generator;
-mod host;
-mod lines;
-mod panics;
-mod printed;
-mod reachable;
-mod reached;
-mod rng;
-mod script;
-mod selftest;
-mod show;
-mod temper;
-mod vectors;
-mod wrapper;
-
-use lines::Detail;
+use oracle::lines::Detail;
+use oracle::{
+    bufferops, codecinputs, codecs, decode, demandfaults, demandrun, diff, generator, lines,
+    panics, selftest, vectors,
+};
 use std::io::{self, BufRead, Read, Write};
 use std::process::ExitCode;
 

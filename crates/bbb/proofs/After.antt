@@ -10,10 +10,10 @@
 --     parse-taken           the packet that brought the wrapper is counted
 -- Assumes nothing.
 use mathlib.Core.Path.{_≡_, refl, sym, ap, _∙_}
-use mathlib.Core.Bool.{Bool, true, false, cond}
+use mathlib.Core.Bool.{true, false, cond}
 use mathlib.Core.List.{List, _++_, append-nil}
 use Prim.Native.Nat.{ℕ, _+_, _-_, _≤_, _<_, min, max, zero-le}
-use native.Mathlib.Nat.{add-zero, add-comm, sub-zero, sub-add-eq-max, min-comm, min-le-right, min-eq-right, max-eq-left}
+use native.Mathlib.Nat.{add-comm, sub-zero, sub-add-eq-max, min-comm, min-le-right, min-eq-right, max-eq-left}
 use native.Mathlib.Omega.{arith}
 use lib.Dec.{eqb}
 use lib.ListN.{length, take, drop, replicate, take-append-drop, length-append, length-drop, length-replicate}
@@ -22,14 +22,13 @@ use borrow.Author.Tests.{eq-eqb, ne-eqb, le-leb, lt-leb, lt-ltb}
 use Rattle.fields.specs.Overlay.{overlay}
 use Rattle.fields.proofs.Bools.{of-picked}
 use Rattle.fields.proofs.Seq.{drop-take}
-use Rattle.fields.proofs.Overlay.{overlay-nothing, part-inside}
-use Rattle.buffer.specs.Buffer.{Buffer, Sound, buffer, at, unread, unreadBytes, emptied, fitting, lacksRoom, ready, given, readOff}
+use Rattle.fields.proofs.Overlay.{part-inside}
+use Rattle.buffer.specs.Buffer.{Buffer, Sound, buffer, at, unread, unreadBytes, emptied, fitting, lacksRoom, ready, given}
 use Rattle.buffer.proofs.Kept.{length-unread, ready-most, sound-emptied}
 use Rattle.buffer.proofs.Room.{fitting-by-unread}
 use Rattle.buffer.proofs.Unread.{unread-written, unread-filled, unread-writtenAll, unread-readOff, unread-emptied}
 use Rattle.answers.specs.declared.Endpoint.{Endpoint}
-use Rattle.answers.specs.declared.Endpoint.the-variants.{Served, Busy, Failed}
-use Rattle.answers.specs.Answers.{Told, no, endpointOf, serves, answeredBy}
+use Rattle.answers.specs.Answers.{no, endpointOf, serves, answeredBy}
 use Rattle.ring.specs.declared.State.the-variants.{CommandTransferInvalid, StatusTransfer, DataTransferToHost, DataTransferToHostEnding, DataTransferFromHost, DataTransferFromHostEnding}
 use Rattle.wrapper.specs.declared.Wrapper.{Wrapper}
 use Rattle.wrapper.specs.declared.counters.Left.{Left}
@@ -40,7 +39,7 @@ use Rattle.wrapper.specs.Status.{statusNumber, statusBytes}
 use Rattle.wrapper.specs.Wrapper.{isValid, wrapperOf}
 use Rattle.wrapper.proofs.Csw.{length-status}
 use Rattle.packets.specs.Packets.{handed, readTold, takesOne, brought, received, accepted, sendTold, sentCount, sentOff, sentInto, filledUp, withStatus}
-use Rattle.packets.proofs.Laws.{handed-most}
+use Rattle.packets.proofs.Laws.{handed-most, answers-0, told-served, sent-unserved, off-nothing, into-nothing}
 use Rattle.device.specs.declared.Status.the-variants.{Present}
 use Rattle.device.specs.Device.{isPresent, inState, withMarks, withLeft}
 use Rattle.bbb.specs.Poll.{Given, Polling, Point, bufferAt, reaching, leaving, counting, ending, ends, statusBy, sendStatus, dataBy, sendData, offers, offeredBy, takeBy, takeData, statusPut, enterStatus, statusAwaitRule, noDataRule, toHostEndingRule, fallsShort, toHostRule, fromHostEndingRule, fromHostRule, ordered, startRule, messageAt, behind31, parseRule, readBy, readOneBy, readCbwRule}
@@ -92,24 +91,10 @@ module _ (p : ℕ) (e : Endpoint) (s : Buffer) where
   unfolding sentCount ready accepted
   sent-all serving = rw serving (min-comm (unread s) p)
 
-  -- nothing is sent where nothing is unread, and where the endpoint does not do its part
+  -- nothing is sent where nothing is unread
   sent-nothing : unread s ≡ 0 → sentCount p e s ≡ 0
   unfolding sentCount
   sent-nothing none = omega (arith, ready-most (accepted e p) s)
-
-  sent-unserved : serves e ≡ false → sentCount p e s ≡ 0
-  unfolding sentCount ready accepted
-  sent-unserved idle = rw idle (omega (arith, min-le-right (unread s) 0))
-
-  -- then the buffer and the packet buffer stay
-  module _ (k : sentCount p e s ≡ 0) where
-    off-nothing : sentOff p e s ≡ s
-    unfolding sentCount sentOff readOff
-    off-nothing = rw (k, add-zero)
-
-    into-nothing : (packet : List ℕ) → sentInto p e s packet ≡ packet
-    unfolding sentCount sentInto given
-    into-nothing packet = rw k (overlay-nothing packet 0)
 
 fallen-nothing : (l : Left) → fallen l 0 ≡ l
 unfolding fallen
@@ -122,15 +107,6 @@ told-nothing e n none = rw (eq-eqb _ _ none)
 told-something : (e : Endpoint) (n : ℕ) → (n ≡ 0 → ⊥) → sendTold e n ≡ answeredBy e
 unfolding sendTold
 told-something e n some = rw (ne-eqb _ _ some)
-
-pub answers-0 : (e : Endpoint) → serves e ≡ true → answeredBy e ≡ no 0
-answers-0 Served h = refl
-answers-0 Busy h = ap (λ (b : Bool). cond b (no 0) (no 6)) h
-answers-0 (Failed n) h = ap (λ (b : Bool). cond b (no 0) (answeredBy (Failed n))) h
-
-told-served : (e : Endpoint) (n : ℕ) → serves e ≡ true → sendTold e n ≡ no 0
-unfolding sendTold
-told-served e n serving = of-picked (λ (t : Told). t ≡ no 0) (eqb n 0) (λ _. refl) (λ _. answers-0 e serving)
 
 module _ (g : Given) (x : Point) where
   -- the bytes sent, and then those still unread, are those that were unread

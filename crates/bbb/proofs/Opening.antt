@@ -7,9 +7,7 @@ use native.Mathlib.Omega.{arith}
 use lib.Dec.{eqb, leb}
 use lib.ListN.{length, take, drop}
 use borrow.Author.Tests.{eq-eqb, ne-eqb, leb-true}
-use Rattle.fields.specs.Overlay.{overlay}
-use Rattle.fields.proofs.Bools.{and-right}
-use Rattle.fields.proofs.Overlay.{overlay-whole}
+use Rattle.fields.proofs.Bools.{and-right, clash}
 use Rattle.fields.proofs.Seq.{length-part}
 use Rattle.buffer.specs.declared.Marks.{Marks}
 use Rattle.buffer.specs.Buffer.{Buffer, Sound, buffer, at, unread}
@@ -31,7 +29,7 @@ use Rattle.device.specs.Broken.{Whole}
 use Rattle.device.proofs.Wholly.{whole-sound}
 use Rattle.bbb.specs.declared.open.Opened.{Opened}
 use Rattle.bbb.specs.Poll.{messageAt}
-use Rattle.bbb.specs.Phases.{Opens, behind, parsedOpen, parsedMessage, countOf, openAfter, messageAfter, readOpen, readIo, readMessage, opens, leftWhen, isOpening, opened, openedIo, openedMessage}
+use Rattle.bbb.specs.Phases.{Opens, behind, parsedOpen, countOf, openAfter, readOpen, readIo, opens, leftWhen, isOpening, opened, openedIo}
 
 -- ---- small tests
 
@@ -71,34 +69,33 @@ module _ (m : Marks) (io : List ℕ) where
   sound-behind : Sound (buffer io m) → m .read + 31 ≤ m .write → Sound (buffer io (behind m))
   sound-behind g h = record { order = h; within = g .within }
 
-  module _ (left : Left) (cleared : Bool) (message : List ℕ) (g : Sound (buffer io m)) (h : m .read + 31 ≤ m .write)
+  module _ (left : Left) (cleared : Bool) (g : Sound (buffer io m)) (h : m .read + 31 ≤ m .write)
       {v : Bool} (hv : v ≡ isValid (take (m .read + 31 - m .read) (drop (m .read) io))) {out : Outcome} (ho : out ≡ plainly Done) where
     valid-is : {b : Bool} → v ≡ b → isValid (messageAt (buffer io m)) ≡ b
     valid-is q = ap isValid (sym message-is) ∙ sym hv ∙ q
 
-    pub parses-valid : v ≡ true → length message ≡ 31 → {w : Head} → w ≡ headOf (wrapperOf (take (m .read + 31 - m .read) (drop (m .read) io)))
-        → {message′ : List ℕ} → message′ ≡ overlay message 0 (take (m .read + 31 - m .read) (drop (m .read) io))
-        → Opens (parsedOpen (buffer io m) left cleared) io (parsedMessage (buffer io m) message)
-        (record { found = Valid; marks = behind m; left = record { 0 = w .length }; direction = w .direction; outcome = out; taken = 1; cleared = cleared }) io message′
-    unfolding parsedOpen parsedMessage
-    parses-valid q hl hw hm = record {
+    pub parses-valid : v ≡ true → {w : Head} → w ≡ headOf (wrapperOf (take (m .read + 31 - m .read) (drop (m .read) io)))
+        → Opens (parsedOpen (buffer io m) left cleared) io
+        (record { found = Valid; marks = behind m; left = record { 0 = w .length }; direction = w .direction; outcome = out; taken = 1; cleared = cleared }) io
+    unfolding parsedOpen
+    parses-valid q hw = record {
       leaves = rw (valid-is q, tells Done ho, hw, message-is);
       bytes = refl;
-      kept = rw (valid-is q) (hm ∙ overlay-whole message _ (part-31 g h ∙ sym hl) ∙ message-is);
       sound = sound-behind g h;
       once = omega arith;
+      front = λ _. omega arith;
     }
 
     pub parses-invalid : v ≡ false
-        → Opens (parsedOpen (buffer io m) left cleared) io (parsedMessage (buffer io m) message)
-        (record { found = Invalid; marks = behind m; left = left; direction = NotExpected; outcome = out; taken = 1; cleared = cleared }) io message
-    unfolding parsedOpen parsedMessage
+        → Opens (parsedOpen (buffer io m) left cleared) io
+        (record { found = Invalid; marks = behind m; left = left; direction = NotExpected; outcome = out; taken = 1; cleared = cleared }) io
+    unfolding parsedOpen
     parses-invalid q = record {
       leaves = rw (valid-is q, tells Done ho);
       bytes = refl;
-      kept = rw (valid-is q);
       sound = sound-behind g h;
       once = omega arith;
+      front = λ _. omega arith;
     }
 
 -- ---- the packet before them
@@ -107,7 +104,7 @@ count-most : (b : Bool) → countOf b ≤ 1
 count-most true = omega arith
 count-most false = omega arith
 
-module _ (p first : ℕ) (one : List ℕ) (left : Left) (cleared : Bool) (s : Buffer) (message : List ℕ)
+module _ (p first : ℕ) (one : List ℕ) (left : Left) (cleared : Bool) (s : Buffer)
     {e : Endpoint} (he : e ≡ endpointOf first) {r : Received} {io : List ℕ} (y : Reads p e one s r io)
     {v : Bool} (hv : v ≡ (r .taken && leb 31 (r .marks .write - r .marks .read))) where
   x : Reads p (endpointOf first) one s r io
@@ -120,60 +117,60 @@ module _ (p first : ℕ) (one : List ℕ) (left : Left) (cleared : Bool) (s : Bu
   ripe-is : {b : Bool} → v ≡ b → (takesOne p (endpointOf first) s && leb 31 (unread (received p (endpointOf first) one s))) ≡ b
   ripe-is q = rw (← x .taken, ← x .leaves .same) (sym hv ∙ q)
 
-  pub reads-parse : v ≡ true → {w : Opened} {io′ message′ : List ℕ}
-      → Opens (parsedOpen (buffer io (r .marks)) left cleared) io (parsedMessage (buffer io (r .marks)) message) w io′ message′
-      → Opens (readOpen p (endpointOf first) one left cleared s) (readIo p (endpointOf first) one s) (readMessage p (endpointOf first) one s message) w io′ message′
-  unfolding readOpen readMessage openAfter messageAfter
+  pub reads-parse : v ≡ true → {w : Opened} {io′ : List ℕ}
+      → Opens (parsedOpen (buffer io (r .marks)) left cleared) io w io′
+      → Opens (readOpen p (endpointOf first) one left cleared s) (readIo p (endpointOf first) one s) w io′
+  unfolding readOpen openAfter
   reads-parse q z = record {
     leaves = rw (ripe-is q, ← x .leaves .same) (z .leaves);
     bytes = z .bytes ∙ ap (λ (t : Buffer). t .bytes) (x .leaves .same);
-    kept = rw (ripe-is q, ← x .leaves .same) (z .kept);
     sound = z .sound;
     once = z .once;
+    front = z .front;
   }
 
   pub reads-nothing : v ≡ false → {k : ℕ} → k ≡ countOf (r .taken)
-      → Opens (readOpen p (endpointOf first) one left cleared s) (readIo p (endpointOf first) one s) (readMessage p (endpointOf first) one s message)
-      (record { found = Nothing; marks = r .marks; left = left; direction = NotExpected; outcome = r .outcome; taken = k; cleared = cleared }) io message
-  unfolding readOpen readMessage openAfter messageAfter
+      → Opens (readOpen p (endpointOf first) one left cleared s) (readIo p (endpointOf first) one s)
+      (record { found = Nothing; marks = r .marks; left = left; direction = NotExpected; outcome = r .outcome; taken = k; cleared = cleared }) io
+  unfolding readOpen openAfter
   reads-nothing q hk = record {
     leaves = rw (ripe-is q, ← x .leaves .same, x .outcome, hk, x .taken);
     bytes = ap (λ (t : Buffer). t .bytes) (x .leaves .same);
-    kept = rw (ripe-is q);
     sound = x .leaves .sound;
     once = rw hk (count-most (r .taken));
+    front = λ e. absurd (clash (sym e));
   }
 
 -- ---- whether the wrapper is reached
 
-module _ (n : Numbers) (io one : List ℕ) (e : Endpoint) (message : List ℕ) {k : ℕ} (hk : k ≡ stateNumber (n .state))
+module _ (n : Numbers) (io one : List ℕ) (e : Endpoint) {k : ℕ} (hk : k ≡ stateNumber (n .state))
     {v : Bool} (hv : v ≡ opens k (eqb (n .marks .write - n .marks .read) 0)) where
   opening-is : {b : Bool} → v ≡ b → isOpening n ≡ b
   unfolding isOpening
   opening-is q = rw (← hk) (sym hv ∙ q)
 
-  pub opens-reads : v ≡ true → {l : Left} → l ≡ leftWhen (eqb k 3) (n .left) → {r : Opened} {io′ message′ : List ℕ}
-      → Opens (readOpen (n .packetsize) e one l (eqb k 3) (buffer io (n .marks))) (readIo (n .packetsize) e one (buffer io (n .marks))) (readMessage (n .packetsize) e one (buffer io (n .marks)) message) r io′ message′
-      → Opens (opened n io one e) (openedIo n io one e) (openedMessage n io one e message) r io′ message′
-  unfolding opened openedIo openedMessage
+  pub opens-reads : v ≡ true → {l : Left} → l ≡ leftWhen (eqb k 3) (n .left) → {r : Opened} {io′ : List ℕ}
+      → Opens (readOpen (n .packetsize) e one l (eqb k 3) (buffer io (n .marks))) (readIo (n .packetsize) e one (buffer io (n .marks))) r io′
+      → Opens (opened n io one e) (openedIo n io one e) r io′
+  unfolding opened openedIo
   opens-reads q hl y = record {
     leaves = rw (opening-is q, ← hk, ← hl) (y .leaves);
     bytes = rw (opening-is q) (y .bytes);
-    kept = rw (opening-is q) (y .kept);
     sound = y .sound;
     once = y .once;
+    front = y .front;
   }
 
   pub opens-not : v ≡ false → Whole n (length io) → {out : Outcome} → out ≡ plainly Done
-      → Opens (opened n io one e) (openedIo n io one e) (openedMessage n io one e message)
-      (record { found = Nothing; marks = n .marks; left = n .left; direction = NotExpected; outcome = out; taken = 0; cleared = false }) io message
-  unfolding opened openedIo openedMessage
+      → Opens (opened n io one e) (openedIo n io one e)
+      (record { found = Nothing; marks = n .marks; left = n .left; direction = NotExpected; outcome = out; taken = 0; cleared = false }) io
+  unfolding opened openedIo
   opens-not q w ho = record {
     leaves = rw (opening-is q, tells Done ho);
     bytes = rw (opening-is q);
-    kept = rw (opening-is q);
     sound = whole-sound n io w;
     once = omega arith;
+    front = λ h. absurd (clash (sym h));
   }
 
 pub ruleset ways = (ripe-by, left-cleared, reaches-0, reaches-3, reaches-not, part-31, parses-valid, parses-invalid, ripe-31, reads-parse, reads-nothing, opens-reads, opens-not, whole-sound)

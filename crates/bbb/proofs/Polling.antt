@@ -4,9 +4,13 @@ use mathlib.Core.Bool.{Bool, true, false, cond, _&&_}
 use mathlib.Core.List.{List}
 use Prim.Native.Nat.{ℕ, _-_, _≤_, _<_}
 use lib.Dec.{eqb, leb}
-use lib.ListN.{length}
+use native.Mathlib.Omega.{arith}
+use lib.ListN.{length, take, drop}
 use borrow.Author.Tests.{le-leb, lt-leb, leb-true}
 use Rattle.fields.proofs.Bools.{and-left, and-right}
+use Rattle.fields.proofs.Seq.{length-part}
+use Rattle.buffer.specs.declared.Marks.{Marks}
+use Rattle.buffer.specs.Buffer.{Sound, buffer}
 use Rattle.answers.specs.declared.Answer.{Answer}
 use Rattle.answers.specs.declared.Answer.the-variants.{BrokenRecord, PacketRefused}
 use Rattle.answers.specs.declared.Outcome.{Outcome}
@@ -32,8 +36,8 @@ use Rattle.bbb.specs.declared.Polled.{Polled}
 use Rattle.bbb.specs.declared.open.Opened.{Opened}
 use Rattle.bbb.specs.declared.act.Did.{Did}
 use Rattle.bbb.specs.Poll.{Given, Fits, isFitting, refusedBy, pollingOf, pollRule, pollCall}
-use Rattle.bbb.specs.Phases.{openOf, Opens, Acts, acted, actedPacket, isValidFound, endedOf, endsWith, goneOn, opened, openedIo, openedMessage, ran, Runs, changedBy}
-use Rattle.bbb.proofs.Same.{finish, same}
+use Rattle.bbb.specs.Phases.{openOf, isValidFound, InFront, Opens, opened, openedIo, justRead, wrapperThen, Acts, acted, actedPacket, endedOf, endsWith, goneOn, changedBy}
+use Rattle.bbb.proofs.Same.{finish, follows, same}
 
 -- ---- small picks
 
@@ -43,16 +47,39 @@ clears-status b s q = rw q
 pub keeps-status : (b : Bool) (s : Status) → b ≡ false → s ≡ cond b Absent s
 keeps-status b s q = rw q
 
-module _ (b : Bool) (w : Wrapper) (message : List ℕ) where
-  pub parsed-wrapper : {r : Wrapper} → b ≡ true → r ≡ wrapperOf message → r ≡ cond b (wrapperOf message) w
-  parsed-wrapper q h = rw q h
+pub changes : (d : Device) (c : Change) (w : Wrapper) {s : Status} → s ≡ cond (c .cleared) Absent (d .status)
+    → _≡_ {A = Device} (record { packetsize = d .packetsize; maxlun = d .maxlun; size = d .size; state = c .state; marks = c .marks; wrapper = w; status = s; left = c .left }) (changedBy d c w)
+changes d c w hs = rw hs
 
-  pub kept-wrapper : b ≡ false → w ≡ cond b (wrapperOf message) w
-  kept-wrapper q = rw q
+-- ---- the wrapper that opening found
 
-pub changes : (d : Device) (c : Change) (message : List ℕ) {w : Wrapper} {s : Status} → w ≡ cond (c .parsed) (wrapperOf message) (d .wrapper) → s ≡ cond (c .cleared) Absent (d .status)
-    → _≡_ {A = Device} (record { packetsize = d .packetsize; maxlun = d .maxlun; size = d .size; state = c .state; marks = c .marks; wrapper = w; status = s; left = c .left }) (changedBy d c message)
-changes d c message hw hs = rw (hw, hs)
+cut : (end : ℕ) → 31 ≤ end → end - (end - 31) ≡ 31
+cut end h = omega arith
+
+-- the part of the IO buffer that ends at the read mark
+pub in-front : (io : List ℕ) (m : Marks) → 31 ≤ m .read → take (m .read - (m .read - 31)) (drop (m .read - 31) io) ≡ justRead io m
+unfolding justRead
+in-front io m h = rw (cut (m .read) h)
+
+module _ (o : Opened) {v : Bool} (hv : v ≡ isValidFound (o .found)) where
+  pub found-31 : InFront o → v ≡ true → 31 ≤ o .marks .read
+  found-31 front q = front (sym hv ∙ q)
+
+  module _ (io : List ℕ) where
+    pub found-part : Sound (buffer io (o .marks)) → InFront o → v ≡ true
+        → length (take (o .marks .read - (o .marks .read - 31)) (drop (o .marks .read - 31) io)) ≡ 31
+    found-part g front q =
+        let h = found-31 front q in
+        rw (cut (o .marks .read) h) (length-part (o .marks .read - 31) 31 io (omega (arith, g .order, g .within)))
+
+    pub found-wrapper : (w : Wrapper) → InFront o → v ≡ true → {r : Wrapper}
+        → r ≡ wrapperOf (take (o .marks .read - (o .marks .read - 31)) (drop (o .marks .read - 31) io)) → r ≡ wrapperThen (openOf o) io w
+    unfolding wrapperThen
+    found-wrapper w front q h = rw (← hv, q, ← in-front io (o .marks) (found-31 front q)) h
+
+    pub kept-wrapper : (w : Wrapper) → v ≡ false → w ≡ wrapperThen (openOf o) io w
+    unfolding wrapperThen
+    kept-wrapper w q = rw (← hv, q)
 
 -- ---- 11
 
@@ -69,6 +96,10 @@ module _ (p packet one two : ℕ) where
   unfolding isFitting
   fits-not-one a = rw (lt-leb _ _ a)
 
+pub first-fits : (p packet one two : ℕ) {r : Bool} → r ≡ isFitting p packet one two → r ≡ true → one ≤ p
+unfolding isFitting
+first-fits p packet one two h e = leb-true _ _ (and-left (leb one p) (leb two p && leb p packet) (sym h ∙ e))
+
 pub is-fitting : (p : ℕ) (packet one two : List ℕ) {r : Bool} → r ≡ isFitting p (length packet) (length one) (length two) → r ≡ true → Fits p packet one two
 unfolding isFitting
 is-fitting p packet one two h e =
@@ -76,25 +107,19 @@ is-fitting p packet one two h e =
     let b : Bool = leb (length two) p in
     let c : Bool = leb p (length packet) in
     let k : a && (b && c) ≡ true = sym h ∙ e in
-    record { first = leb-true _ _ (and-left a (b && c) k); second = leb-true _ _ (and-left b c (and-right a (b && c) k)); into = leb-true _ _ (and-right b c (and-right a (b && c) k)) }
+    record { first = first-fits _ _ _ _ h e; second = leb-true _ _ (and-left b c (and-right a (b && c) k)); into = leb-true _ _ (and-right b c (and-right a (b && c) k)) }
 
 pub refusal : (d : Device) (a : Answer) {o : Outcome} → o ≡ plainly a → _≡_ {A = Polled} (record { device = d; report = record { outcome = o; taken = 0; sent = 0; stalls = Kept } }) (refusedBy d a)
 refusal d a h = rw h
 
 -- ---- decide and act
 
-pub goes-on : (n : Numbers) (o : Opened) (io : List ℕ) (g : Given) {p : Bool} {a : Act} {row : Row} {r : Did} {io′ packet′ : List ℕ} {v : Bool} {s : Stalls}
+pub goes-on : (n : Numbers) (o : Opened) (io : List ℕ) (g : Given) {p : Bool} {a : Act} {row : Row} {r : Did} {io′ packet′ : List ℕ} {s : Stalls}
     → p ≡ isPresent (n .status) → a ≡ settled (n .state) (n .left .0) p (eqb (n .marks .write - n .marks .read) 0) (o .found) (o .direction) (o .left .0) → row ≡ rowOf a
-    → Acts (acted row n (openOf o) io g) (actedPacket row n (openOf o) io g) r io′ packet′ → v ≡ isValidFound (o .found) → s ≡ stallsOf (o .cleared) (r .stalled)
-    → endedOf (record { state = row .0; marks = r .marks; left = r .left; cleared = o .cleared; parsed = v; report = record { outcome = r .outcome; taken = r .taken; sent = r .sent; stalls = s } }) io′ packet′ ≡ goneOn n (openOf o) io g
+    → Acts (acted row n (openOf o) io g) (actedPacket row n (openOf o) io g) r io′ packet′ → s ≡ stallsOf (o .cleared) (r .stalled)
+    → endedOf (record { state = row .0; marks = r .marks; left = r .left; cleared = o .cleared; report = record { outcome = r .outcome; taken = r .taken; sent = r .sent; stalls = s } }) io′ packet′ ≡ goneOn n (openOf o) io g
 unfolding goneOn endsWith
-goes-on n o io g hp ha hr x hv hs = rw (← hp, ← ha, ← hr, ← x .leaves, x .into, hv, hs)
-
-pub runs : (n : Numbers) (io message : List ℕ) (g : Given) {o : Opened} {io′ io″ packet′ message′ : List ℕ} {r : Change}
-    → Opens (opened n io (g .one) (endpointOf (g .turn .first))) (openedIo n io (g .one) (endpointOf (g .turn .first))) (openedMessage n io (g .one) (endpointOf (g .turn .first)) message) o io′ message′
-    → endedOf r io″ packet′ ≡ goneOn n (openOf o) io′ g → Runs n io message g r io″ packet′ message′
-unfolding ran
-runs n io message g x h = record { leaves = rw (x .leaves, x .bytes) at h; kept = x .kept }
+goes-on n o io g hp ha hr x hs = rw (← hp, ← ha, ← hr, ← x .leaves, x .into, hs)
 
 -- ---- the call
 
@@ -111,12 +136,15 @@ module _ (d : Device) (io : List ℕ) (g : Given) {n : Numbers} (hn : n ≡ numb
     unfolding pollCall
     tells-11 p h = rw (← hn, ← hv, q, ← fit, p, h, tells PacketRefused {r = plainly PacketRefused} refl)
 
-    pub polls : w ≡ true → {message message′ io′ packet′ : List ℕ} {c : Change} {d′ : Device} → Runs n io message g c io′ packet′ message′ → d′ ≡ changedBy d c message′
-        → pollingOf (record { device = d′; report = c .report }) io′ packet′ ≡ pollCall d io g
+    -- what open and go_on promise, and the wrapper that was taken between them, make 01's poll
+    pub polls : w ≡ true → {o : Opened} {io′ io″ packet′ : List ℕ} (c : Change) {w′ : Wrapper} {d′ : Device}
+        → Opens (opened n io (g .one) (endpointOf (g .turn .first))) (openedIo n io (g .one) (endpointOf (g .turn .first))) o io′
+        → endedOf c io″ packet′ ≡ goneOn n (openOf o) io′ g → w′ ≡ wrapperThen (openOf o) io′ (d .wrapper) → d′ ≡ changedBy d c w′
+        → pollingOf (record { device = d′; report = c .report }) io″ packet′ ≡ pollCall d io g
     unfolding pollCall pollRule
-    polls p {message} {message′} {io′} {packet′} {c} x h =
-        let k : finish d (endedOf c io′ packet′) message′ ≡ finish d (ran (numbersOf d) io g) (openedMessage (numbersOf d) io (g .one) (endpointOf (g .turn .first)) message) =
-        rw (← hn, ← x .leaves, ← x .kept) in
-        rw (← hn, ← hv, q, ← fit, p, h) (k ∙ same (d .state) d io g message (absent-in-0 (numbersOf d) (length io) (rw hn at (tested n (length io) hv q))))
+    polls p {o} {io′} {io″} {packet′} c x y z h =
+        let k : finish d (endedOf c io″ packet′) (wrapperThen (openOf o) io′ (d .wrapper)) ≡ follows d (opened (numbersOf d) io (g .one) (endpointOf (g .turn .first))) (openedIo (numbersOf d) io (g .one) (endpointOf (g .turn .first))) g =
+        rw (← hn, ← x .leaves, ← x .bytes, ← y) in
+        rw (← hn, ← hv, q, ← fit, p, h, z) (k ∙ same (d .state) d io g (absent-in-0 (numbersOf d) (length io) (rw hn at (tested n (length io) hv q))))
 
-pub ruleset ways = (clears-status, keeps-status, parsed-wrapper, kept-wrapper, changes, fits-all, fits-not-two, fits-not-one, is-fitting, refusal, goes-on, runs, tells-10, tells-11, polls, tested)
+pub ruleset ways = (clears-status, keeps-status, changes, found-31, found-part, found-wrapper, kept-wrapper, fits-all, fits-not-two, fits-not-one, first-fits, is-fitting, refusal, goes-on, tested)

@@ -3,7 +3,8 @@
 use mathlib.Core.Path.{_≡_, refl}
 use mathlib.Core.Bool.{Bool, true, false, cond, _&&_}
 use mathlib.Core.List.{List}
-use Prim.Native.Nat.{ℕ, _-_}
+use Prim.Native.Nat.{ℕ, _+_, _-_}
+use native.Mathlib.Omega.{arith}
 use lib.Dec.{eqb, leb}
 use Rattle.buffer.specs.declared.Marks.{Marks}
 use Rattle.buffer.specs.Buffer.{Buffer, buffer, at, unread}
@@ -27,12 +28,12 @@ use Rattle.device.specs.declared.Status.the-variants.{Absent}
 use Rattle.device.specs.declared.Device.{Device}
 use Rattle.device.specs.Device.{isPresent, numbersOf, inState}
 use Rattle.bbb.specs.Poll.{Given, Polling, Point, point, reaching, leaving, ending, ends, statusBy, sendStatus, dataBy, sendData, takeBy, takeData, enterStatus, statusAwaitRule, noDataRule, toHostEndingRule, fallsShort, toHostRule, fromHostEndingRule, fromHostRule, startRule, messageAt, behind31, parseRule, readBy, readOneBy, readCbwRule, statusTransferRule, invalidRule, ruleIn}
-use Rattle.bbb.specs.Phases.{Open, opening, behind, parsedOpen, parsedMessage, openAfter, messageAfter, readOpen, readMessage, opens, isOpening, opened, openedIo, openedMessage, Done, tookFrom, took, sentFrom, sentBy, sentPacket, acted, actedPacket, isValidFound, Ended, endedBy, endsWith, goneOn, ran}
+use Rattle.bbb.specs.Phases.{Open, opening, behind, parsedOpen, openAfter, readOpen, opens, isOpening, opened, openedIo, justRead, wrapperThen, Done, tookFrom, took, sentFrom, sentBy, sentPacket, acted, actedPacket, Ended, endedBy, endsWith, goneOn}
 
--- the record with what changed, and what is reported; μ are the lent 31 bytes
-abbrev pub finish : Device → Ended → List ℕ → Polling
-finish d x μ = record {
-  device = record { packetsize = d .packetsize; maxlun = d .maxlun; size = d .size; state = x .state; marks = x .marks; wrapper = cond (x .parsed) (wrapperOf μ) (d .wrapper); status = cond (x .cleared) Absent (d .status); left = x .left };
+-- the record with what changed, with the wrapper w, and what is reported
+abbrev pub finish : Device → Ended → Wrapper → Polling
+finish d x w = record {
+  device = record { packetsize = d .packetsize; maxlun = d .maxlun; size = d .size; state = x .state; marks = x .marks; wrapper = w; status = cond (x .cleared) Absent (d .status); left = x .left };
   told = x .told;
   taken = x .taken;
   sent = x .sent;
@@ -42,144 +43,153 @@ finish d x μ = record {
 }
 
 -- Decided and done: to the act a the poll comes, from what opening left.
-abbrev goes : Device → Open → List ℕ → Given → List ℕ → Act → Polling
-goes d o io g μ a = finish d (endsWith (rowOf a) (numbersOf d) o io g) μ
+abbrev goes : Device → Open → List ℕ → Given → Wrapper → Act → Polling
+goes d o io g w a = finish d (endsWith (rowOf a) (numbersOf d) o io g) w
 
--- The point at which the act begins: the record with what opening left, in any state z.
-abbrev start : Device → State → Open → List ℕ → List ℕ → Point
-start d z o io μ = point (record { packetsize = d .packetsize; maxlun = d .maxlun; size = d .size; state = z; marks = o .marks; wrapper = cond (isValidFound (o .found)) (wrapperOf μ) (d .wrapper); status = cond (o .cleared) Absent (d .status); left = o .left }) io (o .taken) (o .cleared)
+-- The point at which the act begins: the record with what opening left, in any state z, with the wrapper w.
+abbrev start : Device → State → Open → List ℕ → Wrapper → Point
+start d z o io w = point (record { packetsize = d .packetsize; maxlun = d .maxlun; size = d .size; state = z; marks = o .marks; wrapper = w; status = cond (o .cleared) Absent (d .status); left = o .left }) io (o .taken) (o .cleared)
 
 -- ---- the acts
 
-module _ (d : Device) (z : State) (io : List ℕ) (g : Given) (μ : List ℕ) (f : Found) (m : Marks) (l : Left) (dir : DataDirection) (k : ℕ) (c : Bool) where
+module _ (d : Device) (z : State) (io : List ℕ) (g : Given) (w : Wrapper) (f : Found) (m : Marks) (l : Left) (dir : DataDirection) (k : ℕ) (c : Bool) where
   abbrev o : Told → Open
   o t = opening f m l dir t k c
 
-  stays : (t : Told) → goes d (o t) io g μ Stay ≡ ends g (reaching CommandTransfer (start d z (o t) io μ)) t
+  stays : (t : Told) → goes d (o t) io g w Stay ≡ ends g (reaching CommandTransfer (start d z (o t) io w)) t
   unfolding endsWith acted actedPacket
   stays t = refl
 
-  stalls : goes d (o (no 0)) io g μ Stall ≡ ending (reaching CommandTransferInvalid (start d z (o (no 0)) io μ)) (no 0) 0 true (g .packet)
+  stalls : goes d (o (no 0)) io g w Stall ≡ ending (reaching CommandTransferInvalid (start d z (o (no 0)) io w)) (no 0) 0 true (g .packet)
   unfolding endsWith acted actedPacket
   stalls = refl
 
-  waits : goes d (o (no 0)) io g μ Wait ≡ ends g (reaching DataTransferToHostStatusAwait (start d z (o (no 0)) io μ)) (no 0)
+  waits : goes d (o (no 0)) io g w Wait ≡ ends g (reaching DataTransferToHostStatusAwait (start d z (o (no 0)) io w)) (no 0)
   unfolding endsWith acted actedPacket
   waits = refl
 
-  nexts : goes d (o (no 0)) io g μ Next ≡ sendStatus g (reaching StatusTransfer (start d z (o (no 0)) io μ))
+  nexts : goes d (o (no 0)) io g w Next ≡ sendStatus g (reaching StatusTransfer (start d z (o (no 0)) io w))
   unfolding endsWith acted actedPacket sentBy sentFrom sentPacket sendStatus statusBy
   nexts = refl
 
-  fills : goes d (o (no 0)) io g μ Fill ≡ sendData g (reaching DataTransferToHostEnding (leaving (filledUp (d .packetsize) l (buffer io m)) (start d z (o (no 0)) io μ)))
+  fills : goes d (o (no 0)) io g w Fill ≡ sendData g (reaching DataTransferToHostEnding (leaving (filledUp (d .packetsize) l (buffer io m)) (start d z (o (no 0)) io w)))
   unfolding endsWith acted actedPacket sentBy sentFrom sentPacket sendData dataBy
   fills = refl
 
   -- a packet of data, or answer 4
-  short : (b : Bool) (x y : Done) (p q : List ℕ) → finish d (endedBy DataTransferToHost (o (no 0)) (cond b x y) (cond b p q)) μ
-      ≡ cond b (finish d (endedBy DataTransferToHost (o (no 0)) x p) μ) (finish d (endedBy DataTransferToHost (o (no 0)) y q) μ)
+  short : (b : Bool) (x y : Done) (p q : List ℕ) → finish d (endedBy DataTransferToHost (o (no 0)) (cond b x y) (cond b p q)) w
+      ≡ cond b (finish d (endedBy DataTransferToHost (o (no 0)) x p) w) (finish d (endedBy DataTransferToHost (o (no 0)) y q) w)
   short true x y p q = refl
   short false x y p q = refl
 
-  sends : goes d (o (no 0)) io g μ Send
+  sends : goes d (o (no 0)) io g w Send
       ≡ cond (fallsShort (d .packetsize) l (m .write - m .read))
-      (ends g (reaching DataTransferToHost (start d z (o (no 0)) io μ)) (no 4))
-      (sendData g (reaching DataTransferToHost (start d z (o (no 0)) io μ)))
+      (ends g (reaching DataTransferToHost (start d z (o (no 0)) io w)) (no 4))
+      (sendData g (reaching DataTransferToHost (start d z (o (no 0)) io w)))
   unfolding endsWith acted actedPacket sentBy sentFrom sentPacket sendData dataBy
   sends = short (fallsShort (d .packetsize) l (m .write - m .read)) _ _ _ _
 
-  takes : goes d (o (no 0)) io g μ Take ≡ takeData g (reaching DataTransferFromHost (start d z (o (no 0)) io μ))
+  takes : goes d (o (no 0)) io g w Take ≡ takeData g (reaching DataTransferFromHost (start d z (o (no 0)) io w))
   unfolding endsWith acted actedPacket took tookFrom takeData takeBy
   takes = refl
 
-  drops : goes d (o (no 0)) io g μ Drop ≡ takeData g (reaching DataTransferFromHostEnding (leaving (buffer io (at 0 0)) (start d z (o (no 0)) io μ)))
+  drops : goes d (o (no 0)) io g w Drop ≡ takeData g (reaching DataTransferFromHostEnding (leaving (buffer io (at 0 0)) (start d z (o (no 0)) io w)))
   unfolding endsWith acted actedPacket took tookFrom takeData takeBy
   drops = refl
 
 -- by a test, and by a direction
-split : (d : Device) (x : Open) (io : List ℕ) (g : Given) (μ : List ℕ) (b : Bool) (a a′ : Act) {y y′ : Polling}
-    → goes d x io g μ a ≡ y → goes d x io g μ a′ ≡ y′ → goes d x io g μ (cond b a a′) ≡ cond b y y′
-split d x io g μ true a a′ h h′ = h
-split d x io g μ false a a′ h h′ = h′
+split : (d : Device) (x : Open) (io : List ℕ) (g : Given) (w : Wrapper) (b : Bool) (a a′ : Act) {y y′ : Polling}
+    → goes d x io g w a ≡ y → goes d x io g w a′ ≡ y′ → goes d x io g w (cond b a a′) ≡ cond b y y′
+split d x io g w true a a′ h h′ = h
+split d x io g w false a a′ h h′ = h′
 
-directed : (d : Device) (x : Open) (io : List ℕ) (g : Given) (μ : List ℕ) (q : DataDirection) (a b c : Act) {y z v : Polling}
-    → goes d x io g μ a ≡ y → goes d x io g μ b ≡ z → goes d x io g μ c ≡ v → goes d x io g μ (byDirection q a b c) ≡ byDirection q y z v
-directed d x io g μ Out a b c h i j = h
-directed d x io g μ In a b c h i j = i
-directed d x io g μ NotExpected a b c h i j = j
+directed : (d : Device) (x : Open) (io : List ℕ) (g : Given) (w : Wrapper) (q : DataDirection) (a b c : Act) {y z v : Polling}
+    → goes d x io g w a ≡ y → goes d x io g w b ≡ z → goes d x io g w c ≡ v → goes d x io g w (byDirection q a b c) ≡ byDirection q y z v
+directed d x io g w Out a b c h i j = h
+directed d x io g w In a b c h i j = i
+directed d x io g w NotExpected a b c h i j = j
 
 -- ---- the handlers of a poll that does not reach the wrapper: nothing was found, read or cleared
 
-module _ (d : Device) (io : List ℕ) (g : Given) (μ : List ℕ) where
+module _ (d : Device) (io : List ℕ) (g : Given) where
   abbrev same-open : Open
   same-open = opening Nothing (d .marks) (d .left) NotExpected (no 0) 0 false
 
   abbrev here : Point
   here = point d io 0 false
 
-  enters : goes d same-open io g μ Enter ≡ enterStatus g here
+  enters : goes d same-open io g (d .wrapper) Enter ≡ enterStatus g here
   unfolding endsWith acted actedPacket sentBy sentFrom sentPacket enterStatus sendStatus statusBy
   enters = refl
 
-  await : goes d same-open io g μ (statusAwaitAct (isPresent (d .status))) ≡ statusAwaitRule g here
+  await : goes d same-open io g (d .wrapper) (statusAwaitAct (isPresent (d .status))) ≡ statusAwaitRule g here
   unfolding statusAwaitAct statusAwaitRule
-  await = split d same-open io g μ (isPresent (d .status)) Enter Wait enters (waits d (d .state) io g μ Nothing (d .marks) (d .left) NotExpected 0 false)
+  await = split d same-open io g (d .wrapper) (isPresent (d .status)) Enter Wait enters (waits d (d .state) io g (d .wrapper) Nothing (d .marks) (d .left) NotExpected 0 false)
 
-  none : goes d same-open io g μ (noDataAct (isPresent (d .status))) ≡ noDataRule g here
+  none : goes d same-open io g (d .wrapper) (noDataAct (isPresent (d .status))) ≡ noDataRule g here
   unfolding noDataAct noDataRule
   none = await
 
-  to-ending : goes d same-open io g μ (toHostEndingAct (d .left .0)) ≡ toHostEndingRule g here
+  to-ending : goes d same-open io g (d .wrapper) (toHostEndingAct (d .left .0)) ≡ toHostEndingRule g here
   unfolding toHostEndingAct toHostEndingRule
-  to-ending = split d same-open io g μ (eqb (d .left .0) 0) Enter Fill enters (fills d (d .state) io g μ Nothing (d .marks) (d .left) NotExpected 0 false)
+  to-ending = split d same-open io g (d .wrapper) (eqb (d .left .0) 0) Enter Fill enters (fills d (d .state) io g (d .wrapper) Nothing (d .marks) (d .left) NotExpected 0 false)
 
-  to-host : goes d same-open io g μ (toHostAct (d .left .0) (isPresent (d .status))) ≡ toHostRule g here
+  to-host : goes d same-open io g (d .wrapper) (toHostAct (d .left .0) (isPresent (d .status))) ≡ toHostRule g here
   unfolding toHostAct toHostRule
   to-host =
-      split d same-open io g μ (eqb (d .left .0) 0) _ _ await
-      (split d same-open io g μ (isPresent (d .status)) _ _ to-ending (sends d (d .state) io g μ Nothing (d .marks) (d .left) NotExpected 0 false))
+      split d same-open io g (d .wrapper) (eqb (d .left .0) 0) _ _ await
+      (split d same-open io g (d .wrapper) (isPresent (d .status)) _ _ to-ending (sends d (d .state) io g (d .wrapper) Nothing (d .marks) (d .left) NotExpected 0 false))
 
-  from-ending : goes d same-open io g μ (fromHostEndingAct (d .left .0)) ≡ fromHostEndingRule g here
+  from-ending : goes d same-open io g (d .wrapper) (fromHostEndingAct (d .left .0)) ≡ fromHostEndingRule g here
   unfolding fromHostEndingAct fromHostEndingRule
-  from-ending = split d same-open io g μ (eqb (d .left .0) 0) Enter Drop enters (drops d (d .state) io g μ Nothing (d .marks) (d .left) NotExpected 0 false)
+  from-ending = split d same-open io g (d .wrapper) (eqb (d .left .0) 0) Enter Drop enters (drops d (d .state) io g (d .wrapper) Nothing (d .marks) (d .left) NotExpected 0 false)
 
-  from-host : goes d same-open io g μ (fromHostAct (d .left .0) (isPresent (d .status))) ≡ fromHostRule g here
+  from-host : goes d same-open io g (d .wrapper) (fromHostAct (d .left .0) (isPresent (d .status))) ≡ fromHostRule g here
   unfolding fromHostAct fromHostRule
   from-host =
-      split d same-open io g μ (eqb (d .left .0) 0) _ _ await
-      (split d same-open io g μ (isPresent (d .status)) _ _ from-ending (takes d (d .state) io g μ Nothing (d .marks) (d .left) NotExpected 0 false))
+      split d same-open io g (d .wrapper) (eqb (d .left .0) 0) _ _ await
+      (split d same-open io g (d .wrapper) (isPresent (d .status)) _ _ from-ending (takes d (d .state) io g (d .wrapper) Nothing (d .marks) (d .left) NotExpected 0 false))
 
 -- ---- the handlers behind a wrapper: no status is present
 
-module _ (d : Device) (c : Bool) (absent : isPresent (cond c Absent (d .status)) ≡ false) (io : List ℕ) (g : Given) (μ : List ℕ) where
+module _ (d : Device) (c : Bool) (absent : isPresent (cond c Absent (d .status)) ≡ false) (io : List ℕ) (g : Given) (w : Wrapper) where
   module _ (m : Marks) (l : Left) (q : DataDirection) where
     abbrev valid-open : Open
     valid-open = opening Valid m l q (no 0) 1 c
 
     abbrev there : Point
-    there = start d CommandTransfer valid-open io μ
+    there = start d CommandTransfer valid-open io w
 
-    await-0 : goes d valid-open io g μ (statusAwaitAct false) ≡ statusAwaitRule g there
+    await-0 : goes d valid-open io g w (statusAwaitAct false) ≡ statusAwaitRule g there
     unfolding statusAwaitAct statusAwaitRule
-    await-0 = rw absent (waits d CommandTransfer io g μ Valid m l q 1 c)
+    await-0 = rw absent (waits d CommandTransfer io g w Valid m l q 1 c)
 
-    none-0 : goes d valid-open io g μ (noDataAct false) ≡ noDataRule g there
+    none-0 : goes d valid-open io g w (noDataAct false) ≡ noDataRule g there
     unfolding noDataAct noDataRule
     none-0 = await-0
 
-    to-host-0 : goes d valid-open io g μ (toHostAct (l .0) false) ≡ toHostRule g there
+    to-host-0 : goes d valid-open io g w (toHostAct (l .0) false) ≡ toHostRule g there
     unfolding toHostAct toHostRule
-    to-host-0 = rw absent (split d valid-open io g μ (eqb (l .0) 0) _ _ await-0 (sends d CommandTransfer io g μ Valid m l q 1 c))
+    to-host-0 = rw absent (split d valid-open io g w (eqb (l .0) 0) _ _ await-0 (sends d CommandTransfer io g w Valid m l q 1 c))
 
-    from-host-0 : goes d valid-open io g μ (fromHostAct (l .0) false) ≡ fromHostRule g there
+    from-host-0 : goes d valid-open io g w (fromHostAct (l .0) false) ≡ fromHostRule g there
     unfolding fromHostAct fromHostRule
-    from-host-0 = rw absent (split d valid-open io g μ (eqb (l .0) 0) _ _ await-0 (takes d CommandTransfer io g μ Valid m l q 1 c))
+    from-host-0 = rw absent (split d valid-open io g w (eqb (l .0) 0) _ _ await-0 (takes d CommandTransfer io g w Valid m l q 1 c))
 
 -- ---- the wrapper's handler, behind the packet that it reads
 
+-- the bytes in front of the read mark are those that were the first unread
+just-read : (t : Buffer) → justRead (t .bytes) (behind (t .marks)) ≡ messageAt t
+unfolding justRead messageAt
+just-read t = let k : t .marks .read + 31 - 31 ≡ t .marks .read = omega arith in rw k
+
+-- Decided and done, with the wrapper that the record has then.
+abbrev decides : Device → Open → List ℕ → Given → Act → Polling
+decides d x io g a = goes d x io g (wrapperThen x io (d .wrapper)) a
+
 module _ (d : Device) (c : Bool) (absent : isPresent (cond c Absent (d .status)) ≡ false) (g : Given) where
-  abbrev decides : Open → List ℕ → List ℕ → Polling
-  decides x io μ = goes d x io g μ (readCbwAct (x .found) (x .direction) (x .left .0))
+  abbrev parsing : Open → List ℕ → Polling
+  parsing x io = decides d x io g (readCbwAct (x .found) (x .direction) (x .left .0))
 
   -- in 0, with the buffer t, and k packets taken
   abbrev waiting : Buffer → Left → ℕ → Point
@@ -189,57 +199,61 @@ module _ (d : Device) (c : Bool) (absent : isPresent (cond c Absent (d .status))
   abbrev said : Buffer → Wrapper
   said t = wrapperOf (messageAt t)
 
-  judges : (v : Bool) (t : Buffer) (l : Left) (μ : List ℕ)
-      → decides (cond v (opening Valid (behind (t .marks)) (record { 0 = said t .length }) (said t .direction) (no 0) 1 c) (opening Invalid (behind (t .marks)) l NotExpected (no 0) 1 c)) (t .bytes) (cond v (messageAt t) μ)
+  judges : (v : Bool) (t : Buffer) (l : Left)
+      → parsing (cond v (opening Valid (behind (t .marks)) (record { 0 = said t .length }) (said t .direction) (no 0) 1 c) (opening Invalid (behind (t .marks)) l NotExpected (no 0) 1 c)) (t .bytes)
       ≡ cond v (startRule (said t) g (leaving (behind31 t) (waiting t l 1))) (ending (reaching CommandTransferInvalid (leaving (behind31 t) (waiting t l 1))) (no 0) 0 true (g .packet))
-  unfolding readCbwAct startAct startRule
-  judges true t l μ =
-      directed d _ (t .bytes) g (messageAt t) (said t .direction) _ _ _
-      (from-host-0 d c absent (t .bytes) g (messageAt t) (behind (t .marks)) (record { 0 = said t .length }) (said t .direction))
-      (to-host-0 d c absent (t .bytes) g (messageAt t) (behind (t .marks)) (record { 0 = said t .length }) (said t .direction))
-      (none-0 d c absent (t .bytes) g (messageAt t) (behind (t .marks)) (record { 0 = said t .length }) (said t .direction))
-  judges false t l μ = stalls d CommandTransfer (t .bytes) g μ Invalid (behind (t .marks)) l NotExpected 1 c
+  unfolding wrapperThen readCbwAct startAct startRule
+  judges true t l =
+      rw (just-read t)
+      (directed d _ (t .bytes) g (said t) (said t .direction) _ _ _
+      (from-host-0 d c absent (t .bytes) g (said t) (behind (t .marks)) (record { 0 = said t .length }) (said t .direction))
+      (to-host-0 d c absent (t .bytes) g (said t) (behind (t .marks)) (record { 0 = said t .length }) (said t .direction))
+      (none-0 d c absent (t .bytes) g (said t) (behind (t .marks)) (record { 0 = said t .length }) (said t .direction)))
+  judges false t l = stalls d CommandTransfer (t .bytes) g (d .wrapper) Invalid (behind (t .marks)) l NotExpected 1 c
 
-  parses : (t : Buffer) (l : Left) (μ : List ℕ) → decides (parsedOpen t l c) (t .bytes) (parsedMessage t μ) ≡ parseRule g (waiting t l 1)
-  unfolding parsedOpen parsedMessage parseRule
-  parses t l μ = judges (isValid (messageAt t)) t l μ
+  parses : (t : Buffer) (l : Left) → parsing (parsedOpen t l c) (t .bytes) ≡ parseRule g (waiting t l 1)
+  unfolding parsedOpen parseRule
+  parses t l = judges (isValid (messageAt t)) t l
 
-  reads : (took r : Bool) (t : Buffer) (says : Told) (l : Left) (μ : List ℕ)
-      → decides (cond (took && r) (parsedOpen t l c) (opening Nothing (t .marks) l NotExpected says (cond took 1 0) c)) (t .bytes) (cond (took && r) (parsedMessage t μ) μ)
+  reads : (took r : Bool) (t : Buffer) (says : Told) (l : Left)
+      → parsing (cond (took && r) (parsedOpen t l c) (opening Nothing (t .marks) l NotExpected says (cond took 1 0) c)) (t .bytes)
       ≡ cond (took && r) (parseRule g (waiting t l (cond took 1 0))) (ends g (waiting t l (cond took 1 0)) says)
-  unfolding readCbwAct
-  reads true true t says l μ = parses t l μ
-  reads true false t says l μ = stays d CommandTransfer (t .bytes) g μ Nothing (t .marks) l NotExpected 1 c says
-  reads false r t says l μ = stays d CommandTransfer (t .bytes) g μ Nothing (t .marks) l NotExpected 0 c says
+  unfolding wrapperThen readCbwAct
+  reads true true t says l = parses t l
+  reads true false t says l = stays d CommandTransfer (t .bytes) g (d .wrapper) Nothing (t .marks) l NotExpected 1 c says
+  reads false r t says l = stays d CommandTransfer (t .bytes) g (d .wrapper) Nothing (t .marks) l NotExpected 0 c says
 
-  wrapper : (e : Endpoint) (s : Buffer) (l : Left) (μ : List ℕ)
-      → decides (readOpen (d .packetsize) e (g .one) l c s) (received (d .packetsize) e (g .one) s .bytes) (readMessage (d .packetsize) e (g .one) s μ)
-      ≡ readOneBy (d .packetsize) e s g (waiting s l 0)
-  unfolding readOpen readMessage openAfter messageAfter readOneBy readBy
-  wrapper e s l μ = reads (takesOne (d .packetsize) e s) (leb 31 (unread (received (d .packetsize) e (g .one) s))) (received (d .packetsize) e (g .one) s) (readTold (d .packetsize) e s) l μ
+  wrapper : (e : Endpoint) (s : Buffer) (l : Left) → parsing (readOpen (d .packetsize) e (g .one) l c s) (received (d .packetsize) e (g .one) s .bytes) ≡ readOneBy (d .packetsize) e s g (waiting s l 0)
+  unfolding readOpen openAfter readOneBy readBy
+  wrapper e s l = reads (takesOne (d .packetsize) e s) (leb 31 (unread (received (d .packetsize) e (g .one) s))) (received (d .packetsize) e (g .one) s) (readTold (d .packetsize) e s) l
 
 -- 3, by whether something is unread
-status : (d : Device) (g : Given) (b : Bool) (x y : Open) (io io′ μ μ′ : List ℕ) {v w : Polling}
-    → goes d x io g μ (readCbwAct (x .found) (x .direction) (x .left .0)) ≡ v → goes d y io′ g μ′ Next ≡ w
-    → goes d (cond b x y) (cond b io io′) g (cond b μ μ′) (statusTransferAct b false (cond b x y .found) (cond b x y .direction) (cond b x y .left .0)) ≡ cond b v w
+status : (d : Device) (g : Given) (b : Bool) (x y : Open) (io io′ : List ℕ) {v w : Polling}
+    → decides d x io g (readCbwAct (x .found) (x .direction) (x .left .0)) ≡ v → decides d y io′ g Next ≡ w
+    → decides d (cond b x y) (cond b io io′) g (statusTransferAct b false (cond b x y .found) (cond b x y .direction) (cond b x y .left .0)) ≡ cond b v w
 unfolding statusTransferAct
-status d g true x y io io′ μ μ′ h i = h
-status d g false x y io io′ μ μ′ h i = i
+status d g true x y io io′ h i = h
+status d g false x y io io′ h i = i
 
 -- ---- all states
 
-pub same : (s : State) (d : Device) (io : List ℕ) (g : Given) (μ : List ℕ) → (s ≡ CommandTransfer → isPresent (d .status) ≡ false)
-    → finish (inState s d) (ran (numbersOf (inState s d)) io g) (openedMessage (numbersOf (inState s d)) io (g .one) (endpointOf (g .turn .first)) μ) ≡ ruleIn s g (point (inState s d) io 0 false)
-unfolding ran goneOn opened openedIo openedMessage isOpening opens ruleIn readCbwRule statusTransferRule invalidRule
-same CommandTransfer d io g μ h = wrapper (inState CommandTransfer d) false (h refl) g (endpointOf (g .turn .first)) (buffer io (d .marks)) (d .left) μ
-same CommandTransferInvalid d io g μ h = stalls (inState CommandTransferInvalid d) CommandTransferInvalid io g μ Nothing (d .marks) (d .left) NotExpected 0 false
-same DataTransferNoData d io g μ h = none (inState DataTransferNoData d) io g μ
-same StatusTransfer d io g μ h =
-    status (inState StatusTransfer d) g (eqb (d .marks .write - d .marks .read) 0) _ _ _ _ _ _
-    (wrapper (inState StatusTransfer d) true refl g (endpointOf (g .turn .first)) (buffer io (d .marks)) (record { 0 = 0 }) μ)
-    (nexts (inState StatusTransfer d) StatusTransfer io g μ Nothing (d .marks) (d .left) NotExpected 0 false)
-same DataTransferToHost d io g μ h = to-host (inState DataTransferToHost d) io g μ
-same DataTransferToHostStatusAwait d io g μ h = await (inState DataTransferToHostStatusAwait d) io g μ
-same DataTransferToHostEnding d io g μ h = to-ending (inState DataTransferToHostEnding d) io g μ
-same DataTransferFromHost d io g μ h = from-host (inState DataTransferFromHost d) io g μ
-same DataTransferFromHostEnding d io g μ h = from-ending (inState DataTransferFromHostEnding d) io g μ
+-- a poll from what opening left
+abbrev pub follows : Device → Open → List ℕ → Given → Polling
+follows d o io g = finish d (goneOn (numbersOf d) o io g) (wrapperThen o io (d .wrapper))
+
+pub same : (s : State) (d : Device) (io : List ℕ) (g : Given) → (s ≡ CommandTransfer → isPresent (d .status) ≡ false)
+    → follows (inState s d) (opened (numbersOf (inState s d)) io (g .one) (endpointOf (g .turn .first))) (openedIo (numbersOf (inState s d)) io (g .one) (endpointOf (g .turn .first))) g
+    ≡ ruleIn s g (point (inState s d) io 0 false)
+unfolding wrapperThen goneOn opened openedIo isOpening opens ruleIn readCbwRule statusTransferRule invalidRule
+same CommandTransfer d io g h = wrapper (inState CommandTransfer d) false (h refl) g (endpointOf (g .turn .first)) (buffer io (d .marks)) (d .left)
+same CommandTransferInvalid d io g h = stalls (inState CommandTransferInvalid d) CommandTransferInvalid io g (d .wrapper) Nothing (d .marks) (d .left) NotExpected 0 false
+same DataTransferNoData d io g h = none (inState DataTransferNoData d) io g
+same StatusTransfer d io g h =
+    status (inState StatusTransfer d) g (eqb (d .marks .write - d .marks .read) 0) _ _ _ _
+    (wrapper (inState StatusTransfer d) true refl g (endpointOf (g .turn .first)) (buffer io (d .marks)) (record { 0 = 0 }))
+    (nexts (inState StatusTransfer d) StatusTransfer io g (d .wrapper) Nothing (d .marks) (d .left) NotExpected 0 false)
+same DataTransferToHost d io g h = to-host (inState DataTransferToHost d) io g
+same DataTransferToHostStatusAwait d io g h = await (inState DataTransferToHostStatusAwait d) io g
+same DataTransferToHostEnding d io g h = to-ending (inState DataTransferToHostEnding d) io g
+same DataTransferFromHost d io g h = from-host (inState DataTransferFromHost d) io g
+same DataTransferFromHostEnding d io g h = from-ending (inState DataTransferFromHostEnding d) io g

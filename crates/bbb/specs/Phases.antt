@@ -5,7 +5,7 @@ use mathlib.Core.Bool.{Bool, true, false, cond, _&&_}
 use mathlib.Core.List.{List}
 use Prim.Native.Nat.{ℕ, _+_, _-_, _≤_}
 use lib.Dec.{eqb, leb}
-use lib.ListN.{length}
+use lib.ListN.{take, drop}
 use Rattle.buffer.specs.declared.Marks.{Marks}
 use Rattle.buffer.specs.Buffer.{Buffer, Sound, buffer, at, unread}
 use Rattle.answers.specs.declared.Endpoint.{Endpoint}
@@ -23,6 +23,7 @@ use Rattle.ring.specs.States.{stateNumber, rowOf}
 use Rattle.ring.specs.Ring.{settled}
 use Rattle.wrapper.specs.declared.DataDirection.{DataDirection}
 use Rattle.wrapper.specs.declared.DataDirection.the-variants.{NotExpected}
+use Rattle.wrapper.specs.declared.Wrapper.{Wrapper}
 use Rattle.wrapper.specs.declared.counters.Left.{Left}
 use Rattle.wrapper.specs.Counters.{fallen}
 use Rattle.wrapper.specs.Wrapper.{isValid, wrapperOf}
@@ -55,13 +56,22 @@ opening f m l d t taken cleared = record { found = f; marks = m; left = l; direc
 abbrev pub openOf : Opened → Open
 openOf o = opening (o .found) (o .marks) (o .left) (o .direction) (told (o .outcome)) (o .taken) (o .cleared)
 
--- What a function that opens promises: x, the IO buffer's bytes, the lent 31 bytes; sound marks; at most one packet.
-pub record Opens (x : Open) (io message : List ℕ) (r : Opened) (io′ message′ : List ℕ) : Type 0 where
+abbrev pub isValidFound : Found → Bool
+isValidFound found.Nothing = false
+isValidFound found.Invalid = false
+isValidFound found.Valid = true
+
+-- A wrapper that was found valid stands in front of the read mark.
+abbrev pub InFront : Opened → Type 0
+InFront r = isValidFound (r .found) ≡ true → 31 ≤ r .marks .read
+
+-- What a function that opens promises: x, and the IO buffer's bytes; sound marks; at most one packet; where the wrapper stands.
+pub record Opens (x : Open) (io : List ℕ) (r : Opened) (io′ : List ℕ) : Type 0 where
   pub leaves : openOf r ≡ x
   pub bytes : io′ ≡ io
-  pub kept : message′ ≡ message
   pub sound : Sound (buffer io′ (r .marks))
   pub once : r .taken ≤ 1
+  pub front : InFront r
 
 abbrev pub behind : Marks → Marks
 behind m = at (m .read + 31) (m .write)
@@ -72,26 +82,17 @@ parsedOpen s left cleared =
     (opening found.Valid (behind (s .marks)) (record { 0 = wrapperOf (messageAt s) .length }) (wrapperOf (messageAt s) .direction) (no 0) 1 cleared)
     (opening found.Invalid (behind (s .marks)) left NotExpected (no 0) 1 cleared)
 
-unfoldable pub parsedMessage : Buffer → List ℕ → List ℕ
-parsedMessage s message = cond (isValid (messageAt s)) (messageAt s) message
-
 abbrev pub countOf : Bool → ℕ
 countOf took = cond took 1 0
 
 unfoldable pub openAfter : Buffer → Bool → Told → Left → Bool → Open
 openAfter t took said left cleared = cond (took && leb 31 (unread t)) (parsedOpen t left cleared) (opening found.Nothing (t .marks) left NotExpected said (countOf took) cleared)
 
-unfoldable pub messageAfter : Buffer → Bool → List ℕ → List ℕ
-messageAfter t took message = cond (took && leb 31 (unread t)) (parsedMessage t message) message
-
 unfoldable pub readOpen : ℕ → Endpoint → List ℕ → Left → Bool → Buffer → Open
 readOpen p e one left cleared s = openAfter (received p e one s) (takesOne p e s) (readTold p e s) left cleared
 
 abbrev pub readIo : ℕ → Endpoint → List ℕ → Buffer → List ℕ
 readIo p e one s = received p e one s .bytes
-
-unfoldable pub readMessage : ℕ → Endpoint → List ℕ → Buffer → List ℕ → List ℕ
-readMessage p e one s message = messageAfter (received p e one s) (takesOne p e s) message
 
 -- in 0, and in 3 with nothing unread
 unfoldable pub opens : ℕ → Bool → Bool
@@ -117,8 +118,15 @@ opened n io one e =
 unfoldable pub openedIo : Numbers → List ℕ → List ℕ → Endpoint → List ℕ
 openedIo n io one e = cond (isOpening n) (readIo (n .packetsize) e one (buffer io (n .marks))) io
 
-unfoldable pub openedMessage : Numbers → List ℕ → List ℕ → Endpoint → List ℕ → List ℕ
-openedMessage n io one e message = cond (isOpening n) (readMessage (n .packetsize) e one (buffer io (n .marks)) message) message
+-- ---- the wrapper that the record has then
+
+-- the 31 bytes in front of the read mark
+unfoldable pub justRead : List ℕ → Marks → List ℕ
+justRead io m = take 31 (drop (m .read - 31) io)
+
+-- The one that was found valid, or the one before. Acting may overwrite its bytes.
+unfoldable pub wrapperThen : Open → List ℕ → Wrapper → Wrapper
+wrapperThen o io w = cond (isValidFound (o .found)) (wrapperOf (justRead io (o .marks))) w
 
 -- ---- act
 
@@ -217,17 +225,11 @@ actedPacket row n o io g = byKind (row .1) (g .packet) (g .packet) (g .packet) (
 
 -- ---- what a poll changes
 
-abbrev pub isValidFound : Found → Bool
-isValidFound found.Nothing = false
-isValidFound found.Invalid = false
-isValidFound found.Valid = true
-
 pub record Ended : Type 0 where
   pub state : State
   pub marks : Marks
   pub left : Left
   pub cleared : Bool
-  pub parsed : Bool
   pub told : Told
   pub taken : ℕ
   pub sent : ℕ
@@ -236,10 +238,10 @@ pub record Ended : Type 0 where
   pub packet : List ℕ
 
 abbrev pub endedOf : Change → List ℕ → List ℕ → Ended
-endedOf c io packet = record { state = c .state; marks = c .marks; left = c .left; cleared = c .cleared; parsed = c .parsed; told = told (c .report .outcome); taken = c .report .taken; sent = c .report .sent; stalls = c .report .stalls; io = io; packet = packet }
+endedOf c io packet = record { state = c .state; marks = c .marks; left = c .left; cleared = c .cleared; told = told (c .report .outcome); taken = c .report .taken; sent = c .report .sent; stalls = c .report .stalls; io = io; packet = packet }
 
 abbrev pub endedBy : State → Open → Done → List ℕ → Ended
-endedBy s o x packet = record { state = s; marks = x .marks; left = x .left; cleared = o .cleared; parsed = isValidFound (o .found); told = x .told; taken = x .taken; sent = x .sent; stalls = stallsOf (o .cleared) (x .stalled); io = x .io; packet = packet }
+endedBy s o x packet = record { state = s; marks = x .marks; left = x .left; cleared = o .cleared; told = x .told; taken = x .taken; sent = x .sent; stalls = stallsOf (o .cleared) (x .stalled); io = x .io; packet = packet }
 
 unfoldable pub endsWith : Row → Numbers → Open → List ℕ → Given → Ended
 endsWith row n o io g = endedBy (row .0) o (acted row n o io g) (actedPacket row n o io g)
@@ -247,14 +249,6 @@ endsWith row n o io g = endedBy (row .0) o (acted row n o io g) (actedPacket row
 unfoldable pub goneOn : Numbers → Open → List ℕ → Given → Ended
 goneOn n o io g = endsWith (rowOf (settled (n .state) (n .left .0) (isPresent (n .status)) (eqb (n .marks .write - n .marks .read) 0) (o .found) (o .direction) (o .left .0))) n o io g
 
-unfoldable pub ran : Numbers → List ℕ → Given → Ended
-ran n io g = goneOn n (opened n io (g .one) (endpointOf (g .turn .first))) (openedIo n io (g .one) (endpointOf (g .turn .first))) g
-
--- What the poll of a whole record promises: what changed, the buffers, and the lent 31 bytes.
-pub record Runs (n : Numbers) (io message : List ℕ) (g : Given) (r : Change) (io′ packet′ message′ : List ℕ) : Type 0 where
-  pub leaves : endedOf r io′ packet′ ≡ ran n io g
-  pub kept : message′ ≡ openedMessage n io (g .one) (endpointOf (g .turn .first)) message
-
--- The record with what changed.
-abbrev pub changedBy : Device → Change → List ℕ → Device
-changedBy d c message = record { packetsize = d .packetsize; maxlun = d .maxlun; size = d .size; state = c .state; marks = c .marks; wrapper = cond (c .parsed) (wrapperOf message) (d .wrapper); status = cond (c .cleared) Absent (d .status); left = c .left }
+-- The record with what changed, and its wrapper then.
+abbrev pub changedBy : Device → Change → Wrapper → Device
+changedBy d c w = record { packetsize = d .packetsize; maxlun = d .maxlun; size = d .size; state = c .state; marks = c .marks; wrapper = w; status = cond (c .cleared) Absent (d .status); left = c .left }

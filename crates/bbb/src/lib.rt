@@ -1,10 +1,11 @@
 // One poll of the socket's device, after bbb.rs. The record goes in by value and comes back.
 //     check    10, then 11
 //     open     where the chain of handlers reaches the wrapper: a packet is read and its 31 bytes are looked at
+//     take     a valid wrapper, out of the IO buffer, where acting may overwrite it
 //     decide   the ring of handlers, in a crate of its own
 //     act      in one place: what crosses the wire
 mod act;
-mod open;
+pub mod open;
 
 use crate::act::act;
 use crate::open::Opened;
@@ -29,13 +30,10 @@ use wrapper::counters::Left;
 ghost use mathlib.Core.Path.{_≡_};
 ghost use mathlib.Core.Bool.{cond};
 ghost use Prim.Native.Nat.{_≤_};
-ghost use lib.ListN.{length};
 ghost use Rattle.buffer.specs.Buffer.{Sound, buffer};
 ghost use Rattle.device.specs.declared.Status.the-variants.{Absent};
-ghost use Rattle.device.specs.Broken.{Whole};
-ghost use Rattle.wrapper.specs.Wrapper.{wrapperOf};
 ghost use Rattle.bbb.specs.Poll.{given, Fits, isFitting, refusedBy, pollingOf, pollCall};
-ghost use Rattle.bbb.specs.Phases.{isValidFound, openOf, Runs, endedOf, goneOn, changedBy};
+ghost use Rattle.bbb.specs.Phases.{isValidFound, openOf, InFront, wrapperThen, endedOf, goneOn, changedBy};
 
 // The endpoints' answers for this poll, two OUT reads and one IN write: 0 does its part, 1 busy, others errors.
 pub struct Turn {
@@ -57,17 +55,17 @@ pub struct Polled {
     pub report: Report,
 }
 
-// What a poll changes of the record, and what it reports. Where a wrapper was parsed, its 31 bytes are in the lent ones.
+// What a poll changes of the record beside the wrapper, and what it reports.
 pub struct Change {
     pub state: State,
     pub marks: Marks,
     pub left: Left,
     pub cleared: bool,
-    pub parsed: bool,
     pub report: Report,
 }
 
-fn is_valid(found: Found) -> bool
+// Whether a wrapper was found that goes into the record.
+pub fn is_valid(found: Found) -> bool
     ensures { λ r. ⌜ r ≡ isValidFound found ⌝ }
 {
     match found {
@@ -78,7 +76,7 @@ fn is_valid(found: Found) -> bool
 }
 
 // Decide and act.
-fn go_on(
+pub fn go_on(
     n: Numbers,
     o: Opened,
     io: &mut [u8],
@@ -116,7 +114,6 @@ fn go_on(
         marks: after,
         left: falls,
         cleared: o.cleared,
-        parsed: is_valid(found),
         report: Report {
             outcome: outcome,
             taken: did.taken,
@@ -139,23 +136,6 @@ pub fn fits(p: usize, packet: usize, one: usize, two: usize) -> bool
     false
 }
 
-// The poll of a record that is whole, with offers that fit. The 31 bytes of a parsed wrapper go into `message`.
-pub fn run(
-    n: Numbers,
-    message: &mut [u8],
-    io: &mut [u8],
-    packet: &mut [u8],
-    one: &[u8],
-    two: &[u8],
-    turn: Turn,
-) -> Change
-    requires { ⌜ Whole n (length (now io)) × (length (now message) ≡ 31) × Fits (n .packetsize) (now packet) (now one) (now two) ⌝ }
-    ensures { λ r. ⌜ Runs n (now (io .entry)) (now (message .entry)) (given (now (packet .entry)) (now (one .entry)) (now (two .entry)) turn) r (now (io .exit)) (now (packet .exit)) (now (message .exit)) ⌝ }
-{
-    let o = open(n, message, io, one, turn.first);
-    go_on(n, o, io, packet, one, two, turn)
-}
-
 fn status_then(cleared: bool, status: Status) -> Status
     ensures { λ r. ⌜ r ≡ cond cleared Absent status ⌝ }
 {
@@ -165,28 +145,28 @@ fn status_then(cleared: bool, status: Status) -> Status
     status
 }
 
-// The wrapper in the record: the parsed one, or the one before.
-fn wrapper_then(parsed: bool, w: Wrapper, message: &[u8]) -> Wrapper
-    requires { ⌜ length (now message) ≡ 31 ⌝ }
-    ensures { λ r. ⌜ r ≡ cond parsed (wrapperOf (now (message .entry))) w ⌝ }
+// The wrapper in the record: a valid one that opening found, or the one before.
+fn wrapper_then(o: Opened, old: Wrapper, io: &[u8]) -> Wrapper
+    requires { ⌜ Sound (buffer (now io) (o .marks)) × InFront o ⌝ }
+    ensures { λ r. ⌜ r ≡ wrapperThen (openOf o) (now (io .entry)) old ⌝ }
 {
-    if parsed {
-        return wrapper::read_wrapper(message);
+    let found = o.found;
+    let marks = o.marks;
+    if is_valid(found) {
+        let end = marks.read;
+        return wrapper::read_wrapper(&io[end - 31..end]);
     }
-    w
+    old
 }
 
 // The record with what changed.
-fn changed(d: Device, c: Change, message: &[u8]) -> Device
-    requires { ⌜ length (now message) ≡ 31 ⌝ }
-    ensures { λ r. ⌜ r ≡ changedBy d c (now (message .entry)) ⌝ }
+fn changed(d: Device, c: Change, w: Wrapper) -> Device
+    ensures { λ r. ⌜ r ≡ changedBy d c w ⌝ }
 {
     let state = c.state;
     let marks = c.marks;
     let left = c.left;
-    let old = d.wrapper;
     let was = d.status;
-    let w = wrapper_then(c.parsed, old, message);
     let status = status_then(c.cleared, was);
     Device {
         packetsize: d.packetsize,
@@ -228,10 +208,12 @@ pub fn poll(
     let n = numbers_of(device);
     if whole(n, io.len()) {
         if fits(n.packetsize, packet.len(), one.len(), two.len()) {
-            let mut message = [0u8; 31];
-            let c = run(n, &mut message, io, packet, one, two, turn);
+            let old = device.wrapper;
+            let o = open(n, io, one, turn.first);
+            let w = wrapper_then(o, old, io);
+            let c = go_on(n, o, io, packet, one, two, turn);
             let report = c.report;
-            let d = changed(device, c, &message);
+            let d = changed(device, c, w);
             return Polled {
                 device: d,
                 report: report,

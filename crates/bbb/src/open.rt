@@ -18,7 +18,7 @@ ghost use lib.ListN.{length};
 ghost use Rattle.buffer.specs.Buffer.{Sound, buffer};
 ghost use Rattle.device.specs.Broken.{Whole};
 ghost use Rattle.answers.specs.Answers.{endpointOf};
-ghost use Rattle.bbb.specs.Phases.{Opens, opens, countOf, parsedOpen, parsedMessage, readOpen, readIo, readMessage, opened, openedIo, openedMessage, leftWhen};
+ghost use Rattle.bbb.specs.Phases.{Opens, opens, countOf, parsedOpen, readOpen, readIo, opened, openedIo, leftWhen};
 
 // What opening found, and where the poll stands then. The direction counts where a valid wrapper was found.
 pub struct Opened {
@@ -32,9 +32,9 @@ pub struct Opened {
 }
 
 // 31 bytes or more are unread: the first 31 are a wrapper, valid or not, and count as read.
-fn parse(m: Marks, left: Left, cleared: bool, io: &[u8], message: &mut [u8]) -> Opened
-    requires { ⌜ Sound (buffer (now io) m) × (m .read + 31 ≤ m .write) × (length (now message) ≡ 31) ⌝ }
-    ensures { λ r. ⌜ Opens (parsedOpen (buffer (now (io .entry)) m) left cleared) (now (io .entry)) (parsedMessage (buffer (now (io .entry)) m) (now (message .entry))) r (now (io .entry)) (now (message .exit)) ⌝ }
+fn parse(m: Marks, left: Left, cleared: bool, io: &[u8]) -> Opened
+    requires { ⌜ Sound (buffer (now io) m) × (m .read + 31 ≤ m .write) ⌝ }
+    ensures { λ r. ⌜ Opens (parsedOpen (buffer (now (io .entry)) m) left cleared) (now (io .entry)) r (now (io .entry)) ⌝ }
 {
     let from = m.read;
     let end = from + 31;
@@ -45,7 +45,6 @@ fn parse(m: Marks, left: Left, cleared: bool, io: &[u8], message: &mut [u8]) -> 
     if wrapper::valid(&io[from..end]) {
         let h = wrapper::head_of(&io[from..end]);
         let direction = h.direction;
-        buffer::span::put(message, 0, &io[from..end]);
         return Opened {
             found: Found::Valid,
             marks: marks,
@@ -89,18 +88,17 @@ fn read_wrapper(
     left: Left,
     cleared: bool,
     io: &mut [u8],
-    message: &mut [u8],
     one: &[u8],
     first: u8,
 ) -> Opened
-    requires { ⌜ Sound (buffer (now io) m) × (length (now one) ≤ p) × (length (now message) ≡ 31) ⌝ }
-    ensures { λ r. ⌜ Opens (readOpen p (endpointOf first) (now (one .entry)) left cleared (buffer (now (io .entry)) m)) (readIo p (endpointOf first) (now (one .entry)) (buffer (now (io .entry)) m)) (readMessage p (endpointOf first) (now (one .entry)) (buffer (now (io .entry)) m) (now (message .entry))) r (now (io .exit)) (now (message .exit)) ⌝ }
+    requires { ⌜ Sound (buffer (now io) m) × (length (now one) ≤ p) ⌝ }
+    ensures { λ r. ⌜ Opens (readOpen p (endpointOf first) (now (one .entry)) left cleared (buffer (now (io .entry)) m)) (readIo p (endpointOf first) (now (one .entry)) (buffer (now (io .entry)) m)) r (now (io .exit)) ⌝ }
 {
     let r = read_packet(io, m, p, endpoint_of(first), one);
     let marks = r.marks;
     let outcome = r.outcome;
     if ripe(r.taken, marks.write - marks.read) {
-        return parse(marks, left, cleared, io, message);
+        return parse(marks, left, cleared, io);
     }
     Opened {
         found: Found::Nothing,
@@ -136,9 +134,10 @@ fn left_when(cleared: bool, left: Left) -> Left
     left
 }
 
-pub fn open(n: Numbers, message: &mut [u8], io: &mut [u8], one: &[u8], first: u8) -> Opened
-    requires { ⌜ Whole n (length (now io)) × (length (now one) ≤ n .packetsize) × (length (now message) ≡ 31) ⌝ }
-    ensures { λ r. ⌜ Opens (opened n (now (io .entry)) (now (one .entry)) (endpointOf first)) (openedIo n (now (io .entry)) (now (one .entry)) (endpointOf first)) (openedMessage n (now (io .entry)) (now (one .entry)) (endpointOf first) (now (message .entry))) r (now (io .exit)) (now (message .exit)) ⌝ }
+// Where a valid wrapper was found, its 31 bytes stand in front of the read mark. Acting may move or overwrite them: whoever wants them takes them before.
+pub fn open(n: Numbers, io: &mut [u8], one: &[u8], first: u8) -> Opened
+    requires { ⌜ Whole n (length (now io)) × (length (now one) ≤ n .packetsize) ⌝ }
+    ensures { λ r. ⌜ Opens (opened n (now (io .entry)) (now (one .entry)) (endpointOf first)) (openedIo n (now (io .entry)) (now (one .entry)) (endpointOf first)) r (now (io .exit)) ⌝ }
 {
     let state = n.state;
     let marks = n.marks;
@@ -147,7 +146,7 @@ pub fn open(n: Numbers, message: &mut [u8], io: &mut [u8], one: &[u8], first: u8
     if reaches(s, marks.write - marks.read == 0) {
         let cleared = s == 3;
         let l = left_when(cleared, left);
-        return read_wrapper(n.packetsize, marks, l, cleared, io, message, one, first);
+        return read_wrapper(n.packetsize, marks, l, cleared, io, one, first);
     }
     Opened {
         found: Found::Nothing,

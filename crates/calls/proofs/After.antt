@@ -4,22 +4,24 @@
 --     ..-keeps      what of the record is as before, whatever the answer
 --     ..-done       what a call comes to on a whole record, where it is accepted
 --     ..-unread     the unread bytes after it
+--     ..-within     the count is not above the write mark
 --     ..-whole      a whole record stays whole, over the IO buffer that the call leaves
 -- Assumes nothing.
 use mathlib.Core.Path.{_≡_, refl, sym, ap, _∙_, subst}
 use mathlib.Core.Bool.{Bool, true, false, not, cond}
 use mathlib.Core.List.{List, [], _∷_, _++_}
-use Prim.Native.Nat.{ℕ, _≤_, min, zero-le}
+use Prim.Native.Nat.{ℕ, _≤_, min, max, zero-le}
 use native.Mathlib.Nat.{min-le-left, min-le-right, max-eq-right}
 use native.Mathlib.Omega.{arith}
 use lib.Dec.{eqb, leb}
 use lib.ListN.{length, take, drop, length-take}
+use lib.Seq.{length-take-le}
 use borrow.Author.Tests.{eqb-true, eqb-false, ne-eqb, le-leb, leb-true}
 use borrow.Table.Steps.{cases}
 use Rattle.fields.specs.Overlay.{overlay}
 use Rattle.fields.proofs.Bools.{and-left, of-picked, clash}
 use Rattle.buffer.specs.declared.Marks.{Marks}
-use Rattle.buffer.specs.Buffer.{Buffer, Sound, buffer, unread, unreadBytes, room, withRoom, fitting, written, lacksRoom, writtenAll, ready, given, readOff}
+use Rattle.buffer.specs.Buffer.{Buffer, Sound, buffer, unread, unreadBytes, room, withRoom, appended, fitting, written, lacksRoom, writtenAll, ready, given, readOff}
 use Rattle.buffer.proofs.Kept.{length-written, sound-written, length-writtenAll, sound-writtenAll, sound-readOff}
 use Rattle.buffer.proofs.Unread.{unread-written, unread-writtenAll, unread-readOff}
 use Rattle.answers.specs.declared.Stalls.the-variants.{Kept}
@@ -165,6 +167,31 @@ unfolding writeAllIn
 write-all-keeps d io src =
     let P : Moving → Type 0 = λ (o : Moving). withMarks (d .marks) (o .device) ≡ d in
     by-data P 4 d io io _ (λ _. refl) (of-picked P (lacksRoom (length src) (bufferOf d io)) (λ _. refl) (λ _. refl))
+
+-- and the count is never above the write mark that the call leaves
+pub read-within : (d : Device) (io dst : List ℕ) → Whole (numbersOf d) (length io) → readCall d io dst .count ≤ readCall d io dst .device .marks .write
+unfolding readOut readOff ready
+read-within d io dst w =
+    by-data (λ (o : Moving). o .count ≤ o .device .marks .write) 7 d io dst _ (λ _. zero-le)
+    (omega (arith, min-le-left (unread (bufferOf d io)) (length dst)))
+
+pub write-within : (d : Device) (io src : List ℕ) → writeCall d io src .count ≤ writeCall d io src .device .marks .write
+unfolding writeIn written appended fitting
+write-within d io src =
+    let ys : List ℕ = limited (d .left) src in
+    let free : ℕ = room (withRoom (length ys) (bufferOf d io)) in
+    by-data (λ (o : Moving). o .count ≤ o .device .marks .write) 4 d io io _ (λ _. zero-le)
+    (omega (arith, length-take-le (min free (length ys)) ys (min-le-right free (length ys))))
+
+pub write-all-within : (d : Device) (io src : List ℕ) → writeAllCall d io src .count ≤ writeAllCall d io src .device .marks .write
+unfolding writeAllIn writtenAll appended
+write-all-within d io src =
+    let P : Moving → Type 0 = λ (o : Moving). o .count ≤ o .device .marks .write in
+    by-data P 4 d io io _ (λ _. zero-le)
+    (rw (most (length src)) (cases (lacksRoom (length src) (bufferOf d io)) (λ e. rw e zero-le) (λ e. rw e (omega arith))))
+  where
+    most : (n : ℕ) → max 0 n ≡ n
+    most n = max-eq-right zero-le
 
 -- the number and the count of all or nothing
 all-told : (b : Bool) (n : ℕ) (d : Device) (t : Buffer)

@@ -7,7 +7,7 @@
 use mathlib.Core.Path.{_≡_, refl, sym, _∙_}
 use mathlib.Core.Bool.{Bool, true, false, cond, _&&_, _||_}
 use mathlib.Core.List.{List}
-use Prim.Native.Nat.{ℕ, _≤_}
+use Prim.Native.Nat.{ℕ, _≤_, _<_}
 use native.Mathlib.Omega.{arith}
 use lib.Dec.{eqb, ltb, leb}
 use lib.ListN.{length}
@@ -63,15 +63,16 @@ absent-in-0 n len w e = not-true (isPresent (n .status)) (rw e at (w .status))
 -- ---- the packet size and the buffer
 
 -- no creation rule is violated: each of the tests
-unviolated : (a b c d e : Bool) → _≡_ {A = ℕ} (cond a 2 (cond (b || c) 5 (cond d (cond e 9 0) 8))) 0 → (b ≡ false) × (c ≡ false) × (d ≡ true)
+unviolated : (a b c d e : Bool) → _≡_ {A = ℕ} (cond a 2 (cond (b || c) 5 (cond d (cond e 9 0) 8))) 0 → (b ≡ false) × (c ≡ false) × (d ≡ true) × (e ≡ false)
 unviolated true b c d e h = absurd (omega (arith, h))
 unviolated false true c d e h = absurd (omega (arith, h))
 unviolated false false true d e h = absurd (omega (arith, h))
-unviolated false false false true e h = (refl, refl, refl)
+unviolated false false false true true h = absurd (omega (arith, h))
+unviolated false false false true false h = (refl, refl, refl, refl)
 unviolated false false false false e h = absurd (omega (arith, h))
 
 module _ (n : Numbers) (len : ℕ) (w : Whole n len) where
-  rules : (ltb (n .size) 31 ≡ false) × (ltb (n .size) (n .packetsize) ≡ false) × (isPacketSize (n .packetsize) ≡ true)
+  rules : (ltb (n .size) 31 ≡ false) × (ltb (n .size) (n .packetsize) ≡ false) × (isPacketSize (n .packetsize) ≡ true) × (ltb 65536 (n .size) ≡ false)
   unfolding creation
   rules = unviolated (ltb 15 (n .maxlun)) (ltb (n .size) 31) (ltb (n .size) (n .packetsize)) (isPacketSize (n .packetsize)) (ltb 65536 (n .size)) (w .created)
 
@@ -81,6 +82,10 @@ module _ (n : Numbers) (len : ℕ) (w : Whole n len) where
 
   pub packet-fits : n .packetsize ≤ len
   packet-fits = omega (arith, ltb-false (n .size) (n .packetsize) (rules .1), w .lent)
+
+  -- "IO buffer 31 to 65,536 bytes"
+  pub size-most : n .size ≤ 65536
+  size-most = ltb-false 65536 (n .size) (rules .3)
 
   pub packet-known : isPacketSize (n .packetsize) ≡ true
   packet-known = rules .2
@@ -99,3 +104,8 @@ packet-bounds p h =
     or-true (eqb p 8) _ (within p 8 (omega arith) (omega arith))
     (or-true (eqb p 16) _ (within p 16 (omega arith) (omega arith))
     (or-true (eqb p 32) _ (within p 32 (omega arith) (omega arith)) (within p 64 (omega arith) (omega arith)))) h
+
+-- a packet size that creation takes is a byte
+pub packet-below : (p maxlun size : ℕ) → creation p maxlun size ≡ 0 → p < 256
+unfolding creation
+packet-below p maxlun size e = omega (arith, packet-bounds p (unviolated (ltb 15 maxlun) (ltb size 31) (ltb size p) (isPacketSize p) (ltb 65536 size) e .2) .1)

@@ -1,7 +1,8 @@
 -- What each call leaves of all that it was lent: its result, the record's bytes, and what else it may write to. On the device that the
 -- bytes hold it does what the call by value does; `storeDevice` says what bytes hold the device that it leaves. Assumes nothing: these are
 -- definitions.
-use Prim.Native.Nat.{ℕ}
+use mathlib.Core.Path.{_≡_}
+use Prim.Native.Nat.{ℕ, _^_, _<_}
 use mathlib.Core.Bool.{cond}
 use mathlib.Core.List.{List}
 use lib.Dec.{eqb}
@@ -10,6 +11,7 @@ use Rattle.device.specs.declared.Device.{Device}
 use Rattle.device.specs.Create.{creation}
 use Rattle.bbb.specs.Poll.{Given, Polling, pollCall}
 use Rattle.calls.specs.declared.Figure.{Figure}
+use Rattle.calls.specs.declared.Moved as value
 use Rattle.calls.specs.declared.Request.{Request}
 use Rattle.calls.specs.Status.{Stating, setStatusCall}
 use Rattle.calls.specs.Data.{Moving, readCall, writeCall, writeAllCall}
@@ -53,13 +55,20 @@ controlOn r io q = onDevice r (leaves (plain 10) r) (λ (d : Device). handled r 
 
 -- ---- and the bytes of what a read or a write may write to
 
+-- what a read or a write by value left has its place in a record: marks and count are numbers of 32 bits
+pub record Storable (r : List ℕ) (m : value.Moved) : Type 0 where
+  pub long : length r ≡ recordSize
+  pub read : m .device .marks .read < 2 ^ 32
+  pub write : m .device .marks .write < 2 ^ 32
+  pub count : m .report .count < 2 ^ 32
+
 pub record Moved : Type 0 where
   pub result : ℕ
   pub bytes : List ℕ
-  pub data : List ℕ
+  pub into : List ℕ
 
 abbrev pub moves : ℕ → List ℕ → List ℕ → Moved
-moves result bytes data = record { result = result; bytes = bytes; data = data }
+moves result bytes into = record { result = result; bytes = bytes; into = into }
 
 abbrev pub moved : List ℕ → Moving → Moved
 moved r o = moves (word (o .number) 0 0 0 (o .count)) (storeDevice (o .device) r) (o .bytes)

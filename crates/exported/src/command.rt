@@ -4,13 +4,36 @@ use crate::word::word;
 use answers::answer_number;
 use buffer::span::put;
 use calls::command::Offer;
+use calls::command::Shown;
+use calls::command::Step;
 use calls::command::command;
 use calls::command::command_step;
 use codechost::decode::put_command;
 use recordbytes::device_at;
+ghost use mathlib.Core.Path.{_≡_};
+ghost use lib.ListN.{length};
+ghost use Rattle.answers.specs.Answers.{number};
+ghost use Rattle.calls.specs.Command.{shownOf, offers};
+ghost use Rattle.exported.specs.Command.{shows, shown, commandOn, offered, stepOn};
+
+// A command that is shown goes into the lent bytes.
+fn show(c: Shown, block: &mut [u8]) -> u64
+    requires { ⌜ length (now block) ≡ 16 ⌝ }
+    ensures { λ x. ⌜ shows x (now (block .exit)) ≡ shown (now (block .entry)) (shownOf c) ⌝ }
+{
+    let answer = c.answer;
+    let bytes = c.block;
+    let number = answer_number(answer);
+    if c.shown {
+        put(block, 0, &bytes);
+        return word(number, c.lun, 0, 1, c.blocklength as u32);
+    }
+    word(number, c.lun, 0, 0, c.blocklength as u32)
+}
 
 #[no_mangle]
 pub extern "C" fn souk_command(record: &[u8], io: &[u8], block: &mut [u8]) -> u64
+    ensures { λ x. ⌜ shows x (now (block .exit)) ≡ commandOn (now («record» .entry)) (now (io .entry)) (now (block .entry)) ⌝ }
 {
     if block.len() != 16 {
         return 10;
@@ -19,17 +42,29 @@ pub extern "C" fn souk_command(record: &[u8], io: &[u8], block: &mut [u8]) -> u6
         return 10;
     }
     let c = command(device_at(record), io);
-    let answer = c.answer;
-    let bytes = c.block;
-    if c.shown {
-        put(block, 0, &bytes);
-        return word(answer_number(answer), c.lun, 0, 1, c.blocklength as u32);
+    show(c, block)
+}
+
+// A command that is offered goes into the six lent numbers.
+fn offer(s: Step, command: &mut [u64]) -> u64
+    requires { ⌜ length (now command) ≡ 6 ⌝ }
+    ensures { λ x. ⌜ shows x (now (command .exit)) ≡ offered (number (s .answer)) (now (command .entry)) (offers (s .offer)) ⌝ }
+{
+    let answer = s.answer;
+    let number = answer_number(answer);
+    let offer = s.offer;
+    match offer {
+        Offer::Nothing => word(number, 0, 0, 0, 0),
+        Offer::Command(lun, kind) => {
+            put_command(command, kind);
+            word(number, lun, 0, 1, 0)
+        }
     }
-    word(answer_number(answer), 0, 0, 0, 0)
 }
 
 #[no_mangle]
 pub extern "C" fn souk_command_step(record: &[u8], io: &[u8], command: &mut [u64]) -> u64
+    ensures { λ x. ⌜ shows x (now (command .exit)) ≡ stepOn (now («record» .entry)) (now (io .entry)) (now (command .entry)) ⌝ }
 {
     if command.len() != 6 {
         return 10;
@@ -38,13 +73,5 @@ pub extern "C" fn souk_command_step(record: &[u8], io: &[u8], command: &mut [u64
         return 10;
     }
     let s = command_step(device_at(record), io);
-    let answer = s.answer;
-    let offer = s.offer;
-    match offer {
-        Offer::Nothing => word(answer_number(answer), 0, 0, 0, 0),
-        Offer::Command(lun, kind) => {
-            put_command(command, kind);
-            word(answer_number(answer), lun, 0, 1, 0)
-        }
-    }
+    offer(s, command)
 }

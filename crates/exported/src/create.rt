@@ -2,11 +2,11 @@
 use answers::answer_number;
 use recordbytes::store;
 ghost use mathlib.Core.Path.{_≡_};
-ghost use Rattle.exported.specs.Calls.{created, createOn};
+ghost use Rattle.exported.specs.Calls.{leaves, createOn};
 
 #[no_mangle]
 pub extern "C" fn souk_create(record: &mut [u8], packet_size: u32, max_lun: u8, size: u32) -> u32
-    ensures { λ x. ⌜ created x (now («record» .exit)) ≡ createOn (now («record» .entry)) «packet_size» «max_lun» size ⌝ }
+    ensures { λ x. ⌜ leaves x (now («record» .exit)) ≡ createOn (now («record» .entry)) «packet_size» «max_lun» size ⌝ }
 {
     let c = device::create::create(packet_size, max_lun, size);
     let answer = c.answer;

@@ -5,9 +5,16 @@ use answers::answer_number;
 use calls::Moved;
 use recordbytes::device_at;
 use recordbytes::store;
+ghost use mathlib.Core.Path.{_≡_};
+ghost use Rattle.answers.specs.Answers.{number};
+ghost use Rattle.recordbytes.specs.Record.{storeMarks};
+ghost use Rattle.exported.specs.Word.{word};
+ghost use Rattle.exported.specs.Calls.{Storable, moves, readOn, writeOn, writeAllOn};
 
 // The marks go into the record, answer and count into the result.
 fn moved(record: &mut [u8], m: Moved) -> u64
+    requires { ⌜ Storable (now «record») m ⌝ }
+    ensures { λ x. ⌜ (x ≡ word (number (m .report .answer)) 0 0 0 (m .report .count)) × (now («record» .exit) ≡ storeMarks (m .device .marks) (now («record» .entry))) ⌝ }
 {
     let d = m.device;
     let marks = d.marks;
@@ -19,6 +26,7 @@ fn moved(record: &mut [u8], m: Moved) -> u64
 
 #[no_mangle]
 pub extern "C" fn souk_read_data(record: &mut [u8], io: &[u8], dst: &mut [u8]) -> u64
+    ensures { λ x. ⌜ moves x (now («record» .exit)) (now (dst .exit)) ≡ readOn (now («record» .entry)) (now (io .entry)) (now (dst .entry)) ⌝ }
 {
     if !held(record, io.len()) {
         return 10;
@@ -29,6 +37,7 @@ pub extern "C" fn souk_read_data(record: &mut [u8], io: &[u8], dst: &mut [u8]) -
 
 #[no_mangle]
 pub extern "C" fn souk_write_data(record: &mut [u8], io: &mut [u8], src: &[u8]) -> u64
+    ensures { λ x. ⌜ moves x (now («record» .exit)) (now (io .exit)) ≡ writeOn (now («record» .entry)) (now (io .entry)) (now (src .entry)) ⌝ }
 {
     if !held(record, io.len()) {
         return 10;
@@ -39,6 +48,7 @@ pub extern "C" fn souk_write_data(record: &mut [u8], io: &mut [u8], src: &[u8]) 
 
 #[no_mangle]
 pub extern "C" fn souk_try_write_data_all(record: &mut [u8], io: &mut [u8], src: &[u8]) -> u64
+    ensures { λ x. ⌜ moves x (now («record» .exit)) (now (io .exit)) ≡ writeAllOn (now («record» .entry)) (now (io .entry)) (now (src .entry)) ⌝ }
 {
     if !held(record, io.len()) {
         return 10;

@@ -12,8 +12,6 @@ mod command;
 mod create;
 mod data;
 mod decode;
-mod onward;
-mod poll;
 mod status;
 mod word;
 

@@ -6,11 +6,11 @@ use calls::set_status;
 use recordbytes::device_at;
 use recordbytes::store;
 ghost use mathlib.Core.Path.{_≡_};
-ghost use Rattle.exported.specs.Calls.{created, statusOn};
+ghost use Rattle.exported.specs.Calls.{leaves, statusOn};
 
 #[no_mangle]
 pub extern "C" fn souk_set_status(record: &mut [u8], io: &[u8], status: u8, figure: u32) -> u32
-    ensures { λ x. ⌜ created x (now («record» .exit)) ≡ statusOn (now («record» .entry)) (now (io .entry)) (record { status = status; processed = figure }) ⌝ }
+    ensures { λ x. ⌜ leaves x (now («record» .exit)) ≡ statusOn (now («record» .entry)) (now (io .entry)) (record { status = status; processed = figure }) ⌝ }
 {
     if !held(record, io.len()) {
         return 10;

@@ -4,34 +4,30 @@ use mathlib.Core.Bool.{Bool, true, false, not, cond}
 use mathlib.Core.List.{List, []}
 use Prim.Native.Nat.{ℕ, _-_, _≤_, min, max, zero-le}
 use native.Mathlib.Omega.{arith}
-use native.Mathlib.Nat.{max-eq-left}
+use native.Mathlib.Nat.{add-zero, max-eq-left, min-zero}
+use lib.Dec.{eqb}
 use lib.ListN.{length, take}
-use lib.Seq.{take-length}
 use borrow.Author.Tests.{eq-eqb, ne-eqb}
 use Rattle.fields.specs.Overlay.{overlay}
+use Rattle.fields.proofs.Bools.{of-picked}
+use Rattle.fields.proofs.Overlay.{overlay-nothing}
 use Rattle.buffer.specs.declared.Marks.{Marks}
+use Rattle.buffer.specs.declared.marked.Put.{Put}
 use Rattle.buffer.specs.Buffer.{Buffer, Sound, Leaves, buffer, at, unread, lacksRoom, writtenAll, filled, written, emptied, ready, given, readOff}
 use Rattle.buffer.proofs.Unread.{filled-none}
 use Rattle.answers.specs.declared.Answer.the-variants.{Done, IoBufferOverflow}
 use Rattle.answers.specs.declared.Endpoint.{Endpoint}
+use Rattle.answers.specs.declared.Endpoint.the-variants.{Served, Busy, Failed}
 use Rattle.answers.specs.declared.Outcome.{Outcome}
-use Rattle.answers.specs.Answers.{told, plainly, serves, answeredBy}
+use Rattle.answers.specs.Answers.{Told, told, plainly, no, serves, answeredBy}
 use Rattle.answers.proofs.Laws.{tells}
 use Rattle.wrapper.specs.declared.counters.Left.{Left}
 use Rattle.wrapper.specs.declared.counters.Residue.{Residue}
 use Rattle.wrapper.specs.Status.{statusBytes}
-use Rattle.packets.specs.Packets.{handed, readTold, takesOne, brought, received, Reads, accepted, sendTold, sentCount, sentOff, sentInto, Sends, filledUp, withStatus}
+use Rattle.packets.specs.declared.Received.{Received}
+use Rattle.packets.specs.Packets.{handed, readTold, takesOne, brought, received, Reports, Reads, accepted, sendTold, sentCount, sentOff, sentInto, Sends, filledUp, withStatus}
 
 -- ---- how much moves
-
-module _ (e : Endpoint) (n : ℕ) {b : Bool} (h : b ≡ serves e) where
-  pub moves-all : b ≡ true → n ≡ accepted e n
-  unfolding accepted
-  moves-all p = rw (← h, p)
-
-  pub moves-none : b ≡ false → 0 ≡ accepted e n
-  unfolding accepted
-  moves-none p = rw (← h, p)
 
 pub moves-most : (e : Endpoint) (n : ℕ) {k : ℕ} → k ≡ accepted e n → k ≤ n
 unfolding accepted
@@ -41,28 +37,15 @@ moves-most e n h = rw h (by (serves e))
     by true = omega arith
     by false = omega arith
 
-pub moves-within : (e : Endpoint) (p n : ℕ) {k : ℕ} → k ≡ accepted e p → p ≤ n → k ≤ n
-moves-within e p n h l = omega (arith, moves-most e p h)
+-- what the endpoint hands over
+module _ (e : Endpoint) (packet : List ℕ) {b : Bool} (h : b ≡ serves e) where
+  pub handed-all : b ≡ true → packet ≡ handed e packet
+  unfolding handed
+  handed-all q = rw (← h, q)
 
--- a packet cut as the endpoint says is what it hands over
-pub handed-cut : (e : Endpoint) (packet : List ℕ) {n : ℕ} → n ≡ accepted e (length packet) → take n packet ≡ handed e packet
-unfolding accepted handed
-handed-cut e packet h = rw h (by (serves e))
-  where
-    by : (b : Bool) → take (cond b (length packet) 0) packet ≡ cond b packet []
-    by true = take-length packet
-    by false = refl
-
-pub handed-length : (e : Endpoint) (packet : List ℕ) → accepted e (length packet) ≡ length (handed e packet)
-unfolding accepted handed
-handed-length e packet = by (serves e)
-  where
-    by : (b : Bool) → cond b (length packet) 0 ≡ length (cond b packet [])
-    by true = refl
-    by false = refl
-
-pub length-cut : (e : Endpoint) (packet : List ℕ) {n : ℕ} → n ≡ accepted e (length packet) → length (take n packet) ≡ n
-length-cut e packet h = ap length (handed-cut e packet h) ∙ sym (handed-length e packet) ∙ sym h
+  pub handed-none : b ≡ false → take 0 packet ≡ handed e packet
+  unfolding handed
+  handed-none q = rw (← h, q)
 
 pub handed-most : (e : Endpoint) (packet : List ℕ) (p : ℕ) → length packet ≤ p → length (handed e packet) ≤ p
 unfolding handed
@@ -74,42 +57,32 @@ handed-most e packet p h = by (serves e)
 
 -- ---- a read
 
-flipped : (b d : Bool) → d ≡ not b → b ≡ not d
-flipped true d h = rw h
-flipped false d h = rw h
+module _ (t : Put) (e : Endpoint) (n : ℕ) where
+  pub reports-room : t .done ≡ true → {o : Outcome} → told o ≡ answeredBy e → {v : Bool} → v ≡ serves e
+      → Reports t e n (record { outcome = o; taken = v; count = n; marks = t .marks })
+  reports-room q ho hv = record { outcome = rw q ho; taken = rw q hv; count = rw q; marks = refl }
 
-module _ (p : ℕ) (e : Endpoint) (packet : List ℕ) (s : Buffer) (fits : length packet ≤ p) {n : ℕ} (hn : n ≡ accepted e (length packet))
-    {d : Bool} (hd : d ≡ not (lacksRoom (max p (length (take n packet))) s))
-    {m : Marks} {io : List ℕ} (hl : Leaves (buffer io m) (writtenAll p (take n packet) s)) where
-  most : max p (length (take n packet)) ≡ p
-  most = max-eq-left (rw (handed-cut e packet hn) (handed-most e packet p fits))
+  pub reports-none : t .done ≡ false → {o : Outcome} → o ≡ plainly IoBufferOverflow
+      → Reports t e n (record { outcome = o; taken = false; count = 0; marks = t .marks })
+  reports-none q ho = record { outcome = rw q (tells IoBufferOverflow ho); taken = rw q; count = rw q; marks = refl }
 
-  lacks : {b : Bool} → d ≡ b → lacksRoom p s ≡ not b
-  lacks q = flipped (lacksRoom p s) _ (rw (most, q) at hd)
+-- a test that was taken the other way round
+unless : {A : Type 0} (b : Bool) (x y : A) → cond (not b) x y ≡ cond b y x
+unless true x y = refl
+unless false x y = refl
 
-  leaves : Leaves (buffer io m) (received p e packet s)
-  unfolding received
-  leaves = rw (handed-cut e packet hn) at hl
-
-  pub reads-taken : d ≡ true → {o : Outcome} → told o ≡ answeredBy e → {v : Bool} → v ≡ serves e
-      → Reads p e packet s (record { outcome = o; taken = v; count = n; marks = m }) io
-  unfolding readTold takesOne brought
-  reads-taken q ho hv = record {
-    outcome = rw (lacks q) ho;
-    taken = rw (lacks q) hv;
-    count = rw (lacks q) (hn ∙ handed-length e packet);
-    leaves = leaves;
-  }
-
-  pub reads-refused : d ≡ false → {o : Outcome} → o ≡ plainly IoBufferOverflow
-      → Reads p e packet s (record { outcome = o; taken = false; count = 0; marks = m }) io
-  unfolding readTold takesOne brought
-  reads-refused q ho = record {
-    outcome = rw (lacks q) (tells IoBufferOverflow ho);
-    taken = rw (lacks q);
-    count = rw (lacks q);
-    leaves = leaves;
-  }
+pub reads : (p : ℕ) (e : Endpoint) (packet : List ℕ) (s : Buffer) → length packet ≤ p → {ys : List ℕ} → ys ≡ handed e packet → {t : Put} {io : List ℕ} → t .done ≡ not (lacksRoom (max p (length ys)) s)
+    → Leaves (buffer io (t .marks)) (writtenAll p ys s) → {r : Received} → Reports t e (length ys) r → Reads p e packet s r io
+unfolding readTold takesOne brought received
+reads p e packet s fits hy {t} hd hl x =
+    let most : max p (length (handed e packet)) ≡ p = max-eq-left (handed-most e packet p fits) in
+    let room : t .done ≡ not (lacksRoom p s) = rw (hy, most) at hd in
+    record {
+      outcome = x .outcome ∙ rw room (unless (lacksRoom p s) _ _);
+      taken = x .taken ∙ rw room (unless (lacksRoom p s) _ _);
+      count = x .count ∙ rw (room, hy) (unless (lacksRoom p s) _ _);
+      leaves = rw (x .marks, ← hy) hl;
+    }
 
 -- ---- a send
 
@@ -122,11 +95,44 @@ module _ (e : Endpoint) (n : ℕ) (o : Outcome) where
   unfolding sendTold
   sends-something q h = rw (ne-eqb _ _ q) h
 
-pub sends : (p : ℕ) (e : Endpoint) (s : Buffer) (packet : List ℕ) {n k : ℕ} {m : Marks} {o : Outcome} {l : List ℕ} → n ≡ accepted e p → told o ≡ sendTold e (unread s)
-    → k ≡ ready n s → Leaves (buffer (s .bytes) m) (readOff n s) → l ≡ overlay packet 0 (given n s)
-    → Sends p e s packet (record { outcome = o; count = k; marks = m }) l
-unfolding sentCount sentOff sentInto
-sends p e s packet hn ho hk hl hp = record { outcome = ho; count = rw hn at hk; leaves = rw hn at hl; into = rw hn at hp }
+-- an endpoint that does its part answers 0, with nothing unread too
+pub answers-0 : (e : Endpoint) → serves e ≡ true → answeredBy e ≡ no 0
+answers-0 Served h = refl
+answers-0 Busy h = ap (λ (b : Bool). cond b (no 0) (no 6)) h
+answers-0 (Failed n) h = ap (λ (b : Bool). cond b (no 0) (answeredBy (Failed n))) h
+
+pub told-served : (e : Endpoint) (n : ℕ) → serves e ≡ true → sendTold e n ≡ no 0
+unfolding sendTold
+told-served e n serving = of-picked (λ (t : Told). t ≡ no 0) (eqb n 0) (λ _. refl) (λ _. answers-0 e serving)
+
+module _ (p : ℕ) (e : Endpoint) (s : Buffer) where
+  -- nothing is sent where the endpoint does not do its part
+  pub sent-unserved : serves e ≡ false → sentCount p e s ≡ 0
+  unfolding sentCount ready accepted
+  sent-unserved idle = rw idle (min-zero (unread s))
+
+  -- then the buffer and the packet buffer stay
+  module _ (k : sentCount p e s ≡ 0) where
+    pub off-nothing : sentOff p e s ≡ s
+    unfolding sentCount sentOff readOff
+    off-nothing = rw (k, add-zero)
+
+    pub into-nothing : (packet : List ℕ) → sentInto p e s packet ≡ packet
+    unfolding sentCount sentInto given
+    into-nothing packet = rw k (overlay-nothing packet 0)
+
+  module _ (packet : List ℕ) {o : Outcome} {b : Bool} (h : b ≡ serves e) where
+    pub sends-served : b ≡ true → o ≡ plainly Done → {k : ℕ} {m : Marks} {l : List ℕ} → k ≡ ready p s → Leaves (buffer (s .bytes) m) (readOff p s) → l ≡ overlay packet 0 (given p s)
+        → Sends p e s packet (record { outcome = o; count = k; marks = m }) l
+    unfolding sentCount sentOff sentInto accepted
+    sends-served q ho hk hl hp =
+        let serving : serves e ≡ true = sym h ∙ q in
+        record { outcome = tells Done ho ∙ sym (told-served e (unread s) serving); count = rw serving hk; leaves = rw serving hl; into = rw serving hp }
+
+    pub sends-unserved : b ≡ false → Sound s → told o ≡ sendTold e (unread s) → Sends p e s packet (record { outcome = o; count = 0; marks = s .marks }) packet
+    sends-unserved q g ho =
+        let none = sent-unserved (sym h ∙ q) in
+        record { outcome = ho; count = sym none; leaves = record { same = sym (off-nothing none); sound = g }; into = sym (into-nothing none packet) }
 
 -- ---- what is written before
 
@@ -149,4 +155,4 @@ puts-status tag residue status io hy hm h = rw (hy, hm) at h
 pub sound-clean : (io : List ℕ) {m : Marks} → m ≡ at 0 0 → Sound (buffer io m)
 sound-clean io h = rw h (record { order = zero-le; within = zero-le })
 
-pub ruleset ways = (moves-all, moves-none, moves-most, moves-within, reads-taken, reads-refused, sends-nothing, sends-something, sends, fills-up, fills-none, puts-status, sound-clean)
+pub ruleset ways = (handed-all, handed-none, reports-room, reports-none, reads, sends-nothing, sends-something, sends-served, sends-unserved, fills-up, fills-none, puts-status, sound-clean)

@@ -6,6 +6,7 @@ use Prim.Native.Nat.{ℕ, _-_, min}
 use lib.Dec.{eqb}
 use lib.ListN.{length}
 use Rattle.fields.specs.Overlay.{overlay}
+use Rattle.buffer.specs.declared.marked.Put.{Put}
 use Rattle.buffer.specs.Buffer.{Buffer, Leaves, buffer, unread, lacksRoom, writtenAll, filled, written, emptied, ready, given, readOff}
 use Rattle.answers.specs.declared.Endpoint.{Endpoint}
 use Rattle.answers.specs.Answers.{Told, no, told, serves, answeredBy}
@@ -35,6 +36,13 @@ brought p e packet s = cond (lacksRoom p s) 0 (length (handed e packet))
 -- The buffer then: room was made for P bytes, and what was handed over stands behind the write mark.
 unfoldable pub received : ℕ → Endpoint → List ℕ → Buffer → Buffer
 received p e packet s = writtenAll p (handed e packet) s
+
+-- What is reported of it, by whether there was room, with n bytes put in.
+pub record Reports (t : Put) (e : Endpoint) (n : ℕ) (r : Received) : Type 0 where
+  pub outcome : told (r .outcome) ≡ cond (t .done) (answeredBy e) (no 1)
+  pub taken : r .taken ≡ cond (t .done) (serves e) false
+  pub count : r .count ≡ cond (t .done) n 0
+  pub marks : r .marks ≡ t .marks
 
 -- What a read promises.
 pub record Reads (p : ℕ) (e : Endpoint) (packet : List ℕ) (s : Buffer) (r : Received) (io : List ℕ) : Type 0 where

@@ -7,6 +7,7 @@ use answers::plain;
 use answers::served;
 use buffer::Marks;
 use buffer::marked;
+use buffer::marked::Put;
 use wrapper::counters::Left;
 use wrapper::counters::Residue;
 use wrapper::status::CommandStatus;
@@ -16,7 +17,7 @@ ghost use lib.ListN.{length};
 ghost use Rattle.buffer.specs.Buffer.{Sound, Leaves, buffer, at};
 ghost use Rattle.answers.specs.Answers.{told};
 ghost use Rattle.wrapper.specs.Status.{statusNumber};
-ghost use Rattle.packets.specs.Packets.{accepted, Reads, Sends, sendTold, filledUp, withStatus};
+ghost use Rattle.packets.specs.Packets.{Reports, Reads, Sends, sendTold, filledUp, withStatus};
 
 // After a packet was asked of OUT: the answer, whether a packet was taken, of how many bytes, and the marks.
 pub struct Received {
@@ -39,20 +40,10 @@ fn least(a: usize, b: usize) -> usize
     if a < b { a } else { b }
 }
 
-// All of n where the endpoint does its part, otherwise none.
-fn moved(e: Endpoint, n: usize) -> usize
-    ensures { λ r. ⌜ r ≡ accepted e n ⌝ }
+// What is reported of a read for which room was asked, and n bytes put in where there was room.
+fn reported(t: Put, out: Endpoint, n: usize) -> Received
+    ensures { λ r. ⌜ Reports t out n r ⌝ }
 {
-    if served(e) { n } else { 0 }
-}
-
-// One packet from OUT. Room for p bytes is asked for first; then the endpoint.
-pub fn read_packet(io: &mut [u8], m: Marks, p: usize, out: Endpoint, packet: &[u8]) -> Received
-    requires { ⌜ Sound (buffer (now io) m) × (length (now packet) ≤ p) ⌝ }
-    ensures { λ r. ⌜ Reads p out (now (packet .entry)) (buffer (now (io .entry)) m) r (now (io .exit)) ⌝ }
-{
-    let n = moved(out, packet.len());
-    let t = marked::write_all(io, m, p, &packet[..n]);
     let marks = t.marks;
     if t.done {
         return Received {
@@ -70,6 +61,19 @@ pub fn read_packet(io: &mut [u8], m: Marks, p: usize, out: Endpoint, packet: &[u
     }
 }
 
+// One packet from OUT. Room for p bytes is asked for before the endpoint, and so also where that is busy.
+pub fn read_packet(io: &mut [u8], m: Marks, p: usize, out: Endpoint, packet: &[u8]) -> Received
+    requires { ⌜ Sound (buffer (now io) m) × (length (now packet) ≤ p) ⌝ }
+    ensures { λ r. ⌜ Reads p out (now (packet .entry)) (buffer (now (io .entry)) m) r (now (io .exit)) ⌝ }
+{
+    if served(out) {
+        let t = marked::write_all(io, m, p, packet);
+        return reported(t, out, packet.len());
+    }
+    let t = marked::write_all(io, m, p, &packet[..0]);
+    reported(t, out, 0)
+}
+
 // With nothing unread the endpoint is not asked.
 fn send_outcome(unread: usize, e: Endpoint) -> Outcome
     ensures { λ r. ⌜ told r ≡ sendTold e unread ⌝ }
@@ -85,13 +89,19 @@ pub fn send_packet(io: &[u8], m: Marks, p: usize, e: Endpoint, packet: &mut [u8]
     requires { ⌜ Sound (buffer (now io) m) × (p ≤ length (now packet)) ⌝ }
     ensures { λ r. ⌜ Sends p e (buffer (now (io .entry)) m) (now (packet .entry)) r (now (packet .exit)) ⌝ }
 {
-    let outcome = send_outcome(m.write - m.read, e);
-    let t = marked::read(io, m, moved(e, p), packet);
-    let marks = t.marks;
+    if served(e) {
+        let t = marked::read(io, m, p, packet);
+        let marks = t.marks;
+        return Sent {
+            outcome: plain(Answer::Done),
+            count: t.count,
+            marks: marks,
+        };
+    }
     Sent {
-        outcome: outcome,
-        count: t.count,
-        marks: marks,
+        outcome: send_outcome(m.write - m.read, e),
+        count: 0,
+        marks: m,
     }
 }
 

@@ -13,11 +13,12 @@ use Rattle.ring.specs.declared.State.{State}
 use Rattle.ring.specs.declared.State.the-variants.{CommandTransfer, CommandTransferInvalid, DataTransferNoData, StatusTransfer, DataTransferToHost, DataTransferToHostStatusAwait, DataTransferToHostEnding, DataTransferFromHost, DataTransferFromHostEnding}
 use Rattle.wrapper.specs.Wrapper.{isValid, wrapperOf}
 use Rattle.packets.specs.Packets.{readTold, takesOne, received}
+use Rattle.packets.proofs.Laws.{answers-0}
 use Rattle.device.specs.Device.{numbersOf, isPresent}
 use Rattle.device.specs.Broken.{Whole}
 use Rattle.bbb.specs.Poll.{Given, Polling, Point, point, bufferAt, reaching, leaving, counting, sendStatus, sendData, offeredBy, takeBy, takeData, enterStatus, statusAwaitRule, noDataRule, toHostEndingRule, fallsShort, toHostRule, fromHostEndingRule, fromHostRule, ordered, startRule, messageAt, behind31, parseRule, readBy, readOneBy, readCbwRule, entering, statusTransferRule, invalidRule, ruleIn, pollRule, pollCall}
 use Rattle.bbb.proofs.Keeping.{by-direction, call-done}
-use Rattle.bbb.proofs.After.{P, firstFor, outFor, topped, stated, data-told, status-told, answers-0}
+use Rattle.bbb.proofs.After.{P, firstFor, outFor, topped, stated, data-told, status-told}
 use Rattle.readout.specs.History.{Socket, poll, shows, isServed, isPoll, served}
 use Rattle.readout.specs.Demand.{Willing}
 

@@ -9,11 +9,12 @@ use mathlib.Core.List.{List}
 use Prim.Native.Nat.{ℕ, _+_, _^_, _≤_, _<_}
 use native.Mathlib.Omega.{arith}
 use lib.Dec.{eqb, leb}
-use lib.ListN.{length, set}
+use lib.ListN.{length, set, replicate}
 use borrow.Author.Tests.{eq-eqb, ne-eqb, eqb-true, leb-true}
 use Rattle.fields.specs.Field.{Field, littleEndian, oneByte, bytesAt, get, put}
 use Rattle.fields.specs.Overlay.{overlay}
 use Rattle.fields.proofs.Bools.{of-picked}
+use Rattle.fields.proofs.Overlay.{overlay-whole}
 use Rattle.fields.proofs.Field.{length-put, get-put, bytes-before, bytes-behind, byte-stored}
 use Rattle.buffer.specs.declared.Marks.{Marks}
 use Rattle.ring.specs.declared.State.{State}
@@ -27,7 +28,7 @@ use Rattle.wrapper.specs.Wrapper.{directionNumber}
 use Rattle.device.specs.declared.Status.{Status}
 use Rattle.device.specs.declared.Status.the-variants.{Absent, Present}
 use Rattle.recordbytes.specs.Layout as field
-use Rattle.recordbytes.specs.Record.{store, joined, storeState, storeMarks, storeLeft, storeStatus, storeWrapper}
+use Rattle.recordbytes.specs.Record.{store, joined, storeState, storeMarks, storeLeft, storeStatus, storeWrapper, newRecord}
 
 -- ---- one field
 
@@ -105,4 +106,10 @@ module _ (r : List ℕ) where
   unfolding storeWrapper
   leaves-wrapper h block en ha hb hc hd he hl = rw (he, hd, hc, hb, ha, en) at hl
 
-pub ruleset ways = (leaves-byte, keeps-byte, leaves-four, keeps-four, leaves-state, leaves-left, leaves-marks, leaves-absent, leaves-present, leaves-wrapper)
+-- zeros hide all that was there
+pub leaves-new : (r : List ℕ) (packetsize maxlun size : ℕ) {a b c l : List ℕ} → length r ≡ field.recordSize → a ≡ overlay r 0 (replicate 52 0) → b ≡ store field.packetSize packetsize a
+    → c ≡ store field.maxLun maxlun b → l ≡ store field.size size c → l ≡ newRecord packetsize maxlun size
+unfolding newRecord
+leaves-new r packetsize maxlun size h ha hb hc hl = rw (hc, hb, ha ∙ overlay-whole r (replicate 52 0) (sym h)) at hl
+
+pub ruleset ways = (leaves-new, leaves-byte, keeps-byte, leaves-four, keeps-four, leaves-state, leaves-left, leaves-marks, leaves-absent, leaves-present, leaves-wrapper)

@@ -4,9 +4,6 @@ use Rattle.bbb.proofs.Polling.{ways}
 use Rattle.bbb.proofs.changed.Statement.{statement}
 use Rattle.bbb.proofs.changed.Tie as tie
 
-wrapper-then-requires : tie.Need-wrapper-then-requires
-wrapper-then-requires c κs = search needs
-
 status-then-requires : tie.Need-status-then-requires
 status-then-requires c κs = search needs
 
@@ -14,4 +11,4 @@ returns : tie.Need-returns
 returns c = search (ways, needs)
 
 pub changed-spec : {M : Type 1} → statement M
-changed-spec = tie.close (tie.spec wrapper-then-requires status-then-requires returns)
+changed-spec = tie.close (tie.spec status-then-requires returns)

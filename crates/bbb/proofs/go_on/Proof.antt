@@ -19,9 +19,6 @@ row-of-requires c κs = search needs
 act-requires : tie.Need-act-requires
 act-requires c κs = search needs
 
-is-valid-requires : tie.Need-is-valid-requires
-is-valid-requires c κs = search needs
-
 asked-requires : tie.Need-asked-requires
 asked-requires c κs = search needs
 
@@ -35,4 +32,4 @@ returns : tie.Need-returns
 returns c = search (ways, needs)
 
 pub go-on-spec : {M : Type 1} → statement M
-go-on-spec = tie.close (tie.spec present-requires sub-settle settle-requires row-of-requires act-requires is-valid-requires asked-requires same-length same-length-2 returns)
+go-on-spec = tie.close (tie.spec present-requires sub-settle settle-requires row-of-requires act-requires asked-requires same-length same-length-2 returns)

@@ -1,6 +1,7 @@
--- `bbb::poll` meets its contract: 10, 11, or what ran, which `Same` shows to be 01's rule. Assumes nothing.
+-- `bbb::poll` meets its contract: 10, 11, or open, decide and act, which `Same` shows to be 01's rule. Assumes nothing.
 use borrow.Author.Needs.{needs}
-use Rattle.bbb.proofs.Polling.{tells-10, tells-11, polls, ways}
+use Rattle.device.proofs.Wholly.{tested}
+use Rattle.bbb.proofs.Polling.{first-fits, is-fitting, tells-10, tells-11, polls}
 use Rattle.bbb.proofs.poll.Statement.{statement}
 use Rattle.bbb.proofs.poll.Tie as tie
 
@@ -13,14 +14,25 @@ whole-requires c κs = search needs
 fits-requires : tie.Need-fits-requires
 fits-requires c κs = search needs
 
-slice-aggregate-run : tie.Need-slice-aggregate-run
-slice-aggregate-run c = search needs
+open-requires : tie.Need-open-requires
+open-requires c κs =
+    let test = c .before .before in
+    let whole = test .before .before in
+    (tested _ _ (whole .before .whole .ensures) (whole .if1 .taken), first-fits _ _ _ _ (test .before .fits2 .ensures) (test .if2 .taken))
 
-run-requires : tie.Need-run-requires
-run-requires c κs = search (ways, needs)
+wrapper-then-requires : tie.Need-wrapper-then-requires
+wrapper-then-requires c κs = search needs
 
-slice-aggregate-changed : tie.Need-slice-aggregate-changed
-slice-aggregate-changed c = search needs
+go-on-requires : tie.Need-go-on-requires
+go-on-requires c κs =
+    let found = c .before .before .before .before .before .before in
+    let test = found .before .before .before in
+    let whole = test .before .before in (
+      tested _ _ (whole .before .whole .ensures) (whole .if1 .taken) .order,
+      found .«open» .ensures .sound,
+      found .«open» .ensures .once,
+      is-fitting _ _ _ _ (test .before .fits2 .ensures) (test .if2 .taken),
+    )
 
 changed-requires : tie.Need-changed-requires
 changed-requires c κs = search needs
@@ -33,10 +45,13 @@ same-length-2 c = search needs
 
 returns : tie.Need-returns
 returns c =
-    let run = c .before .before .before .before .before .before .before .before in
-    let test = run .before .before .before .before in
+    let went = c .before .before .before .before .before .before in
+    let took = went .before .before .before in
+    let found = took .before .before .before .before in
+    let test = found .before .before .before in
     let whole = test .before .before in
-    polls _ _ _ (whole .before .before .numbers-of .ensures) (whole .before .whole .ensures) (whole .if1 .taken) (test .before .fits2 .ensures) (test .if2 .taken) (run .run .ensures) (c .changed .ensures)
+    polls _ _ _ (whole .before .before .numbers-of .ensures) (whole .before .whole .ensures) (whole .if1 .taken) (test .before .fits2 .ensures) (test .if2 .taken) _
+    (found .«open» .ensures) (went .go-on .ensures) (took .wrapper-then .ensures) (c .changed .ensures)
 
 refused-requires : tie.Need-refused-requires
 refused-requires c κs = search needs
@@ -55,4 +70,4 @@ returns-3 c =
     tells-10 _ _ _ (whole .before .before .numbers-of .ensures) (whole .before .whole .ensures) (whole .if1 .left) (c .refused2 .ensures)
 
 pub poll-spec : {M : Type 1} → statement M
-poll-spec = tie.close (tie.spec numbers-of-requires whole-requires fits-requires slice-aggregate-run run-requires slice-aggregate-changed changed-requires same-length same-length-2 returns refused-requires returns-2 refused-requires-2 returns-3)
+poll-spec = tie.close (tie.spec numbers-of-requires whole-requires fits-requires open-requires wrapper-then-requires go-on-requires changed-requires same-length same-length-2 returns refused-requires returns-2 refused-requires-2 returns-3)

@@ -22,9 +22,6 @@ read-wrapper-requires c κs = search needs
 same-length : tie.Need-same-length
 same-length c = search needs
 
-same-length-2 : tie.Need-same-length-2
-same-length-2 c = search needs
-
 returns : tie.Need-returns
 returns c = search (ways, needs)
 
@@ -35,4 +32,4 @@ returns-2 : tie.Need-returns-2
 returns-2 c = search (ways, needs)
 
 pub open-spec : {M : Type 1} → statement M
-open-spec = tie.close (tie.spec state-number-requires sub-reaches reaches-requires left-when-requires read-wrapper-requires same-length same-length-2 returns plain-requires returns-2)
+open-spec = tie.close (tie.spec state-number-requires sub-reaches reaches-requires left-when-requires read-wrapper-requires same-length returns plain-requires returns-2)

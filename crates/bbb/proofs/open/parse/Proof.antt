@@ -31,23 +31,8 @@ part-head-of-end c = search needs
 head-of-requires : tie.Need-head-of-requires
 head-of-requires c κs = search needs
 
-sub-put : tie.Need-sub-put
-sub-put c = search needs
-
-part-put-start : tie.Need-part-put-start
-part-put-start c = search needs
-
-part-put-end : tie.Need-part-put-end
-part-put-end c = search needs
-
-put-requires : tie.Need-put-requires
-put-requires c κs = search needs
-
 plain-requires : tie.Need-plain-requires
 plain-requires c κs = search needs
-
-same-length : tie.Need-same-length
-same-length c = search needs
 
 returns : tie.Need-returns
 returns c = search (ways, needs)
@@ -59,4 +44,4 @@ returns-2 : tie.Need-returns-2
 returns-2 c = search (ways, needs)
 
 pub parse-spec : {M : Type 1} → statement M
-parse-spec = tie.close (tie.spec add-end sub-valid part-valid-start part-valid-end valid-requires sub-head-of part-head-of-start part-head-of-end head-of-requires sub-put part-put-start part-put-end put-requires plain-requires same-length returns plain-requires-2 returns-2)
+parse-spec = tie.close (tie.spec add-end sub-valid part-valid-start part-valid-end valid-requires sub-head-of part-head-of-start part-head-of-end head-of-requires plain-requires returns plain-requires-2 returns-2)

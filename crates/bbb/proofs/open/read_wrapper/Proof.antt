@@ -22,20 +22,17 @@ parse-requires c κs = search (ways, needs)
 same-length : tie.Need-same-length
 same-length c = search needs
 
-same-length-2 : tie.Need-same-length-2
-same-length-2 c = search needs
-
 returns : tie.Need-returns
 returns c = search (ways, needs)
 
 count-requires : tie.Need-count-requires
 count-requires c κs = search needs
 
-same-length-3 : tie.Need-same-length-3
-same-length-3 c = search needs
+same-length-2 : tie.Need-same-length-2
+same-length-2 c = search needs
 
 returns-2 : tie.Need-returns-2
 returns-2 c = search (ways, needs)
 
 pub read-wrapper-spec : {M : Type 1} → statement M
-read-wrapper-spec = tie.close (tie.spec endpoint-of-requires read-packet-requires sub-ripe ripe-requires parse-requires same-length same-length-2 returns count-requires same-length-3 returns-2)
+read-wrapper-spec = tie.close (tie.spec endpoint-of-requires read-packet-requires sub-ripe ripe-requires parse-requires same-length returns count-requires same-length-2 returns-2)

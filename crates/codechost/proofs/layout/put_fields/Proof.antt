@@ -14,17 +14,20 @@ slice-write-fields-2 c = search needs
 direction-number-requires : tie.Need-direction-number-requires
 direction-number-requires c κs = search needs
 
+cast-fields : tie.Need-cast-fields
+cast-fields c = search needs
+
 slice-write-fields-3 : tie.Need-slice-write-fields-3
 slice-write-fields-3 c = search needs
 
-cast-fields : tie.Need-cast-fields
-cast-fields c = search needs
+cast-fields-2 : tie.Need-cast-fields-2
+cast-fields-2 c = search needs
 
 slice-write-fields-4 : tie.Need-slice-write-fields-4
 slice-write-fields-4 c = search needs
 
-cast-fields-2 : tie.Need-cast-fields-2
-cast-fields-2 c = search needs
+cast-fields-3 : tie.Need-cast-fields-3
+cast-fields-3 c = search needs
 
 slice-write-fields-5 : tie.Need-slice-write-fields-5
 slice-write-fields-5 c = simp length-set (search needs)
@@ -36,4 +39,4 @@ returns : tie.Need-returns
 returns c = search (ways, needs)
 
 pub put-fields-spec : {M : Type 1} → statement M
-put-fields-spec = tie.close (tie.spec slice-write-fields slice-write-fields-2 direction-number-requires slice-write-fields-3 cast-fields slice-write-fields-4 cast-fields-2 slice-write-fields-5 same-length returns)
+put-fields-spec = tie.close (tie.spec slice-write-fields slice-write-fields-2 direction-number-requires cast-fields slice-write-fields-3 cast-fields-2 slice-write-fields-4 cast-fields-3 slice-write-fields-5 same-length returns)

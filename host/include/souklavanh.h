@@ -1,0 +1,316 @@
+/* Souklavanh: the code behind a small USB disk's socket, for firmware in C or C++.
+ *
+ * It speaks USB Mass Storage Bulk-Only Transport and decodes SCSI commands. It never touches the USB hardware. The firmware
+ * asks its endpoints, hands over what they said, and does what the call tells it to do.
+ *
+ * WHAT THE FIRMWARE KEEPS
+ *   record   SOUK_RECORD_SIZE bytes: the device. The firmware may read it (offsets below) and never writes it.
+ *   io       SOUK_IO_SMALLEST to SOUK_IO_LARGEST bytes: data on its way. Always lend the same one, at its full length. Give it
+ *            P + 30 bytes or more: with less, a wrapper that comes in pieces may never fit.
+ *   packet   P bytes or more: a packet that is to be sent stands here after a poll. P is the packet size of the two bulk
+ *            endpoints: 8, 16, 32 or 64.
+ *
+ * NO CALL allocates, blocks, keeps a pointer, or has a precondition on values: any bytes, any lengths and any numbers get an
+ * answer. A pointer and the length behind it must be true, and what a call may write must overlap nothing else lent to it.
+ * A length of 0 is good; the pointer then is not followed, and must not be null. One call at a time for one record: make
+ * them all from the main loop, and let interrupt handlers set flags only.
+ *
+ * A TURN OF THE MAIN LOOP
+ *   1. Was there a bus reset? souk_create again (see there). A control request? souk_control.
+ *   2. souk_command_step. Is a command offered? Put data in with souk_write_data, or take it with souk_read_data. When the
+ *      last byte is in, set the status with souk_set_status, in the same turn.
+ *   3. Ask the endpoints, then souk_poll:
+ *        OUT  offer up to two packets that have come in: 'one' is the older. Its answer 'first' is 0 if the packet is there
+ *             and 1 (busy) if not; 'second' goes with 'two' in the same way. A packet of no bytes is a packet.
+ *        IN   'write' is 0 if the IN endpoint would accept a packet now, and 1 (busy) if not.
+ *   4. After the poll, in this order:
+ *        souk_stalls(word)  what to do with the two bulk endpoints' stalls.
+ *        souk_taken(word)   0, 1 or 2 packets were taken, 'one' first. Give those buffers back to the hardware. A packet that
+ *                           was not taken is to be offered again, in front of any newer one.
+ *        souk_count(word)   n > 0 bytes are sent: they stand in the first n bytes of 'packet'. Hand exactly them to the IN
+ *                           endpoint, as one packet, before the next poll. n is never above 0 where 'write' was not 0.
+ *      Do all three whatever the answer is: a poll that ends with 4 or 6 may have moved on before.
+ *   The answer 6 (busy) is no fault. Call again later, with nothing undone and nothing repeated by the firmware. 4 and, in
+ *   state 7, 1 say that the firmware has to write or read data first.
+ *
+ * WHAT GOES TO THE HOST is what was put in, then filler FFh up to the length that the host asked for, then the status. So
+ *   - offer commands of exactly 31 bytes only. The polls also take longer messages, and bytes behind a wrapper go back to the
+ *     host in front of the data. With P 32 or 64 a wrapper is one packet: in states 0 and 3 ask souk_verdict about 'one', and
+ *     where it is SOUK_INVALID offer 31 zeros in its place. Both endpoints are then stalled, as the standard wants it;
+ *   - put in at most L bytes for one command (SOUK_AT_DECLARED): more would go out;
+ *   - put in all that fits before each poll: with less than P left, what is there goes out at once as a short packet, and a
+ *     short packet ends the host's read;
+ *   - then give the status, with the figure that was truly put in. The host learns from the residue where the filler starts.
+ *     A figure that is too large turns filler into data.
+ *
+ * THE STATES (souk_state; arrows are gone along within one poll; reset and the request FF lead from every state to 0)
+ *
+ *    0 command --- invalid wrapper ---> 1 both endpoints stalled
+ *       |
+ *       +-- L = 0 ------> 2 no data -----------------------------> 5 awaits --- status ---> 3 status --- sent ---> 0
+ *       |
+ *       +-- to host ----> 4 sends -------- left 0 ---------------> 5
+ *       |                    +------------ status --> 6 fills up and sends --- left 0 ---> 3
+ *       |
+ *       +-- from host --> 7 reads -------- left 0 ---------------> 5
+ *                            +------------ status --> 8 reads and drops ------ left 0 ---> 3
+ *
+ *    call                             makes sense in state
+ *    souk_poll                        all
+ *    souk_command_step, souk_command  2, 4, 5, 7 (in 1 they show an old command or an empty one: do not act on it)
+ *    souk_write_data, ..._all         4
+ *    souk_read_data                   7
+ *    souk_set_status                  2, 4, 5, 7
+ *    souk_reset, souk_control         all
+ *    souk_decode, .._told, _verdict   need no record
+ */
+#ifndef SOUKLAVANH_H
+#define SOUKLAVANH_H
+
+#include <stddef.h>
+#include <stdint.h>
+
+#ifdef __cplusplus
+extern "C" {
+#endif
+
+enum {
+    SOUK_RECORD_SIZE = 52,
+    SOUK_BLOCK_SIZE = 16,     /* a command block as souk_command shows it */
+    SOUK_COMMAND_NUMBERS = 6, /* a decoded command: its kind and up to five fields */
+    SOUK_IO_SMALLEST = 31,
+    SOUK_IO_LARGEST = 65536,
+    SOUK_PACKET_LARGEST = 64,
+    SOUK_LUN_LARGEST = 15
+};
+
+/* The answers. 'As before' means: record, io, packet, dst, block and command have the bytes they had before the call. */
+enum souk_answer {
+    SOUK_DONE = 0,
+    /* No room. From a poll: fewer than P bytes are free for an OUT packet; the packet was not taken. The state reached stays,
+       unread bytes may have moved to the front of io and are the same. In state 7: souk_read_data, then poll. In state 0:
+       bytes of a command that was broken off are in the way; create the record anew. From souk_try_write_data_all: the source
+       does not fit; nothing of it was taken, unread bytes may have moved to the front of io. */
+    SOUK_IO_BUFFER_OVERFLOW = 1,
+    SOUK_INVALID_MAX_LUN = 2, /* souk_create: max_lun is above 15. There is no device; the record is as before */
+    SOUK_INVALID_STATE = 3,   /* read call outside 7, write call outside 4. As before */
+    /* A poll in state 4: at least P bytes are to be sent, fewer than P are there, and there is no status. The state reached
+       stays. Write data, or set the status if there is no more. */
+    SOUK_FULL_PACKET_EXPECTED = 4,
+    SOUK_BUFFER_TOO_SMALL = 5, /* souk_create: size is below 31 or below P. There is no device; the record is as before */
+    SOUK_WOULD_BLOCK = 6,      /* a poll needed an endpoint that is busy. What was reached stays: poll again */
+    SOUK_ENDPOINT_FAILED = 7,  /* a poll needed an endpoint that gave an error: souk_carried has it. What was reached stays */
+    SOUK_INVALID_PACKET_SIZE = 8, /* souk_create: P is not 8, 16, 32 or 64. There is no device; the record is as before */
+    SOUK_BUFFER_TOO_LARGE = 9,    /* souk_create: size is above 65,536. There is no device; the record is as before */
+    /* The record is broken: the length of record or io is not the one of the creation, or the bytes are none that these calls
+       leave. Somebody else wrote into it. Also: record, block or command lent with a wrong length. As before. The only way on
+       is souk_create. */
+    SOUK_BROKEN_RECORD = 10,
+    SOUK_PACKET_REFUSED = 11, /* a poll: an offered packet is longer than P, or 'packet' has fewer than P bytes. As before */
+    SOUK_STATUS_REFUSED = 12, /* souk_set_status: in state 0, 1, 3, 6 or 8, or a status byte above 2. As before */
+    SOUK_EMPTY_BLOCK = 13     /* decoding a block of no bytes. Nothing was done */
+};
+
+/* What an endpoint said, for 'first', 'second' and 'write'. Any other number is an error of the firmware's own; a poll that
+   needed this endpoint answers 7 and carries the number. */
+enum souk_endpoint {
+    SOUK_ENDPOINT_READY = 0,
+    SOUK_ENDPOINT_BUSY = 1
+};
+
+enum souk_stalls {
+    SOUK_STALLS_KEEP = 0,
+    SOUK_STALLS_SET = 1,           /* stall both bulk endpoints */
+    SOUK_STALLS_CLEAR = 2,         /* unstall both */
+    SOUK_STALLS_CLEAR_THEN_SET = 3 /* first unstall both, then stall both */
+};
+
+enum souk_state {
+    SOUK_COMMAND_TRANSFER = 0,         /* waits for a wrapper */
+    SOUK_COMMAND_TRANSFER_INVALID = 1, /* got an invalid one: both endpoints stalled until a reset */
+    SOUK_NO_DATA = 2,                  /* gone through within a poll, never seen between calls */
+    SOUK_STATUS_TRANSFER = 3,
+    SOUK_TO_HOST = 4,
+    SOUK_STATUS_AWAITED = 5, /* all data is through, or there is none: set the status */
+    SOUK_TO_HOST_ENDING = 6,
+    SOUK_FROM_HOST = 7,
+    SOUK_FROM_HOST_ENDING = 8
+};
+
+enum souk_status {
+    SOUK_PASSED = 0,
+    SOUK_FAILED = 1,     /* the host will ask why, with REQUEST SENSE */
+    SOUK_PHASE_ERROR = 2 /* the host will reset the device */
+};
+
+enum souk_verdict {
+    SOUK_INVALID = 0,
+    SOUK_VALID_ONLY = 1,
+    SOUK_MEANINGFUL = 2
+};
+
+enum souk_direction {
+    SOUK_DIRECTION_NO_DATA = 0,
+    SOUK_DIRECTION_TO_HOST = 1,
+    SOUK_DIRECTION_FROM_HOST = 2
+};
+
+/* command[0]; behind it what stands in command[1], [2] and so on. Numbers without a meaning are 0. */
+enum souk_kind {
+    SOUK_UNKNOWN = 0,                /* opcode */
+    SOUK_INQUIRY = 1,                /* EVPD, page, allocation length */
+    SOUK_TEST_UNIT_READY = 2,        /* - */
+    SOUK_REQUEST_SENSE = 3,          /* DESC, allocation length */
+    SOUK_MODE_SENSE_6 = 4,           /* DBD, page control, page, subpage, allocation length */
+    SOUK_MODE_SENSE_10 = 5,          /* the same */
+    SOUK_READ_CAPACITY_10 = 6,       /* - */
+    SOUK_READ_CAPACITY_16 = 7,       /* allocation length; the service action is not looked at */
+    SOUK_READ = 8,                   /* block address, number of blocks */
+    SOUK_WRITE = 9,                  /* block address, number of blocks */
+    SOUK_READ_FORMAT_CAPACITIES = 10 /* allocation length */
+};
+
+/* Page control, of MODE SENSE. */
+enum souk_page_control {
+    SOUK_CURRENT_VALUES = 0,
+    SOUK_CHANGEABLE_VALUES = 1,
+    SOUK_DEFAULT_VALUES = 2,
+    SOUK_SAVED_VALUES = 3
+};
+
+/* Where things stand in the record, for reading. Four-byte numbers are little-endian: souk_number reads them. */
+enum souk_record {
+    SOUK_AT_PACKET_SIZE = 0,    /* 1 byte */
+    SOUK_AT_MAX_LUN = 1,        /* 1 */
+    SOUK_AT_STATE = 2,          /* 1: souk_state */
+    SOUK_AT_STATUS_PRESENT = 3, /* 1: 0 or 1 */
+    SOUK_AT_IO_LENGTH = 4,      /* 4 */
+    SOUK_AT_READ_MARK = 8,      /* 4: unread bytes of io start here */
+    SOUK_AT_WRITE_MARK = 12,    /* 4: and end here */
+    SOUK_AT_LEFT = 16,          /* 4: bytes of this command still to go over the wire */
+    SOUK_AT_RESIDUE = 20,       /* 4: as the status reports it; old where none is present */
+    SOUK_AT_STATUS = 24,        /* 1: souk_status; old where none is present */
+    SOUK_AT_DIRECTION = 25,     /* 1: souk_direction */
+    SOUK_AT_LUN = 26,           /* 1 */
+    SOUK_AT_BLOCK_LENGTH = 27,  /* 1: 0 before the first wrapper, then 1 to 16 */
+    SOUK_AT_TAG = 28,           /* 4 */
+    SOUK_AT_DECLARED = 32,      /* 4: L, the length that the host declared */
+    SOUK_AT_BLOCK = 36          /* 16: the command block */
+};
+
+/* ---- The parts of a 64-bit result. What a call does not give is 0 in it. */
+
+static inline uint32_t souk_answer(uint64_t word) {
+    return (uint32_t)(word & 255u);
+}
+
+/* souk_poll: the endpoint's error that goes with SOUK_ENDPOINT_FAILED. */
+static inline uint8_t souk_carried(uint64_t word) {
+    return (uint8_t)(word >> 8 & 255u);
+}
+
+/* souk_command, souk_command_step: the unit that the command is for, 0 to 15, which may be above the max LUN. */
+static inline uint8_t souk_lun(uint64_t word) {
+    return (uint8_t)(word >> 8 & 255u);
+}
+
+/* souk_poll, souk_reset, souk_control: an enum souk_stalls. */
+static inline uint32_t souk_stalls(uint64_t word) {
+    return (uint32_t)(word >> 16 & 255u);
+}
+
+/* souk_poll: OUT packets taken, 0 to 2. */
+static inline uint32_t souk_taken(uint64_t word) {
+    return (uint32_t)(word >> 24 & 255u);
+}
+
+/* 1 or 0. souk_control: a byte is answered. souk_command: a command is shown. souk_command_step: one is offered. */
+static inline uint32_t souk_flag(uint64_t word) {
+    return (uint32_t)(word >> 24 & 255u);
+}
+
+/* souk_poll: bytes sent. souk_read_data, souk_write_data, souk_try_write_data_all: bytes read or written. souk_control: the
+   byte answered. souk_command: the block's length. */
+static inline uint32_t souk_count(uint64_t word) {
+    return (uint32_t)(word >> 32);
+}
+
+/* A four-byte number of the record. */
+static inline uint32_t souk_number(const uint8_t *record, size_t at) {
+    return (uint32_t)record[at] | (uint32_t)record[at + 1] << 8 | (uint32_t)record[at + 2] << 16 |
+           (uint32_t)record[at + 3] << 24;
+}
+
+/* ---- The calls. Every call that takes a record, but souk_create, answers 10 first if the record is broken. */
+
+/* A new device into the record's 52 bytes, whatever they were. Answers 0; 2, 5, 8, 9, looked at in this order; then 10 if the
+   record has not 52 bytes.
+   packet_size  P: 8, 16, 32 or 64
+   max_lun      the highest unit number, 0 to 15: 0 for one disk
+   size         the length of io
+   Call it at power-up and at every bus reset, and unstall both endpoints then. A reset alone (souk_reset) keeps unread bytes:
+   what was left of a read that was broken off would stand in front of every later wrapper. */
+uint32_t souk_create(uint8_t *record, size_t record_len, uint32_t packet_size, uint8_t max_lun, uint32_t size);
+
+/* One turn of the device, as told above. Answers 0, 1, 4, 6, 7, 10, 11. */
+uint64_t souk_poll(uint8_t *record, size_t record_len, uint8_t *io, size_t io_len, uint8_t *packet, size_t packet_len,
+                   const uint8_t *one, size_t one_len, const uint8_t *two, size_t two_len, uint8_t first, uint8_t second,
+                   uint8_t write);
+
+/* The status of the present command. The next poll goes on to it; a later call before that replaces it. Answers 0, 10, 12.
+   status  an enum souk_status
+   figure  how many bytes of L were dealt with: put in for the host, or taken from it. The host is told L less the figure, and
+           0 if the figure is above L. */
+uint32_t souk_set_status(uint8_t *record, size_t record_len, const uint8_t *io, size_t io_len, uint8_t status,
+                         uint32_t figure);
+
+/* Takes data that came from the host: as much as is there and fits into dst. The rest of dst is kept. Answers 0, 3, 10. */
+uint64_t souk_read_data(uint8_t *record, size_t record_len, const uint8_t *io, size_t io_len, uint8_t *dst, size_t dst_len);
+
+/* Puts in data for the host: as much of src as fits, and at most as much as is left on the wire (unread bytes that were put
+   in before are not counted against that). Go on with the rest after the next poll. Answers 0, 3, 10. */
+uint64_t souk_write_data(uint8_t *record, size_t record_len, uint8_t *io, size_t io_len, const uint8_t *src,
+                         size_t src_len);
+
+/* Puts in all of src, or nothing and answers 1. It is not limited by what is left: more than L would go out if more than L is
+   put in. Answers 0, 1, 3, 10. */
+uint64_t souk_try_write_data_all(uint8_t *record, size_t record_len, uint8_t *io, size_t io_len, const uint8_t *src,
+                                 size_t src_len);
+
+/* Breaks the present command off: state 0, no status, nothing left, both endpoints to be unstalled. Unread bytes stay in io
+   (see souk_create). Answers 0, 10. */
+uint64_t souk_reset(uint8_t *record, size_t record_len, const uint8_t *io, size_t io_len);
+
+/* A control request's first two bytes. Answers 0, 10; 0 also where the request does not count and nothing was done.
+   A1h, FEh (Get Max LUN): souk_flag is 1 and souk_count the byte to answer.
+   A1h, FFh: as souk_reset; souk_stalls says to unstall. BOT's own reset request is 21h, FFh and does not count here. */
+uint64_t souk_control(uint8_t *record, size_t record_len, const uint8_t *io, size_t io_len, uint8_t request_type,
+                      uint8_t request);
+
+/* The command block as it came, in every state but 0: souk_flag, souk_lun, souk_count bytes in front of the 16. Where none is
+   shown block is kept. Answers 0, 10 (also if block has not 16 bytes). */
+uint64_t souk_command(const uint8_t *record, size_t record_len, const uint8_t *io, size_t io_len, uint8_t *block,
+                      size_t block_len);
+
+/* The command decoded, where one waits for the firmware: in every state but 0 while there is no status, so it is offered again
+   and again until the status is set. Where none is offered command is kept. In state 1 it is no new command. Answers 0, 10
+   (also if command has not 6 numbers), 13 (state 1 before the first good wrapper). */
+uint64_t souk_command_step(const uint8_t *record, size_t record_len, const uint8_t *io, size_t io_len, uint64_t *command,
+                           size_t command_len);
+
+/* Decodes a block into six numbers: kind and fields. A block that is too short for its opcode is SOUK_UNKNOWN, and so are READ
+   (16) and WRITE (16). Answers 0, 10 (command has not 6 numbers), 13 (empty block); with 10 and 13 command is kept. */
+uint32_t souk_decode(const uint8_t *block, size_t block_len, uint64_t *command, size_t command_len);
+
+/* The same; with extended 1 READ (16) and WRITE (16) are known too, with 0 not. Any other number: 10. */
+uint32_t souk_decode_told(const uint8_t *block, size_t block_len, uint32_t extended, uint64_t *command, size_t command_len);
+
+/* What BOT says of one received message, as an enum souk_verdict and no answer. The polls do not ask it: they take messages
+   that BOT calls invalid (in pieces, or longer than 31 bytes) and units above max_lun. */
+uint32_t souk_verdict(const uint8_t *message, size_t message_len, uint8_t max_lun);
+
+#ifdef __cplusplus
+}
+#endif
+
+#endif

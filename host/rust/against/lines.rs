@@ -1,0 +1,34 @@
+//! Decoder and verdict: an answer for each line of standard input.
+
+use crate::bench::Checked;
+use crate::words;
+use souklavanh::{decode, decode_told, verdict};
+use std::io::{BufRead, Write};
+
+pub fn answer(answer: impl Fn(&str) -> Checked<String>) -> Checked {
+    let mut output = std::io::BufWriter::new(std::io::stdout().lock());
+    for line in std::io::stdin().lock().lines() {
+        let line = line.map_err(|error| error.to_string())?;
+        writeln!(output, "{}", answer(&line)?).map_err(|error| error.to_string())?;
+    }
+    output.flush().map_err(|error| error.to_string())
+}
+
+/// The decoder that is told has to say the same as the plain one where extended addressing is off.
+pub fn decoded(line: &str, extended: bool) -> Checked<String> {
+    let block = oracle::lines::from_hex(line);
+    let told = decode_told(&block, extended);
+    if !extended && told != decode(&block) {
+        return Err(format!("{line}: the two decoders do not agree"));
+    }
+    Ok(told.map_or("13".to_string(), |command| words::of(&command)))
+}
+
+pub fn judged(line: &str) -> Checked<String> {
+    let parts = line.split_once(' ');
+    let Some((Ok(max_lun), digits)) = parts.map(|(word, digits)| (word.parse(), digits)) else {
+        return Err(format!("this is no max LUN and message: {line}"));
+    };
+    let verdict = verdict(&oracle::lines::from_hex(digits), max_lun);
+    Ok((verdict as u8).to_string())
+}

@@ -1,0 +1,131 @@
+//! The Rust of docs/src over endpoints that are a few cells. Its calls stand behind functions that are not inlined, as a
+//! library's would.
+
+use crate::story::{BUFFER, LARGEST_PACKET, Side};
+use std::cell::{Cell, UnsafeCell};
+use usb_device::bus::{UsbBus, UsbBusAllocator};
+use usb_device::{Result, UsbError};
+use usbd_storage::transport::bbb::{BulkOnly, BulkOnlyError};
+use usbd_storage::transport::{CommandStatus, Transport, TransportError};
+
+/// One packet from the host, and the last one to it.
+pub struct Cells {
+    offered: Cell<Option<*const [u8]>>,
+    packet: UnsafeCell<[u8; LARGEST_PACKET]>,
+    sent: Cell<usize>,
+    stalled: Cell<bool>,
+}
+
+pub fn allocator() -> UsbBusAllocator<Cells> {
+    UsbBusAllocator::new(Cells {
+        offered: Cell::new(None),
+        packet: UnsafeCell::new([0; LARGEST_PACKET]),
+        sent: Cell::new(0),
+        stalled: Cell::new(false),
+    })
+}
+
+impl UsbBus for Cells {
+    #[inline(always)]
+    fn read(&self, room: &mut [u8]) -> Result<usize> {
+        let packet = self.offered.take().ok_or(UsbError::WouldBlock)?;
+        // SAFETY: `Original::poll` sets it from a slice that it holds until the poll is over.
+        let packet = unsafe { &*packet };
+        room[..packet.len()].copy_from_slice(packet);
+        Ok(packet.len())
+    }
+
+    #[inline(always)]
+    fn write(&self, packet: &[u8]) -> Result<usize> {
+        // SAFETY: the cell is looked at between polls alone (`Original::packet`), and one thread has it.
+        let to = unsafe { &mut *self.packet.get() };
+        to[..packet.len()].copy_from_slice(packet);
+        self.sent.set(packet.len());
+        Ok(packet.len())
+    }
+
+    #[inline(always)]
+    fn set_stalled(&self, _endpoint: &'static str, stalled: bool) {
+        self.stalled.set(stalled);
+    }
+}
+
+type Device<'a> = BulkOnly<'a, Cells, [u8; BUFFER]>;
+type Polled = core::result::Result<(), TransportError<BulkOnlyError>>;
+
+pub struct Original<'a> {
+    device: Device<'a>,
+    bus: &'a Cells,
+}
+
+impl<'a> Original<'a> {
+    pub fn new(allocator: &'a UsbBusAllocator<Cells>, packet_size: usize) -> Original<'a> {
+        let device = BulkOnly::new(allocator, packet_size as u16, 0, [0; BUFFER]);
+        Original {
+            device: device.unwrap_or_else(|_| panic!("no device")),
+            bus: allocator.bus(),
+        }
+    }
+}
+
+impl Side for Original<'_> {
+    #[inline(always)]
+    fn poll(&mut self, offered: Option<&[u8]>) -> (u8, usize) {
+        self.bus
+            .offered
+            .set(offered.map(|packet| packet as *const [u8]));
+        self.bus.sent.set(0);
+        let polled = poll(&mut self.device);
+        (number(polled), self.bus.sent.get())
+    }
+
+    fn packet(&self) -> &[u8; LARGEST_PACKET] {
+        // SAFETY: no poll runs, so nobody writes.
+        unsafe { &*self.bus.packet.get() }
+    }
+
+    #[inline(always)]
+    fn write_data(&mut self, source: &[u8]) -> usize {
+        write_data(&mut self.device, source)
+    }
+
+    #[inline(always)]
+    fn read_data(&mut self, destination: &mut [u8]) -> usize {
+        read_data(&mut self.device, destination)
+    }
+
+    #[inline(always)]
+    fn set_status(&mut self, processed: u32) {
+        set_status(&mut self.device, processed);
+    }
+}
+
+#[inline(never)]
+fn poll(device: &mut Device) -> Polled {
+    device.poll()
+}
+
+/// The answer's number, for the three that come up here; another one would make the sums of the two sides differ.
+#[inline(always)]
+fn number(polled: Polled) -> u8 {
+    match polled {
+        Ok(()) => 0,
+        Err(TransportError::Error(_)) => 4,
+        Err(TransportError::Usb(_)) => 6,
+    }
+}
+
+#[inline(never)]
+fn write_data(device: &mut Device, source: &[u8]) -> usize {
+    device.write_data(source).unwrap_or(0)
+}
+
+#[inline(never)]
+fn read_data(device: &mut Device, destination: &mut [u8]) -> usize {
+    device.read_data(destination).unwrap_or(0)
+}
+
+#[inline(never)]
+fn set_status(device: &mut Device, processed: u32) {
+    device.set_status(CommandStatus::Passed, processed);
+}

@@ -1,0 +1,36 @@
+//! Bench files played through the archive by two devices at once: one by the raw calls, with guards around everything
+//! that is lent ([`guarded`]), one by the safe wrapper ([`wrapped`]). Behind every event they have to agree in all bytes.
+//!
+//! What is looked at beside the lines of a bench file:
+//!   - bytes of the packet buffer behind those sent, and of a destination behind those read, are as they were;
+//!   - so are sources, offered packets, and the bytes around everything that was lent;
+//!   - no call changes the IO buffer behind what it can have written, and one that only reads it changes nothing in it;
+//!   - packet size, IO buffer length and max LUN in the record stay those of the creation, residue and status byte those of
+//!     the last status;
+//!   - a refusal with 3, 10, 11 or 12 leaves record, IO buffer, packet buffer and destination as they were;
+//!   - what a result does not name is 0 in it.
+//!
+//! Every few hundred events [`probes`] makes, on copies, calls that no bench file can make.
+//!
+//! The crate that has this module also has `benchfile`, the oracle's.
+
+pub mod guarded;
+pub mod layout;
+pub mod lent;
+pub mod outcome;
+pub mod play;
+pub mod probes;
+pub mod replica;
+pub mod rules;
+pub mod wrapped;
+
+/// What is wrong, in words; whoever plays the file adds where.
+pub type Checked<T = ()> = Result<T, String>;
+
+pub fn require(holds: bool, otherwise: &str) -> Checked {
+    if holds {
+        Ok(())
+    } else {
+        Err(otherwise.to_string())
+    }
+}

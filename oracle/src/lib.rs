@@ -1,0 +1,34 @@
+//! The oracle: the Rust of docs/src, unchanged, behind document 01's bench file. `main.rs` has the commands over it;
+//! a test that runs beside the Rust in one process uses the modules.
+
+pub mod benchfile;
+pub mod bufferops;
+pub mod cases;
+pub mod chains;
+pub mod codecinputs;
+pub mod codecs;
+pub mod coverage;
+pub mod damage;
+pub mod decode;
+pub mod demand;
+pub mod demandfaults;
+pub mod demandrun;
+pub mod demandtally;
+pub mod device;
+pub mod diff;
+pub mod endpoints;
+pub mod firmware;
+pub mod generator;
+pub mod host;
+pub mod lines;
+pub mod panics;
+pub mod printed;
+pub mod reachable;
+pub mod reached;
+pub mod rng;
+pub mod script;
+pub mod selftest;
+pub mod show;
+pub mod temper;
+pub mod vectors;
+pub mod wrapper;
