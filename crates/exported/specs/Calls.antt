@@ -9,6 +9,8 @@ use lib.Dec.{eqb}
 use lib.ListN.{length, getD}
 use Rattle.device.specs.declared.Device.{Device}
 use Rattle.device.specs.Create.{creation}
+use Rattle.device.specs.declared.Status.the-variants.{Absent}
+use Rattle.bbb.specs.declared.Change.{Change}
 use Rattle.bbb.specs.Poll.{Given, Polling, pollCall}
 use Rattle.calls.specs.declared.Figure.{Figure}
 use Rattle.calls.specs.declared.Moved as value
@@ -17,7 +19,7 @@ use Rattle.calls.specs.Status.{Stating, setStatusCall}
 use Rattle.calls.specs.Data.{Moving, readCall, writeCall, writeAllCall}
 use Rattle.calls.specs.Bus.{Handling, resetCall, controlCall}
 use Rattle.recordbytes.specs.Layout.{recordSize}
-use Rattle.recordbytes.specs.Record.{storeDevice, newRecord}
+use Rattle.recordbytes.specs.Record.{storeState, storeMarks, storeLeft, storeStatus, storeDevice, newRecord}
 use Rattle.exported.specs.Word.{word, plain, stallsNumber}
 use Rattle.exported.specs.Record.{onDevice}
 
@@ -98,3 +100,13 @@ polled r o = polls (word (o .told .number) (o .told .carried) (stallsNumber (o .
 
 unfoldable pub pollOn : List ℕ → List ℕ → Given → Polled
 pollOn r io g = onDevice r (polls (plain 10) r io (g .packet)) (λ (d : Device). polled r (pollCall d io g))
+
+-- what the ring changed has its place in a record: marks and bytes sent are numbers of 32 bits
+pub record Keepable (c : Change) : Type 0 where
+  pub read : c .marks .read < 2 ^ 32
+  pub write : c .marks .write < 2 ^ 32
+  pub sent : c .report .sent < 2 ^ 32
+
+-- the record with all of it but the wrapper
+unfoldable pub keptChange : Change → List ℕ → List ℕ
+keptChange c r = storeLeft (c .left) (storeMarks (c .marks) (storeState (c .state) (cond (c .cleared) (storeStatus Absent r) r)))

@@ -1,8 +1,10 @@
 -- specs.Word      a result of several parts in one number
 -- specs.Record    the record that a call is lent
 -- specs.Calls     what each call leaves of all that it was lent
+-- specs.Onward    polls in the midst of a transfer
 -- specs.Command   the command shown, and the command step
 pub mod Word
 pub mod Record
 pub mod Calls
+pub mod Onward
 pub mod Command

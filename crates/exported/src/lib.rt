@@ -12,6 +12,8 @@ mod command;
 mod create;
 mod data;
 mod decode;
+mod onward;
+mod poll;
 mod status;
 mod word;
 

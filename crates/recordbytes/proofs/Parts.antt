@@ -4,6 +4,7 @@
 --     status-alone, marks-alone    one part changed
 --     entered                      status, state and left changed
 --     polled                       state, marks and left changed, and the status perhaps
+--     moved-to, moved-within       state, marks and left changed; marks and left
 --     parsed                       the wrapper, state, marks and left changed
 -- Assumes nothing.
 use mathlib.Core.Path.{_≡_, refl, sym, ap, _∙_}
@@ -139,6 +140,15 @@ module _ (r : List ℕ) (k : Known r) where
   status-marks : (x : Status) (m : Marks) → storeDevice (withMarks m (withStatus x (deviceAt r))) r ≡ storeMarks m (storeStatus x r)
   unfolding deviceAt
   status-marks x m = polled x state₀ m left₀ ∙ ap (λ (q : List ℕ). storeLeft left₀ (storeMarks m q)) (state-next x) ∙ left-next x m
+
+  -- state, marks and left; and marks and left
+  pub moved-to : (s : State) (m : Marks) (l : Left) → storeDevice (inState s (withMarks m (withLeft l (deviceAt r)))) r ≡ storeLeft l (storeMarks m (storeState s r))
+  unfolding deviceAt
+  moved-to s m l = polled (statusAt r) s m l ∙ ap (λ (q : List ℕ). storeLeft l (storeMarks m (storeState s q))) status-stays
+
+  pub moved-within : (m : Marks) (l : Left) → storeDevice (withMarks m (withLeft l (deviceAt r))) r ≡ storeLeft l (storeMarks m r)
+  unfolding deviceAt
+  moved-within m l = moved-to state₀ m l ∙ ap (λ (q : List ℕ). storeLeft l (storeMarks m q)) (state-kept r (k .state))
 
   pub marks-alone : (m : Marks) → storeDevice (withMarks m (deviceAt r)) r ≡ storeMarks m r
   unfolding deviceAt
