@@ -1,4 +1,8 @@
 -- proofs.Lending    the record that a call is lent: whether it holds a device, and what a call with one that is broken owes
+-- proofs.Going      polls in the midst of a transfer
+-- proofs.Round      a poll through the whole ring
 -- proofs.Ways       what each way through a call owes
 pub mod Lending
+pub mod Going
+pub mod Round
 pub mod Ways

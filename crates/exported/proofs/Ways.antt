@@ -65,7 +65,7 @@ module _ (r io : List ℕ) (f : Figure) {h : Bool} (eh : h ≡ isHeld r (length 
       let held = is-held r (length io) eh q in
       let to : statedOf s ≡ setStatusCall (deviceAt r) io f = rw ed at es in
       let alone : s .device ≡ withStatus (s .device .status) (deviceAt r) =
-          ap (λ (o : Stating). withStatus (s .device .status) (withStatus (deviceAt r .status) (o .device))) to ∙ ap (withStatus (s .device .status)) (status-keeps (deviceAt r) io f) in
+      ap (λ (o : Stating). withStatus (s .device .status) (withStatus (deviceAt r .status) (o .device))) to ∙ ap (withStatus (s .device .status)) (status-keeps (deviceAt r) io f) in
       let kept : l ≡ storeDevice (s .device) r = el ∙ sym (status-alone r (held .known) (s .device .status)) ∙ ap (λ (d : Device). storeDevice d r) (sym alone) in
       rw (en, kept) (ap (stated r) to ∙ made r (leaves 10 r) (λ (d : Device). stated r (setStatusCall d io f)) (held .test))
 
@@ -89,7 +89,7 @@ module _ (r bytes : List ℕ) (len : ℕ) (call : Device → Moving) {h : Bool} 
   data-made keeps q m b to {x} {l} e =
       let held = is-held r len eh q in
       let alone : m .device ≡ withMarks (m .device .marks) (deviceAt r) =
-          ap (λ (o : Moving). withMarks (m .device .marks) (withMarks (deviceAt r .marks) (o .device))) to ∙ ap (withMarks (m .device .marks)) keeps in
+      ap (λ (o : Moving). withMarks (m .device .marks) (withMarks (deviceAt r .marks) (o .device))) to ∙ ap (withMarks (m .device .marks)) keeps in
       let kept : l ≡ storeDevice (m .device) r = e .1 ∙ sym (marks-alone r (held .known) (m .device .marks)) ∙ ap (λ (d : Device). storeDevice d r) (sym alone) in
       rw (e .0, kept) (ap (moved r) to ∙ made r (moves (plain 10) r bytes) (λ (d : Device). moved r (call d)) (held .test))
 
@@ -190,7 +190,7 @@ module _ (r io : List ℕ) (call : Device → Handling) {h : Bool} (eh : h ≡ i
       let held = is-held r (length io) eh q in
       let with : Device → Device = λ (d : Device). inState (m .device .state) (withStatus (m .device .status) (withLeft (m .device .left) d)) in
       let alone : m .device ≡ with (deviceAt r) =
-          ap (λ (o : Handling). with (inState (deviceAt r .state) (withStatus (deviceAt r .status) (withLeft (deviceAt r .left) (o .device))))) to ∙ ap with keeps in
+      ap (λ (o : Handling). with (inState (deviceAt r .state) (withStatus (deviceAt r .status) (withLeft (deviceAt r .left) (o .device))))) to ∙ ap with keeps in
       let kept : l ≡ storeDevice (m .device) r = e .1 ∙ sym (entered r (held .known) (m .device .status) (m .device .state) (m .device .left)) ∙ ap (λ (d : Device). storeDevice d r) (sym alone) in
       rw (e .0, kept) (ap (handled r) to ∙ made r (leaves (plain 10) r) (λ (d : Device). handled r (call d)) (held .test))
 

@@ -58,12 +58,7 @@ pub extern "C" fn souk_reset(record: &mut [u8], io: &[u8]) -> u64
 }
 
 #[no_mangle]
-pub extern "C" fn souk_control(
-    record: &mut [u8],
-    io: &[u8],
-    request_type: u8,
-    request: u8,
-) -> u64
+pub extern "C" fn souk_control(record: &mut [u8], io: &[u8], request_type: u8, request: u8) -> u64
     ensures { λ x. ⌜ leaves x (now («record» .exit)) ≡ controlOn (now («record» .entry)) (now (io .entry)) (record { requesttype = «request_type»; request = request }) ⌝ }
 {
     if !held(record, io.len()) {

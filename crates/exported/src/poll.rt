@@ -27,13 +27,14 @@ ghost use Prim.Native.Nat.{_<_, _^_};
 ghost use lib.ListN.{length};
 ghost use Rattle.answers.specs.Answers as answers;
 ghost use Rattle.buffer.specs.Buffer.{Sound, buffer};
+ghost use Rattle.device.specs.declared.Status.the-variants.{Absent};
 ghost use Rattle.device.specs.Device.{numbersOf};
 ghost use Rattle.device.specs.Broken.{Whole};
 ghost use Rattle.bbb.specs.Poll.{given, Fits};
 ghost use Rattle.bbb.specs.Phases.{isValidFound, InFront, justRead};
 ghost use Rattle.wrapper.specs.Wrapper.{wrapperOf};
 ghost use Rattle.recordbytes.specs.Layout.{recordSize};
-ghost use Rattle.recordbytes.specs.Record.{isKnown, deviceAt, storeWrapper};
+ghost use Rattle.recordbytes.specs.Record.{isKnown, deviceAt, storeStatus, storeWrapper};
 ghost use Rattle.exported.specs.Word as spec;
 ghost use Rattle.exported.specs.Calls.{Keepable, keptChange, polls, pollOn};
 
@@ -52,6 +53,16 @@ fn keep_wrapper(record: &mut [u8], o: Opened, io: &[u8])
     }
 }
 
+// Entering 0 clears the status.
+fn clear(record: &mut [u8], cleared: bool)
+    requires { ⌜ length (now «record») ≡ recordSize ⌝ }
+    ensures { λ _. ⌜ now («record» .exit) ≡ cond cleared (storeStatus Absent (now («record» .entry))) (now («record» .entry)) ⌝ }
+{
+    if cleared {
+        store::status(record, Status::Absent);
+    }
+}
+
 // What else changed of the record.
 fn keep(record: &mut [u8], c: Change)
     requires { ⌜ (length (now «record») ≡ recordSize) × Keepable c ⌝ }
@@ -60,9 +71,7 @@ fn keep(record: &mut [u8], c: Change)
     let state = c.state;
     let marks = c.marks;
     let left = c.left;
-    if c.cleared {
-        store::status(record, Status::Absent);
-    }
+    clear(record, c.cleared);
     store::state(record, state);
     store::marks(record, marks);
     store::left(record, left);

@@ -17,5 +17,9 @@ pub fn stalls_number(stalls: Stalls) -> u8
 pub fn word(answer: u8, carried: u8, stalls: u8, flag: u8, count: u32) -> u64
     ensures { λ x. ⌜ x ≡ spec.word answer carried stalls flag count ⌝ }
 {
-    answer as u64 + 256 * (carried as u64) + 65536 * (stalls as u64) + 16777216 * (flag as u64) + 4294967296 * (count as u64)
+    answer as u64
+        + 256 * (carried as u64)
+        + 65536 * (stalls as u64)
+        + 16777216 * (flag as u64)
+        + 4294967296 * (count as u64)
 }

@@ -1,49 +1,43 @@
+use Rattle.exported.proofs.Going.{mark-fits, packet-within, ways}
+use native.Mathlib.Omega.{arith}
 use borrow.Author.Needs.{needs}
 use Rattle.exported.proofs.onward.take_on.Statement.{statement}
 use Rattle.exported.proofs.onward.take_on.Tie as tie
-use Rattle.exported.proofs.onward.take_on.Reads as reads
-use Rattle.exported.proofs.onward.take_on.Lts as lts
-use Rattle.buffer.proofs.span.put.Reads as put-reads
-use Rattle.exported.proofs.word.word.Reads as word-reads
-use Rattle.recordbytes.proofs.store.left.Reads as left-reads
-use Rattle.recordbytes.proofs.store.marks.Reads as marks-reads
-use Rattle.wrapper.proofs.counters.left_after.Reads as left-after-reads
 
--- src/onward.rt:107:5
 put-requires : tie.Need-put-requires
-put-requires c κs = ?
+put-requires c κs =
+    let start = c .before .before .before .before .before .before in
+    packet-within _ (start .args .io .now) (start .pre .1) (start .args .first) _ (start .pre .3) (start .pre .2)
 
--- src/onward.rt:110:16
 add-t15 : tie.Need-add-t15
 add-t15 c = search needs
 
--- src/onward.rt:112:9
 left-after-requires : tie.Need-left-after-requires
 left-after-requires c κs = search needs
 
--- src/onward.rt:113:5
 marks-requires : tie.Need-marks-requires
-marks-requires c κs = ?
+marks-requires c κs =
+    let start = c .before .before .before .before .before .before .before .before .before .before .before in
+    let whole = start .pre .1 in (
+      search needs,
+      mark-fits _ _ whole (omega (arith, whole .order, whole .within, whole .lent)),
+      mark-fits _ _ whole (packet-within _ (start .args .io .now) whole (start .args .first) _ (start .pre .3) (start .pre .2)),
+    )
 
--- src/onward.rt:114:5
 left-requires : tie.Need-left-requires
 left-requires c κs = search needs
 
--- src/onward.rt:115:5
 word-requires : tie.Need-word-requires
 word-requires c κs = search needs
 
--- src/onward.rt:100:1
 same-length : tie.Need-same-length
 same-length c = search needs
 
--- src/onward.rt:100:1
 same-length-2 : tie.Need-same-length-2
 same-length-2 c = search needs
 
--- src/onward.rt:100:1
 returns : tie.Need-returns
-returns c = ?
+returns c = search (ways, needs)
 
 pub take-on-spec : {M : Type 1} → statement M
 take-on-spec =

@@ -1,49 +1,36 @@
+use mathlib.Core.Path.{refl, _∙_}
 use borrow.Author.Needs.{needs}
+use Rattle.exported.proofs.Lending.{known-long}
+use Rattle.exported.proofs.Round.{keepable, rounds}
 use Rattle.exported.proofs.poll.go_round.Statement.{statement}
 use Rattle.exported.proofs.poll.go_round.Tie as tie
-use Rattle.exported.proofs.poll.go_round.Reads as reads
-use Rattle.exported.proofs.poll.go_round.Lts as lts
-use Rattle.bbb.proofs.go_on.Reads as go-on-reads
-use Rattle.bbb.proofs.open.open.Reads as open-reads
-use Rattle.exported.proofs.poll.keep.Reads as keep-reads
-use Rattle.exported.proofs.poll.keep_wrapper.Reads as keep-wrapper-reads
-use Rattle.exported.proofs.poll.told.Reads as told-reads
 
--- src/poll.rt:100:9
 open-requires : tie.Need-open-requires
 open-requires c κs = search needs
 
--- src/poll.rt:101:5
 keep-wrapper-requires : tie.Need-keep-wrapper-requires
-keep-wrapper-requires c κs = ?
+keep-wrapper-requires c κs = (known-long _ refl (c .before .before .before .before .before .before .before .before .before .before .before .pre .0), c .before .before .before .before .«open» .ensures .sound, c .before .before .before .before .«open» .ensures .front)
 
--- src/poll.rt:102:9
 go-on-requires : tie.Need-go-on-requires
 go-on-requires c κs = search needs
 
--- src/poll.rt:104:5
 keep-requires : tie.Need-keep-requires
-keep-requires c κs = ?
+keep-requires c κs = (c .before .before .before .before .before .before .before .before .before .before .before .keep-wrapper .kept .0 ∙ known-long _ refl (c .before .before .before .before .before .before .before .before .before .before .before .before .before .before .before .before .before .before .before .before .before .before .before .pre .0), keepable _ _ _ (c .before .before .before .before .before .before .before .before .before .before .before .before .before .before .before .before .before .before .before .before .before .before .before .pre .0) (c .before .before .before .before .before .before .before .before .before .before .before .before .before .before .before .before .before .before .before .before .before .before .before .pre .1) (c .before .before .before .before .before .before .before .before .before .before .before .before .before .before .before .before .before .before .before .before .before .before .before .pre .2) (c .before .before .before .before .before .before .before .before .before .before .before .before .before .before .before .before .before .before .before .before .before .before .before .pre .3) _ _ (c .before .before .before .before .before .before .before .before .before .before .before .before .before .before .before .before .«open» .ensures) _ (c .before .before .before .before .before .before .go-on .ensures))
 
--- src/poll.rt:105:5
 told-requires : tie.Need-told-requires
-told-requires c κs = ?
+told-requires c κs = keepable _ _ _ (c .before .before .before .before .before .before .before .before .before .before .before .before .before .before .before .before .before .before .before .before .before .before .before .before .before .before .pre .0) (c .before .before .before .before .before .before .before .before .before .before .before .before .before .before .before .before .before .before .before .before .before .before .before .before .before .before .pre .1) (c .before .before .before .before .before .before .before .before .before .before .before .before .before .before .before .before .before .before .before .before .before .before .before .before .before .before .pre .2) (c .before .before .before .before .before .before .before .before .before .before .before .before .before .before .before .before .before .before .before .before .before .before .before .before .before .before .pre .3) _ _ (c .before .before .before .before .before .before .before .before .before .before .before .before .before .before .before .before .before .before .before .«open» .ensures) _ (c .before .before .before .before .before .before .before .before .before .go-on .ensures) .sent
 
--- src/poll.rt:88:1
 same-length : tie.Need-same-length
 same-length c = search needs
 
--- src/poll.rt:88:1
 same-length-2 : tie.Need-same-length-2
 same-length-2 c = search needs
 
--- src/poll.rt:88:1
 same-length-3 : tie.Need-same-length-3
 same-length-3 c = search needs
 
--- src/poll.rt:88:1
 returns : tie.Need-returns
-returns c = ?
+returns c = rounds _ _ _ (c .before .before .before .before .before .before .before .before .before .before .before .before .before .before .before .before .before .before .before .before .before .before .before .before .before .before .before .pre .0) (c .before .before .before .before .before .before .before .before .before .before .before .before .before .before .before .before .before .before .before .before .before .before .before .before .before .before .before .pre .1) (c .before .before .before .before .before .before .before .before .before .before .before .before .before .before .before .before .before .before .before .before .before .before .before .before .before .before .before .pre .2) (c .before .before .before .before .before .before .before .before .before .before .before .before .before .before .before .before .before .before .before .before .before .before .before .before .before .before .before .pre .3) _ _ (c .before .before .before .before .before .before .before .before .before .before .before .before .before .before .before .before .before .before .before .before .«open» .ensures) _ (c .before .before .before .before .before .before .before .before .before .before .go-on .ensures) (c .before .before .before .before .before .before .before .before .before .before .before .before .before .before .before .keep-wrapper .ensures) (c .before .before .before .keep .ensures) (c .told .ensures)
 
 pub go-round-spec : {M : Type 1} → statement M
 go-round-spec =

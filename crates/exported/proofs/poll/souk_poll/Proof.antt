@@ -1,121 +1,91 @@
+use mathlib.Core.Path.{sym, _∙_}
+use native.Mathlib.Omega.{arith}
 use borrow.Author.Needs.{needs}
+use Rattle.fields.proofs.Bools.{not-false}
+use Rattle.exported.proofs.Lending.{known-long}
+use Rattle.exported.proofs.Round.{known-there, whole-there, fits-there, poll-unknown, poll-broken, poll-refused, poll-sends, poll-takes}
 use Rattle.exported.proofs.poll.souk_poll.Statement.{statement}
 use Rattle.exported.proofs.poll.souk_poll.Tie as tie
-use Rattle.exported.proofs.poll.souk_poll.Reads as reads
-use Rattle.exported.proofs.poll.souk_poll.Lts as lts
-use Rattle.bbb.proofs.fits.Reads as fits-reads
-use Rattle.device.proofs.whole.Reads as whole-reads
-use Rattle.exported.proofs.onward.send_on.Reads as send-on-reads
-use Rattle.exported.proofs.onward.sends_on.Reads as sends-on-reads
-use Rattle.exported.proofs.onward.take_on.Reads as take-on-reads
-use Rattle.exported.proofs.onward.takes_on.Reads as takes-on-reads
-use Rattle.exported.proofs.poll.go_round.Reads as go-round-reads
-use Rattle.recordbytes.proofs.known.Reads as known-reads
-use Rattle.recordbytes.proofs.numbers_at.Reads as numbers-at-reads
 
--- src/poll.rt:121:9
 known-requires : tie.Need-known-requires
 known-requires c κs = search needs
 
--- src/poll.rt:122:9
 same-length : tie.Need-same-length
 same-length c = search needs
 
--- src/poll.rt:122:9
 returns : tie.Need-returns
-returns c = ?
+returns c = poll-unknown _ _ _ (c .before .known .ensures) (c .if1 .taken)
 
--- src/poll.rt:124:9
 numbers-at-requires : tie.Need-numbers-at-requires
-numbers-at-requires c κs = ?
+numbers-at-requires c κs = known-long _ (c .before .before .known .ensures) (not-false _ (c .before .if1 .left))
 
--- src/poll.rt:125:9
 whole-requires : tie.Need-whole-requires
 whole-requires c κs = search needs
 
--- src/poll.rt:126:9
 same-length-2 : tie.Need-same-length-2
 same-length-2 c = search needs
 
--- src/poll.rt:126:9
 returns-2 : tie.Need-returns-2
-returns-2 c = ?
+returns-2 c = poll-broken _ _ _ (c .before .before .before .before .before .known .ensures) (c .before .before .before .before .if1 .left) (c .before .before .numbers-at .ensures) (c .before .whole .ensures) (c .if2 .taken)
 
--- src/poll.rt:128:9
 fits-requires : tie.Need-fits-requires
 fits-requires c κs = search needs
 
--- src/poll.rt:129:9
 same-length-3 : tie.Need-same-length-3
 same-length-3 c = search needs
 
--- src/poll.rt:129:9
 returns-3 : tie.Need-returns-3
-returns-3 c = ?
+returns-3 c = poll-refused _ _ _ (c .before .before .before .before .before .before .before .known .ensures) (c .before .before .before .before .before .before .if1 .left) (c .before .before .before .before .numbers-at .ensures) (c .before .before .before .whole .ensures) (c .before .before .if2 .left) (c .before .fits2 .ensures) (c .if3 .taken)
 
--- src/poll.rt:131:8
 sends-on-requires : tie.Need-sends-on-requires
-sends-on-requires c κs = ?
+sends-on-requires c κs = whole-there _ _ (c .before .before .before .whole .ensures) (c .before .before .if2 .left) .order
 
--- src/poll.rt:132:9
 send-on-requires : tie.Need-send-on-requires
-send-on-requires c κs = ?
+send-on-requires c κs = (known-long _ (c .before .before .before .before .before .before .before .before .before .before .before .before .known .ensures) (not-false _ (c .before .before .before .before .before .before .before .before .before .before .before .if1 .left)), whole-there _ _ (c .before .before .before .before .before .before .before .before .whole .ensures) (c .before .before .before .before .before .before .before .if2 .left), fits-there _ (c .before .before .before .before .before .before .before .before .before .before .before .before .before .before .before .before .before .before .before .args .packet .now) (c .before .before .before .before .before .before .before .before .before .before .before .before .before .before .before .before .before .before .before .args .one .now) (c .before .before .before .before .before .before .before .before .before .before .before .before .before .before .before .before .before .before .before .args .two .now) (c .before .before .before .before .before .before .fits2 .ensures) (c .before .before .before .before .before .if3 .left) .into)
 
--- src/poll.rt:132:9
 same-length-4 : tie.Need-same-length-4
 same-length-4 c = search needs
 
--- src/poll.rt:132:9
 same-length-5 : tie.Need-same-length-5
 same-length-5 c = search needs
 
--- src/poll.rt:132:9
 same-length-6 : tie.Need-same-length-6
 same-length-6 c = search needs
 
--- src/poll.rt:132:9
 returns-4 : tie.Need-returns-4
-returns-4 c = ?
+returns-4 c = poll-sends _ _ _ (c .before .before .before .before .before .before .before .before .before .before .before .before .before .before .before .before .before .known .ensures) (c .before .before .before .before .before .before .before .before .before .before .before .before .before .before .before .before .if1 .left) (c .before .before .before .before .before .before .before .before .before .before .before .before .before .before .numbers-at .ensures) (c .before .before .before .before .before .before .before .before .before .before .before .before .before .whole .ensures) (c .before .before .before .before .before .before .before .before .before .before .before .before .if2 .left) (c .before .before .before .before .before .before .before .before .before .before .before .fits2 .ensures) (c .before .before .before .before .before .before .before .before .before .before .if3 .left) (c .before .before .before .before .before .before .before .before .before .sends-on .ensures) (c .before .before .before .before .before .before .before .before .if4 .taken) (c .before .before .before .before .send-on .ensures)
 
--- src/poll.rt:134:8
 takes-on-requires : tie.Need-takes-on-requires
-takes-on-requires c κs = ?
+takes-on-requires c κs =
+    let whole = whole-there _ _ (c .before .before .before .before .before .whole .ensures) (c .before .before .before .before .if2 .left) in
+    omega (arith, whole .within, whole .lent)
 
--- src/poll.rt:135:9
 take-on-requires : tie.Need-take-on-requires
-take-on-requires c κs = ?
+take-on-requires c κs = (known-long _ (c .before .before .before .before .before .before .before .before .before .before .before .before .before .known .ensures) (not-false _ (c .before .before .before .before .before .before .before .before .before .before .before .before .if1 .left)), whole-there _ _ (c .before .before .before .before .before .before .before .before .before .whole .ensures) (c .before .before .before .before .before .before .before .before .if2 .left), fits-there _ (c .before .before .before .before .before .before .before .before .before .before .before .before .before .before .before .before .before .before .before .before .args .packet .now) (c .before .before .before .before .before .before .before .before .before .before .before .before .before .before .before .before .before .before .before .before .args .one .now) (c .before .before .before .before .before .before .before .before .before .before .before .before .before .before .before .before .before .before .before .before .args .two .now) (c .before .before .before .before .before .before .before .fits2 .ensures) (c .before .before .before .before .before .before .if3 .left) .first, sym (c .before .before .before .takes-on .ensures) ∙ c .before .before .if5 .taken)
 
--- src/poll.rt:135:9
 same-length-7 : tie.Need-same-length-7
 same-length-7 c = search needs
 
--- src/poll.rt:135:9
 same-length-8 : tie.Need-same-length-8
 same-length-8 c = search needs
 
--- src/poll.rt:135:9
 returns-5 : tie.Need-returns-5
-returns-5 c = ?
+returns-5 c = poll-takes _ _ _ (c .before .before .before .before .before .before .before .before .before .before .before .before .before .before .before .before .before .before .known .ensures) (c .before .before .before .before .before .before .before .before .before .before .before .before .before .before .before .before .before .if1 .left) (c .before .before .before .before .before .before .before .before .before .before .before .before .before .before .before .numbers-at .ensures) (c .before .before .before .before .before .before .before .before .before .before .before .before .before .before .whole .ensures) (c .before .before .before .before .before .before .before .before .before .before .before .before .before .if2 .left) (c .before .before .before .before .before .before .before .before .before .before .before .before .fits2 .ensures) (c .before .before .before .before .before .before .before .before .before .before .before .if3 .left) (c .before .before .before .before .before .before .before .before .takes-on .ensures) (c .before .before .before .before .before .before .before .if5 .taken) (c .before .before .before .before .take-on .ensures)
 
--- src/poll.rt:137:5
 go-round-requires : tie.Need-go-round-requires
-go-round-requires c κs = ?
+go-round-requires c κs = (known-there _ (c .before .before .before .before .before .before .before .before .before .before .before .before .before .before .known .ensures) (c .before .before .before .before .before .before .before .before .before .before .before .before .before .if1 .left), c .before .before .before .before .before .before .before .before .before .before .before .numbers-at .ensures, whole-there _ _ (c .before .before .before .before .before .before .before .before .before .before .whole .ensures) (c .before .before .before .before .before .before .before .before .before .if2 .left), fits-there _ _ _ _ (c .before .before .before .before .before .before .before .before .fits2 .ensures) (c .before .before .before .before .before .before .before .if3 .left))
 
--- src/poll.rt:108:1
 same-length-9 : tie.Need-same-length-9
 same-length-9 c = search needs
 
--- src/poll.rt:108:1
 same-length-10 : tie.Need-same-length-10
 same-length-10 c = search needs
 
--- src/poll.rt:108:1
 same-length-11 : tie.Need-same-length-11
 same-length-11 c = search needs
 
--- src/poll.rt:108:1
 returns-6 : tie.Need-returns-6
-returns-6 c = search needs
+returns-6 c = c .before .before .before .before .before .before .go-round .ensures
 
 pub souk-poll-spec : {M : Type 1} → statement M
 souk-poll-spec =
