@@ -2,20 +2,19 @@
 --     send-rule, take-rule    what such a poll comes to, by 01's rules of 4 and 6, and of 7
 --     ways                    what each way through the functions that look for them owes
 -- Assumes nothing.
-use mathlib.Core.Path.{_≡_, refl, sym, ap, _∙_, subst}
-use mathlib.Core.Bool.{Bool, true, false, not, cond, _&&_, _||_}
+use mathlib.Core.Path.{_≡_, refl, sym, ap, _∙_}
+use mathlib.Core.Bool.{Bool, true, false, not, _&&_}
 use mathlib.Core.List.{List}
-use Prim.Native.Nat.{ℕ, _+_, _-_, _^_, _≤_, _<_, min, max}
+use Prim.Native.Nat.{ℕ, _+_, _-_, _^_, _≤_, _<_, min}
 use native.Mathlib.Nat.{min-le-left, min-le-right, max-eq-left}
 use native.Mathlib.Omega.{arith}
 use lib.Dec.{eqb, leb, ltb}
 use lib.ListN.{length}
-use borrow.Table.Steps.{cases}
 use borrow.Author.Tests.{eq-eqb, ne-eqb, eqb-true, eqb-false, leb-true, le-ltb}
 use Rattle.fields.specs.Overlay.{overlay}
 use Rattle.fields.proofs.Bools.{and-left, and-right, not-true, not-false, clash}
 use Rattle.buffer.specs.declared.Marks.{Marks}
-use Rattle.buffer.specs.Buffer.{Buffer, Sound, Leaves, buffer, at, unread, room, withRoom, appended, lacksRoom, writtenAll, ready, given, readOff}
+use Rattle.buffer.specs.Buffer.{Buffer, Leaves, buffer, at, unread, room, withRoom, appended, lacksRoom, writtenAll, ready, given, readOff}
 use Rattle.answers.specs.declared.Endpoint.the-variants.{Served}
 use Rattle.answers.specs.declared.Stalls.the-variants.{Kept}
 use Rattle.answers.specs.Answers.{no, endpointOf}
@@ -25,16 +24,15 @@ use Rattle.ring.specs.declared.State.the-variants.{DataTransferToHost, DataTran
 use Rattle.ring.specs.States.{stateNumber}
 use Rattle.wrapper.specs.declared.counters.Left.{Left}
 use Rattle.wrapper.specs.Counters.{fallen}
-use Rattle.packets.specs.Packets.{handed, readTold, takesOne, brought, received, accepted, sendTold, sentCount, sentOff, sentInto, filledUp}
+use Rattle.packets.specs.Packets.{handed, readTold, takesOne, brought, received, accepted, sentCount, sentOff, sentInto}
 use Rattle.packets.proofs.Laws.{fills-none, told-served}
 use Rattle.device.specs.declared.Device.{Device}
 use Rattle.device.specs.declared.Numbers.{Numbers}
 use Rattle.device.specs.Device.{isPresent, numbersOf, inState, withMarks, withLeft}
 use Rattle.device.specs.Broken.{Whole}
 use Rattle.device.proofs.Wholly.{whole-sound, size-most, packet-known, packet-bounds}
-use Rattle.bbb.specs.Poll.{Given, Polling, Fits, Point, point, sendData, dataBy, takeData, takeBy, offers, offeredBy, toHostEndingRule, toHostRule, fromHostRule, ruleIn, pollRule, pollCall}
+use Rattle.bbb.specs.Poll.{Given, Polling, Fits, point, sendData, dataBy, takeData, takeBy, offers, offeredBy, toHostEndingRule, toHostRule, fromHostRule, ruleIn, pollRule, pollCall}
 use Rattle.bbb.proofs.Keeping.{call-done}
-use Rattle.recordbytes.specs.Layout.{recordSize}
 use Rattle.recordbytes.specs.Record.{storeState, storeMarks, storeLeft}
 use Rattle.exported.specs.Word.{word}
 use Rattle.exported.specs.Onward.{due, sendsIn, sendsOn, bufferOf, SendsOn, takesOn, TakesOn}

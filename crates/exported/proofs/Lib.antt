@@ -1,8 +1,12 @@
 -- proofs.Lending    the record that a call is lent: whether it holds a device, and what a call with one that is broken owes
 -- proofs.Going      polls in the midst of a transfer
 -- proofs.Round      a poll through the whole ring
--- proofs.Ways       what each way through a call owes
+-- proofs.Ways       what each way through the other calls owes
+-- proofs.Parts      a result tells each of its parts
+-- proofs.Unique     no second answer satisfies a promise
 pub mod Lending
 pub mod Going
 pub mod Round
 pub mod Ways
+pub mod Parts
+pub mod Unique

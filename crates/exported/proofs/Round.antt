@@ -2,17 +2,14 @@
 use mathlib.Core.Path.{_≡_, refl, sym, ap, _∙_, subst}
 use mathlib.Core.Bool.{Bool, true, false, not, cond}
 use mathlib.Core.List.{List}
-use Prim.Native.Nat.{ℕ, _-_, _^_, _≤_, _<_}
+use Prim.Native.Nat.{ℕ, _-_, _≤_}
 use native.Mathlib.Omega.{arith}
-use lib.Dec.{eqb}
 use lib.ListN.{length, take, drop}
-use borrow.Table.Steps.{cases}
 use borrow.Author.Tests.{le-leb}
 use Rattle.fields.specs.Field.{bytesAt}
 use Rattle.fields.proofs.Bools.{not-true, not-false}
 use Rattle.fields.proofs.Seq.{length-part}
 use Rattle.buffer.specs.declared.Marks.{Marks}
-use Rattle.buffer.specs.Buffer.{Sound, buffer}
 use Rattle.ring.specs.declared.State.{State}
 use Rattle.wrapper.specs.declared.counters.Left.{Left}
 use Rattle.answers.specs.declared.Outcome.{Outcome}
@@ -20,7 +17,7 @@ use Rattle.answers.specs.declared.Stalls.{Stalls}
 use Rattle.answers.specs.Answers.{number, told, endpointOf}
 use Rattle.wrapper.specs.declared.Head.{Head}
 use Rattle.wrapper.specs.declared.Wrapper.{Wrapper}
-use Rattle.wrapper.specs.Wrapper.{CBWCB, wrapperOf, headOf}
+use Rattle.wrapper.specs.Wrapper.{wrapperOf, headOf}
 use Rattle.device.specs.declared.Device.{Device}
 use Rattle.device.specs.declared.Numbers.{Numbers}
 use Rattle.device.specs.declared.Status.the-variants.{Absent}
@@ -28,8 +25,6 @@ use Rattle.device.specs.Device.{numbersOf}
 use Rattle.device.specs.Broken.{Whole, isWhole}
 use Rattle.device.proofs.Wholly.{tested, whole-is, size-most, packet-known, packet-bounds}
 use Rattle.bbb.specs.declared.Change.{Change}
-use Rattle.bbb.specs.declared.Polled.{Polled}
-use Rattle.bbb.specs.declared.Report.{Report}
 use Rattle.bbb.specs.declared.open.Opened.{Opened}
 use Rattle.bbb.specs.Poll.{Given, Polling, Fits, isFitting, refusing, pollingOf, pollCall}
 use Rattle.bbb.specs.Phases.{openOf, isValidFound, InFront, Opens, opened, openedIo, justRead, wrapperThen, endedOf, goneOn, changedBy}
@@ -40,7 +35,7 @@ use Rattle.recordbytes.proofs.Stored.{Known, is-known}
 use Rattle.recordbytes.proofs.Parts.{device-kept, polled, moved-to, moved-within, parsed}
 use Rattle.exported.specs.Word.{word, plain, stallsNumber}
 use Rattle.exported.specs.Record.{onDevice}
-use Rattle.exported.specs.Onward.{bufferOf, sendsOn, SendsOn, takesOn, TakesOn}
+use Rattle.exported.specs.Onward.{sendsOn, SendsOn, takesOn, TakesOn}
 use Rattle.exported.specs.Calls.{Keepable, keptChange, polls, pollOn}
 use Rattle.exported.specs.Calls as spec
 use Rattle.exported.proofs.Lending.{made}

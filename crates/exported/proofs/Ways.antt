@@ -1,12 +1,11 @@
 -- What each way through a call owes (`ways`): the call by value was made on the device that the bytes hold, and the parts that it changes
 -- were stored. Assumes nothing.
 use mathlib.Core.Path.{_≡_, refl, sym, ap, _∙_, subst}
-use mathlib.Core.Bool.{Bool, true, false, not, cond}
-use mathlib.Core.List.{List, [], _∷_}
-use Prim.Native.Nat.{ℕ, _%_, _^_, _<_, _≤_}
+use mathlib.Core.Bool.{Bool, true, false, not}
+use mathlib.Core.List.{List, []}
+use Prim.Native.Nat.{ℕ, _%_, _≤_}
 use native.Mathlib.Nat.{mod-eq-of-lt}
 use native.Mathlib.Omega.{arith}
-use lib.Dec.{eqb}
 use lib.ListN.{length, getD}
 use borrow.Author.Tests.{eq-eqb, ne-eqb}
 use Rattle.fields.specs.Overlay.{overlay}
@@ -14,7 +13,6 @@ use Rattle.fields.proofs.Bools.{of-picked}
 use Rattle.fields.proofs.Overlay.{overlay-whole}
 use Rattle.answers.specs.declared.Stalls.the-variants.{Kept}
 use Rattle.answers.specs.Answers.{number}
-use Rattle.buffer.specs.declared.Marks.{Marks}
 use Rattle.device.specs.declared.Device.{Device}
 use Rattle.device.specs.Device.{numbersOf, inState, withMarks, withStatus, withLeft}
 use Rattle.device.specs.Broken.{Whole}
@@ -29,7 +27,7 @@ use Rattle.calls.specs.declared.Reply.{Reply}
 use Rattle.calls.specs.declared.Reply.the-variants.{Nothing, MaxLun}
 use Rattle.calls.specs.declared.Request.{Request}
 use Rattle.calls.specs.declared.Handled.{Handled}
-use Rattle.calls.specs.Bus.{Handling, handling, replied, handledOf, entering, served, resetCall, controlCall}
+use Rattle.calls.specs.Bus.{Handling, handling, replied, handledOf, entering, resetCall, controlCall}
 use Rattle.calls.specs.declared.command.Shown as command
 use Rattle.calls.specs.declared.command.Offer.the-variants.{Command}
 use Rattle.calls.specs.declared.command.Offer.the-variants.{Nothing as None}
@@ -40,7 +38,7 @@ use Rattle.codechost.specs.Decode.{numbers}
 use Rattle.device.specs.declared.create.Created.{Created}
 use Rattle.device.specs.Create.{creation, Creation, createdOf, createCall}
 use Rattle.calls.proofs.After.{by-request, stops, status-keeps, read-keeps, read-whole, read-within, write-keeps, write-whole, write-within, write-all-keeps, write-all-whole, write-all-within}
-use Rattle.recordbytes.specs.Record.{isKnown, deviceAt, storeState, storeMarks, storeLeft, storeStatus, storeDevice, newRecord}
+use Rattle.recordbytes.specs.Record.{deviceAt, storeState, storeMarks, storeLeft, storeStatus, storeDevice, newRecord}
 use Rattle.recordbytes.proofs.Stored.{Known}
 use Rattle.recordbytes.proofs.Parts.{device-kept, status-alone, marks-alone, entered}
 use Rattle.exported.specs.Word.{word, plain, stallsNumber}

@@ -1,11 +1,11 @@
 -- The command shown to the firmware, and the command step. Assumes nothing: these are definitions.
 use Prim.Native.Nat.{ℕ}
-use mathlib.Core.Bool.{Bool, cond}
+use mathlib.Core.Bool.{cond}
 use mathlib.Core.List.{List, [], _∷_}
 use lib.Dec.{eqb}
 use lib.ListN.{length}
 use Rattle.device.specs.declared.Device.{Device}
-use Rattle.calls.specs.Command.{Showing, commandCall, Offered, Stepping, stepCall}
+use Rattle.calls.specs.Command.{Showing, commandCall, Offered, stepCall}
 use Rattle.codechost.specs.Decode.{flagNumber, numbers}
 use Rattle.exported.specs.Word.{word, plain}
 use Rattle.exported.specs.Record.{onDevice}

@@ -3,8 +3,10 @@
 -- specs.Calls     what each call leaves of all that it was lent
 -- specs.Onward    polls in the midst of a transfer
 -- specs.Command   the command shown, and the command step
+-- specs.Cases     cases of the calls
 pub mod Word
 pub mod Record
 pub mod Calls
 pub mod Onward
 pub mod Command
+pub mod Cases

@@ -1,7 +1,6 @@
 -- A result of several parts in one number of 64 bits: bits 0 to 7 the answer, 8 to 15 the number carried or a LUN, 16 to 23 what is asked
 -- of both endpoints, 24 to 31 a flag or the OUT packets taken, 32 to 63 a count. Assumes nothing: these are definitions.
 use Prim.Native.Nat.{ℕ, _+_, _*_}
-use mathlib.Core.Bool.{Bool, true, false}
 use Rattle.answers.specs.declared.Stalls.{Stalls}
 use Rattle.answers.specs.declared.Stalls.the-variants.{Kept, Stalled, Unstalled, UnstalledStalled}
 

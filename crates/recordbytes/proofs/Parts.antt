@@ -7,7 +7,7 @@
 --     moved-to, moved-within       state, marks and left changed; marks and left
 --     parsed                       the wrapper, state, marks and left changed
 -- Assumes nothing.
-use mathlib.Core.Path.{_≡_, refl, sym, ap, _∙_}
+use mathlib.Core.Path.{_≡_, refl, ap, _∙_}
 use mathlib.Core.Bool.{true}
 use mathlib.Core.List.{List, [], _∷_, _++_}
 use Prim.Native.Nat.{ℕ, _+_, _≤_}
@@ -23,14 +23,13 @@ use Rattle.wrapper.specs.declared.Wrapper.{Wrapper}
 use Rattle.wrapper.specs.declared.counters.Left.{Left}
 use Rattle.wrapper.specs.Status.{statusNumber}
 use Rattle.wrapper.specs.Wrapper.{directionNumber}
-use Rattle.device.specs.declared.Device.{Device}
 use Rattle.device.specs.declared.Status.{Status}
 use Rattle.device.specs.declared.Status.the-variants.{Absent, Present}
 use Rattle.device.specs.Device.{inState, withMarks, withStatus, withWrapper, withLeft}
 use Rattle.recordbytes.specs.Layout as field
 use Rattle.recordbytes.specs.Record.{stateOf, statusAt, marksAt, wrapperAt, deviceAt, storeState, storeMarks, storeLeft, storeStatus, storeWrapper, storeDevice}
 use Rattle.recordbytes.proofs.Storing.{isApart}
-use Rattle.recordbytes.proofs.Stored.{Write, write, storeAll, areWithin, areApart, length-all, bytes-elsewhere, get-elsewhere, Known, state-kept, marks-kept, left-kept, status-kept, wrapper-kept}
+use Rattle.recordbytes.proofs.Stored.{Write, write, storeAll, areWithin, areApart, length-all, get-elsewhere, Known, state-kept, marks-kept, left-kept, status-kept, wrapper-kept}
 
 -- ---- behind numbers that stand elsewhere
 
@@ -57,12 +56,12 @@ module _ (r : List ℕ) (k : Known r) (ws : List Write) (within : areWithin 52 w
 -- ---- a call's parts
 
 -- the numbers of a status
-abbrev statusWrites : Status → List Write
+abbrev pub statusWrites : Status → List Write
 statusWrites Absent = write field.present 0 ∷ []
 statusWrites (Present byte residue) = write field.present 1 ∷ write field.residue (residue .0) ∷ write field.status (statusNumber byte) ∷ []
 
 -- the numbers of a wrapper; its block is laid over behind them
-abbrev wrapperWrites : Wrapper → List Write
+abbrev pub wrapperWrites : Wrapper → List Write
 wrapperWrites w =
     write field.direction (directionNumber (w .direction)) ∷ write field.lun (w .lun) ∷ write field.blockLength (w .blocklength)
     ∷ write field.tag (w .tag) ∷ write field.declared (w .length) ∷ []

@@ -1,26 +1,22 @@
 -- Many numbers stored, one after the other: what that leaves of every field. Assumes nothing.
 --     storeAll                    a list of fields and numbers, stored in its order
 --     length-all, bytes-elsewhere, get-elsewhere, get-there    the length; a field apart from all of them; the field of one of them
+--     is-known, known-is                                       what the test of a record tells, and what passes it
 --     state-kept, .., wrapper-kept                             a part of the device that stands there already changes nothing
 use mathlib.Core.Path.{_≡_, refl, sym, _∙_, subst}
-use mathlib.Core.Bool.{Bool, true, false, _&&_}
+use mathlib.Core.Bool.{Bool, true, _&&_}
 use mathlib.Core.List.{List, [], _∷_, _++_}
-use Prim.Native.Nat.{ℕ, zero, suc, _+_, _≤_}
+use Prim.Native.Nat.{ℕ, zero, suc, _+_, _^_, _≤_, _<_}
 use native.Mathlib.Omega.{arith}
 use lib.Dec.{eqb, leb}
 use lib.ListN.{length}
 use borrow.Table.Steps.{cases}
-use borrow.Author.Tests.{leb-true, eqb-true, eqb-false}
+use borrow.Author.Tests.{leb-true, eqb-true, eqb-false, eq-eqb, le-leb}
 use Rattle.fields.specs.Field.{Field, bytesAt, get}
-use Rattle.fields.specs.Overlay.{overlay}
 use Rattle.fields.proofs.Bools.{and-left, and-right}
 use Rattle.fields.proofs.Overlay.{overlay-own}
-use Rattle.ring.specs.declared.State.{State}
 use Rattle.ring.specs.States.{stateNumber}
-use Rattle.wrapper.specs.declared.DataDirection.{DataDirection}
-use Rattle.wrapper.specs.Status.{statusNumber}
 use Rattle.wrapper.specs.Wrapper.{directionNumber}
-use Rattle.calls.specs.Status.{statusOf}
 use Rattle.calls.proofs.After.{status-byte}
 use Rattle.recordbytes.specs.Layout as field
 use Rattle.recordbytes.specs.Record.{isKnown, stateOf, directionOf, statusBy, statusAt, marksAt, wrapperAt, store, storeState, storeMarks, storeLeft, storeStatus, storeWrapper}
@@ -71,6 +67,15 @@ module _ (n : ℕ) where
   unfolding get
   get-elsewhere g ws r e h a = rw (bytes-elsewhere g ws r e h a)
 
+  -- the field of one of them, where none behind it stands there too
+  pub get-there : (before : List Write) (f : Field) (x : ℕ) (after : List Write) (r : List ℕ) → length r ≡ n → areWithin n (before ++ (write f x ∷ after)) ≡ true
+      → areApart f after ≡ true → x < 256 ^ f .width → get f (storeAll (before ++ (write f x ∷ after)) r) ≡ x
+  get-there [] f x after r e h a b =
+      let fits = within n (write f x) after r e h in
+      get-elsewhere f after (store f x r) (length-store f x r fits ∙ e) (behind n (write f x) after h) a ∙ get-stored f x r fits b
+  get-there (w ∷ ws) f x after r e h a b =
+      get-there ws f x after (store (w .at) (w .number) r) (length-store (w .at) (w .number) r (within n w (ws ++ (write f x ∷ after)) r e h) ∙ e) (behind n w (ws ++ (write f x ∷ after)) h) a b
+
 -- ---- numbers and what they stand for
 
 -- a fact of every number up to k
@@ -116,6 +121,10 @@ is-known r h =
       status = leb-true _ _ (and-left d e behind-c);
       direction = leb-true _ _ (and-right d e behind-c);
     }
+
+pub known-is : (r : List ℕ) → Known r → isKnown r ≡ true
+unfolding isKnown
+known-is r k = rw (eq-eqb _ _ (k .long), le-leb _ _ (k .state), le-leb _ _ (k .flag), le-leb _ _ (k .status), le-leb _ _ (k .direction))
 
 -- ---- a part that stands there already
 

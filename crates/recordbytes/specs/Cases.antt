@@ -1,14 +1,72 @@
--- Cases. Assumes nothing.
+-- Cases: one table, and one statement, which antt computes. Assumes nothing.
 use mathlib.Core.Path.{refl}
-use mathlib.Core.Bool.{true}
+use mathlib.Core.Bool.{true, false}
 use mathlib.Core.List.{List, [], _∷_}
-use Rattle.fields.specs.Field.{tile}
+use Prim.Native.Nat.{ℕ}
+use lib.ListN.{take, replicate}
+use Rattle.fields.specs.Overlay.{overlay}
+use Rattle.fields.specs.Field.{bytesAt, counted, digits, ordered, get, put, tile}
 use Rattle.fields.specs.Case.{Case, case, AllHold}
+use Rattle.buffer.specs.Buffer.{at}
+use Rattle.ring.specs.declared.State.the-variants.{DataTransferNoData}
+use Rattle.wrapper.specs.declared.DataDirection.the-variants.{Out}
+use Rattle.wrapper.specs.declared.status.CommandStatus.the-variants.{Failed}
+use Rattle.device.specs.declared.Status.the-variants.{Absent, Present}
+use Rattle.calls.specs.Status.{statusOf}
 use Rattle.recordbytes.specs.Layout as field
+use Rattle.recordbytes.specs.Record.{isKnown, stateOf, directionOf, statusBy, statusAt, marksAt, wrapperAt, deviceAt, store, storeState, storeMarks, storeLeft, storeStatus, storeWrapper, storeDevice, newRecord}
+
+-- a record whose every byte is its own place, but for the numbers of state, flag, status and direction
+numbered : ℕ → ℕ → ℕ → ℕ → List ℕ
+numbered state flag status direction =
+    0 ∷ 1 ∷ state ∷ flag ∷ 4 ∷ 5 ∷ 6 ∷ 7 ∷ 8 ∷ 9 ∷ 10 ∷ 11 ∷ 12 ∷ 13 ∷ 14 ∷ 15 ∷ 16 ∷ 17 ∷ 18 ∷ 19 ∷ 20 ∷ 21 ∷ 22 ∷ 23
+    ∷ status ∷ direction ∷ 26 ∷ 27 ∷ 28 ∷ 29 ∷ 30 ∷ 31 ∷ 32 ∷ 33 ∷ 34 ∷ 35 ∷ 36 ∷ 37 ∷ 38 ∷ 39 ∷ 40 ∷ 41 ∷ 42 ∷ 43
+    ∷ 44 ∷ 45 ∷ 46 ∷ 47 ∷ 48 ∷ 49 ∷ 50 ∷ 51 ∷ []
 
 pub cases : List Case
-cases = case (tile 0 field.table 52) true ∷ []
+cases =
+    -- the fields stand one behind the other, without a gap
+    case (tile 0 field.table 52) true
+    -- the bytes of a new device with P 64, max LUN 3 and a buffer of 512
+    ∷ case (newRecord 64 3 512)
+    (64 ∷ 3 ∷ 0 ∷ 0 ∷ 0 ∷ 2 ∷ 0 ∷ 0 ∷ 0 ∷ 0 ∷ 0 ∷ 0 ∷ 0 ∷ 0 ∷ 0 ∷ 0 ∷ 0 ∷ 0 ∷ 0 ∷ 0 ∷ 0 ∷ 0 ∷ 0 ∷ 0 ∷ 0 ∷ 0
+    ∷ 0 ∷ 0 ∷ 0 ∷ 0 ∷ 0 ∷ 0 ∷ 0 ∷ 0 ∷ 0 ∷ 0 ∷ 0 ∷ 0 ∷ 0 ∷ 0 ∷ 0 ∷ 0 ∷ 0 ∷ 0 ∷ 0 ∷ 0 ∷ 0 ∷ 0 ∷ 0 ∷ 0 ∷ 0 ∷ 0 ∷ [])
+    -- every field of a record that has another number in each
+    ∷ case (deviceAt (numbered 2 1 1 2)) (record {
+      packetsize = 0;
+      maxlun = 1;
+      size = 0x07060504;
+      state = DataTransferNoData;
+      marks = at 0x0B0A0908 0x0F0E0D0C;
+      wrapper = record {
+        tag = 0x1F1E1D1C;
+        length = 0x23222120;
+        direction = Out;
+        lun = 26;
+        blocklength = 27;
+        block = 36 ∷ 37 ∷ 38 ∷ 39 ∷ 40 ∷ 41 ∷ 42 ∷ 43 ∷ 44 ∷ 45 ∷ 46 ∷ 47 ∷ 48 ∷ 49 ∷ 50 ∷ 51 ∷ [];
+      };
+      status = Present Failed (record { 0 = 0x17161514 });
+      left = record { 0 = 0x13121110 };
+    })
+    -- the same device, stored over a new one
+    ∷ case (storeDevice (deviceAt (numbered 2 1 1 2)) (newRecord 0 1 0x07060504)) (numbered 2 1 1 2)
+    -- the highest number of each, and one above; a byte less
+    ∷ case (isKnown (numbered 8 1 2 2)) true
+    ∷ case (isKnown (numbered 9 1 2 2)) false
+    ∷ case (isKnown (numbered 8 2 2 2)) false
+    ∷ case (isKnown (numbered 8 1 3 2)) false
+    ∷ case (isKnown (numbered 8 1 2 3)) false
+    ∷ case (isKnown (take 51 (numbered 8 1 2 2))) false
+    -- without a status the flag alone changes
+    ∷ case (storeStatus Absent (numbered 2 1 1 2)) (numbered 2 0 1 2)
+    ∷ case (statusAt (numbered 2 0 1 2)) Absent
+    -- a number that stands there changes nothing, another its four bytes
+    ∷ case (store field.tag 0x1F1E1D1C (numbered 2 1 1 2)) (numbered 2 1 1 2)
+    ∷ case (store field.left 0x04030201 (newRecord 64 3 512))
+    (64 ∷ 3 ∷ 0 ∷ 0 ∷ 0 ∷ 2 ∷ 0 ∷ 0 ∷ 0 ∷ 0 ∷ 0 ∷ 0 ∷ 0 ∷ 0 ∷ 0 ∷ 0 ∷ 1 ∷ 2 ∷ 3 ∷ 4 ∷ replicate 32 0)
+    ∷ []
 
 pub cases-hold : AllHold cases
-unfolding cases tile
+unfolding cases numbered overlay bytesAt counted digits ordered get put tile statusOf isKnown stateOf directionOf statusBy statusAt marksAt wrapperAt deviceAt store storeState storeMarks storeLeft storeWrapper storeDevice newRecord
 cases-hold = refl

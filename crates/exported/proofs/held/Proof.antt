@@ -1,3 +1,4 @@
+-- `exported::held` meets its contract: no record, or its numbers are tested over the length. Assumes nothing.
 use Rattle.exported.proofs.Ways.{ways}
 use borrow.Author.Needs.{needs}
 use Rattle.exported.proofs.held.Statement.{statement}

@@ -1,3 +1,4 @@
+-- `recordbytes::command_status_of` meets its contract: one number for each arm, and the last for the rest. Assumes nothing.
 use Rattle.calls.specs.Status.{statusOf}
 use Rattle.recordbytes.proofs.Reading.{the-last-status}
 use Rattle.recordbytes.proofs.command_status_of.Statement.{statement}

@@ -1,3 +1,4 @@
+-- `recordbytes::direction_of` meets its contract: one number for each arm, and the last for the rest. Assumes nothing.
 use Rattle.recordbytes.specs.Record.{directionOf}
 use Rattle.recordbytes.proofs.Reading.{the-last-direction}
 use Rattle.recordbytes.proofs.direction_of.Statement.{statement}

@@ -1,3 +1,4 @@
+-- `recordbytes::state_of` meets its contract: one number for each arm, and the last for the rest. Assumes nothing.
 use Rattle.recordbytes.specs.Record.{stateOf}
 use Rattle.recordbytes.proofs.Reading.{the-last-state}
 use Rattle.recordbytes.proofs.state_of.Statement.{statement}

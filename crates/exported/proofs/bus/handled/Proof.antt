@@ -1,3 +1,4 @@
+-- `exported::bus::handled` meets its contract: three parts stored in order, the rest in one number. Assumes nothing.
 use Rattle.exported.proofs.Ways.{ways}
 use borrow.Author.Needs.{needs}
 use Rattle.exported.proofs.bus.handled.Statement.{statement}

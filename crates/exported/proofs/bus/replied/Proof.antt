@@ -1,3 +1,4 @@
+-- `exported::bus::replied` meets its contract: no byte, or max LUN as the count with flag 1. Assumes nothing.
 use Rattle.exported.proofs.Ways.{ways}
 use borrow.Author.Needs.{needs}
 use Rattle.exported.proofs.bus.replied.Statement.{statement}

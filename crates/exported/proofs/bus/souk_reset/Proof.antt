@@ -1,3 +1,4 @@
+-- `exported::bus::souk_reset` meets its contract: refused, or the call by value on what the bytes hold; status, state and left alone changed. Assumes nothing.
 use Rattle.exported.proofs.Ways.{ways}
 use borrow.Author.Needs.{needs}
 use Rattle.exported.proofs.bus.souk_reset.Statement.{statement}

@@ -1,3 +1,4 @@
+-- `exported::command::offer` meets its contract: the command in its six numbers, or nothing. Assumes nothing.
 use Rattle.exported.proofs.Ways.{ways}
 use borrow.Author.Needs.{needs}
 use Rattle.exported.proofs.command.offer.Statement.{statement}

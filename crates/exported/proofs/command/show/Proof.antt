@@ -1,3 +1,4 @@
+-- `exported::command::show` meets its contract: the block laid over all 16 bytes, or nothing. Assumes nothing.
 use Rattle.exported.proofs.Ways.{ways}
 use native.Mathlib.Omega.{arith}
 use borrow.Author.Needs.{needs}

@@ -1,3 +1,4 @@
+-- `exported::command::souk_command_step` meets its contract: other than six numbers lent, refused, or the call by value on what the bytes hold. Assumes nothing.
 use borrow.Author.Needs.{needs}
 use Rattle.exported.proofs.Ways.{ways}
 use Rattle.exported.proofs.command.souk_command_step.Statement.{statement}

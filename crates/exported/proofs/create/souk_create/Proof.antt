@@ -1,3 +1,4 @@
+-- `exported::create::souk_create` meets its contract: 01's refusal, no 52 bytes, or a new record; P is a byte. Assumes nothing.
 use Rattle.exported.proofs.Ways.{ways}
 use borrow.Author.Needs.{needs}
 use Rattle.exported.proofs.create.souk_create.Statement.{statement}

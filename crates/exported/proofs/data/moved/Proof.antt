@@ -1,3 +1,4 @@
+-- `exported::data::moved` meets its contract: the marks stored, answer and count in one number. Assumes nothing.
 use Rattle.exported.proofs.Ways.{ways}
 use borrow.Author.Needs.{needs}
 use Rattle.exported.proofs.data.moved.Statement.{statement}

@@ -1,3 +1,4 @@
+-- `exported::data::souk_try_write_data_all` meets its contract: refused, or the call by value on what the bytes hold; marks and count fit into 32 bits. Assumes nothing.
 use Rattle.exported.proofs.Ways.{write-all-fits, ways}
 use borrow.Author.Needs.{needs}
 use Rattle.exported.proofs.data.souk_try_write_data_all.Statement.{statement}

@@ -1,3 +1,4 @@
+-- `exported::onward::send_on` meets its contract: what was read goes into the packet buffer, marks and left into the record. Assumes nothing.
 use Rattle.exported.proofs.Going.{mark-fits, sent-fits, ways}
 use native.Mathlib.Omega.{arith}
 use borrow.Author.Needs.{needs}

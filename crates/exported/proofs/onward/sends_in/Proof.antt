@@ -1,3 +1,4 @@
+-- `exported::onward::sends_in` meets its contract: 6, or 4. Assumes nothing.
 use borrow.Author.Needs.{needs}
 use Rattle.exported.proofs.Going.{ways}
 use Rattle.exported.proofs.onward.sends_in.Statement.{statement}

@@ -1,3 +1,4 @@
+-- `exported::onward::sends_on` meets its contract: each test in turn. Assumes nothing.
 use Rattle.exported.proofs.Going.{ways}
 use borrow.Author.Needs.{needs}
 use Rattle.exported.proofs.onward.sends_on.Statement.{statement}

@@ -1,3 +1,4 @@
+-- `exported::onward::take_on` meets its contract: the packet goes behind the write mark, marks and left into the record. Assumes nothing.
 use Rattle.exported.proofs.Going.{mark-fits, packet-within, ways}
 use native.Mathlib.Omega.{arith}
 use borrow.Author.Needs.{needs}

@@ -1,3 +1,4 @@
+-- `exported::onward::takes_on` meets its contract: each test in turn. Assumes nothing.
 use Rattle.exported.proofs.Going.{ways}
 use borrow.Author.Needs.{needs}
 use Rattle.exported.proofs.onward.takes_on.Statement.{statement}

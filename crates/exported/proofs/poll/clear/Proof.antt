@@ -1,3 +1,4 @@
+-- `exported::poll::clear` meets its contract: the status goes, or stays. Assumes nothing.
 use Rattle.exported.proofs.Round.{ways}
 use borrow.Author.Needs.{needs}
 use Rattle.exported.proofs.poll.clear.Statement.{statement}

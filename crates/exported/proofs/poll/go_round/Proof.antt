@@ -1,3 +1,4 @@
+-- `exported::poll::go_round` meets its contract: what opening, the ring and the stores leave is what 01 says. Assumes nothing.
 use mathlib.Core.Path.{refl, _∙_}
 use borrow.Author.Needs.{needs}
 use Rattle.exported.proofs.Lending.{known-long}

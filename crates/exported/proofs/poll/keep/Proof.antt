@@ -1,3 +1,4 @@
+-- `exported::poll::keep` meets its contract: the parts of a change, stored in turn. Assumes nothing.
 use Rattle.exported.proofs.Round.{ways}
 use borrow.Author.Needs.{needs}
 use Rattle.exported.proofs.poll.keep.Statement.{statement}

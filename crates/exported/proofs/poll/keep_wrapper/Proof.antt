@@ -1,3 +1,4 @@
+-- `exported::poll::keep_wrapper` meets its contract: the wrapper in front of the read mark, or none. Assumes nothing.
 use Rattle.exported.proofs.Round.{ways}
 use Rattle.bbb.proofs.Polling.{found-31, found-part}
 use native.Mathlib.Omega.{arith}

@@ -1,3 +1,4 @@
+-- `exported::poll::souk_poll` meets its contract: 10, 11, a packet in the midst of a transfer, or a whole round. Assumes nothing.
 use mathlib.Core.Path.{sym, _∙_}
 use native.Mathlib.Omega.{arith}
 use borrow.Author.Needs.{needs}

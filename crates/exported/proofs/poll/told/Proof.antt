@@ -1,3 +1,4 @@
+-- `exported::poll::told` meets its contract: the parts of a report in one number. Assumes nothing.
 use Rattle.exported.proofs.Round.{ways}
 use borrow.Author.Needs.{needs}
 use Rattle.exported.proofs.poll.told.Statement.{statement}

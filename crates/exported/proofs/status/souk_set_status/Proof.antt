@@ -1,3 +1,4 @@
+-- `exported::status::souk_set_status` meets its contract: refused, or the call by value on what the bytes hold; the status alone changed. Assumes nothing.
 use Rattle.exported.proofs.Ways.{ways}
 use borrow.Author.Needs.{needs}
 use Rattle.exported.proofs.status.souk_set_status.Statement.{statement}

@@ -1,3 +1,4 @@
+-- `exported::word::word` meets its contract: a sum whose parts fit into 64 bits. Assumes nothing.
 use Rattle.exported.specs.Word.{word}
 use borrow.Author.Needs.{needs}
 use Rattle.exported.proofs.word.word.Statement.{statement}

@@ -1,3 +1,4 @@
+-- `recordbytes::store::left` meets its contract: one number. Assumes nothing.
 use borrow.Author.Needs.{needs}
 use Rattle.recordbytes.proofs.Storing.{ways}
 use Rattle.recordbytes.proofs.store.left.Statement.{statement}

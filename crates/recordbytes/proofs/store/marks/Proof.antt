@@ -1,3 +1,4 @@
+-- `recordbytes::store::marks` meets its contract: two numbers, each narrowed. Assumes nothing.
 use borrow.Author.Needs.{needs}
 use Rattle.recordbytes.proofs.Storing.{ways}
 use Rattle.recordbytes.proofs.store.marks.Statement.{statement}

@@ -1,3 +1,4 @@
+-- `recordbytes::store::new` meets its contract: zeros hide all that was there; then three numbers. Assumes nothing.
 use borrow.Author.Needs.{needs}
 use Rattle.recordbytes.proofs.Storing.{ways}
 use Rattle.recordbytes.proofs.store.new.Statement.{statement}

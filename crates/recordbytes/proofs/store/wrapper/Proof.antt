@@ -1,3 +1,4 @@
+-- `recordbytes::store::wrapper` meets its contract: five numbers, and the block laid over behind them. Assumes nothing.
 use borrow.Author.Needs.{needs}
 use Rattle.recordbytes.proofs.Storing.{ways}
 use Rattle.recordbytes.proofs.store.wrapper.Statement.{statement}

@@ -1,0 +1,110 @@
+-- Cases of the exported calls: one table, and one statement, which antt computes. Assumes nothing.
+use mathlib.Core.Path.{refl}
+use mathlib.Core.Bool.{true, false}
+use mathlib.Core.List.{List, [], _∷_, _++_}
+use Prim.Native.Nat.{ℕ}
+use lib.ListN.{replicate}
+use Rattle.fields.specs.Overlay.{overlay}
+use Rattle.fields.specs.Field.{bytesAt, counted, digits, ordered, get, getBits, put}
+use Rattle.fields.specs.Case.{Case, case, AllHold}
+use Rattle.buffer.specs.Buffer.{isSound, unreadBytes, moved, withRoom, appended, fitting, written, lacksRoom, writtenAll, ready, given, readOff}
+use Rattle.wrapper.specs.Counters.{residueOf}
+use Rattle.scsi.specs.Commands.{flag}
+use Rattle.scsi.specs.Decoding.{lists, counts, isListed, fieldsBy, decoded, decodeCall, plainCall}
+use Rattle.device.specs.Create.{isPacketSize, creation}
+use Rattle.device.specs.Broken.{commandFits, isWhole}
+use Rattle.calls.specs.declared.Figure.{Figure}
+use Rattle.calls.specs.declared.Request.{Request}
+use Rattle.calls.specs.Checks.{isBroken, unlessBroken, isIn}
+use Rattle.calls.specs.Status.{takesStatus, statusOf, withFigure, acceptedStatus, setStatusCall}
+use Rattle.calls.specs.Data.{worksIn, readOut, limited, writeIn, writeAllIn}
+use Rattle.calls.specs.Bus.{entering, resetCall, served, controlCall}
+use Rattle.calls.specs.Command.{isShown, commandCall, isOffered, offering, blockOf, stepCall}
+use Rattle.recordbytes.specs.Record.{isKnown, stateOf, directionOf, statusBy, statusAt, marksAt, wrapperAt, deviceAt, store, storeState, storeMarks, storeLeft, storeWrapper, storeDevice, newRecord}
+use Rattle.exported.specs.Word.{word}
+use Rattle.exported.specs.Record.{isHeld, onDevice}
+use Rattle.exported.specs.Calls.{leaves, createOn, statusOn, resetOn, controlOn, moves, readOn, writeOn, writeAllOn}
+use Rattle.exported.specs.Command.{shows, commandOn, stepOn}
+
+-- the command 12 01 80 00 FF, an inquiry for a page
+block : List ℕ
+block = 0x12 ∷ 0x01 ∷ 0x80 ∷ 0x00 ∷ 0xFF ∷ replicate 11 9
+
+-- a record with P 8, max LUN 3 and an IO buffer of 31 bytes: its state, whether a status is present, the marks, left, residue and status
+-- byte; then the wrapper, to the host, for LUN 1, with a block of five bytes, tag 7, L = 512
+bytes : ℕ → ℕ → ℕ → ℕ → ℕ → ℕ → ℕ → List ℕ
+bytes state present read write left residue status =
+    (8 ∷ 3 ∷ state ∷ present ∷ 31 ∷ 0 ∷ 0 ∷ 0 ∷ read ∷ 0 ∷ 0 ∷ 0 ∷ write ∷ 0 ∷ 0 ∷ 0 ∷ left ∷ 0 ∷ 0 ∷ 0 ∷ residue ∷ 0 ∷ 0 ∷ 0 ∷ status ∷ [])
+    ++ (1 ∷ 1 ∷ 5 ∷ 7 ∷ 0 ∷ 0 ∷ 0 ∷ 0 ∷ 2 ∷ 0 ∷ 0 ∷ [])
+    ++ block
+
+-- three bytes unread, two left, and no status, in the state of a number
+in-state : ℕ → List ℕ
+in-state state = bytes state 0 1 4 2 0 0
+
+io : List ℕ
+io = 1 ∷ 2 ∷ 3 ∷ 4 ∷ replicate 27 5
+
+figure : ℕ → ℕ → Figure
+figure status processed = record { status = status; processed = processed }
+
+request : ℕ → ℕ → Request
+request type number = record { requesttype = type; request = number }
+
+pub table : List Case
+table =
+    -- each part in its place
+    case (word 7 5 2 1 3) 0x0000000301020507
+    -- 64, 0 and 64 give a record, in 52 bytes alone; 01's number comes first, and the bytes stay
+    ∷ case (createOn (replicate 52 9) 64 0 64) (leaves 0 (64 ∷ 0 ∷ 0 ∷ 0 ∷ 64 ∷ replicate 47 0))
+    ∷ case (createOn (replicate 51 9) 64 0 64) (leaves 10 (replicate 51 9))
+    ∷ case (createOn (replicate 52 9) 8 16 0) (leaves 2 (replicate 52 9))
+    ∷ case (createOn [] 8 16 0) (leaves 2 [])
+    -- a number for no state, flag or status, or for no direction, beside a record that is whole; 51 and 53 bytes; another IO buffer
+    ∷ case (isHeld (bytes 8 1 1 4 2 0 2) 31) true
+    ∷ case (isHeld (bytes 9 1 1 4 2 0 2) 31) false
+    ∷ case (isHeld (bytes 8 2 1 4 2 0 2) 31) false
+    ∷ case (isHeld (bytes 8 1 1 4 2 0 3) 31) false
+    ∷ case (isHeld (overlay (in-state 4) 25 (3 ∷ [])) 31) false
+    ∷ case (isHeld (in-state 4 ++ 0 ∷ []) 31) false
+    ∷ case (isHeld [] 31) false
+    ∷ case (isHeld (in-state 4) 32) false
+    -- a status: the flag, the residue 512 - 500 and the byte are stored; refused with 12, or with 10, it stores nothing
+    ∷ case (statusOn (in-state 4) io (figure 2 500)) (leaves 0 (bytes 4 1 1 4 2 12 2))
+    ∷ case (statusOn (in-state 4) io (figure 3 500)) (leaves 12 (in-state 4))
+    ∷ case (statusOn (bytes 9 1 1 4 2 12 2) io (figure 0 512)) (leaves 10 (bytes 9 1 1 4 2 12 2))
+    ∷ case (statusOn (in-state 4) (replicate 30 5) (figure 2 500)) (leaves 10 (in-state 4))
+    ∷ case (statusOn [] io (figure 2 500)) (leaves 10 [])
+    -- a read of two of three bytes: the count at bit 32, and the read mark; 3 in another state
+    ∷ case (readOn (in-state 7) io (8 ∷ 8 ∷ [])) (moves 0x0000000200000000 (bytes 7 0 3 4 2 0 0) (2 ∷ 3 ∷ []))
+    ∷ case (readOn (in-state 4) io (8 ∷ 8 ∷ [])) (moves 3 (in-state 4) (8 ∷ 8 ∷ []))
+    ∷ case (readOn (in-state 9) io (8 ∷ 8 ∷ [])) (moves 10 (in-state 9) (8 ∷ 8 ∷ []))
+    -- two are left: of three `souk_write_data` takes two, `souk_try_write_data_all` three
+    ∷ case (writeOn (in-state 4) io (6 ∷ 7 ∷ 8 ∷ [])) (moves 0x0000000200000000 (bytes 4 0 1 6 2 0 0) (1 ∷ 2 ∷ 3 ∷ 4 ∷ 6 ∷ 7 ∷ replicate 25 5))
+    ∷ case (writeAllOn (in-state 4) io (6 ∷ 7 ∷ 8 ∷ [])) (moves 0x0000000300000000 (bytes 4 0 1 7 2 0 0) (1 ∷ 2 ∷ 3 ∷ 4 ∷ 6 ∷ 7 ∷ 8 ∷ replicate 24 5))
+    ∷ case (writeAllOn (in-state 4) io (replicate 29 6)) (moves 1 (bytes 4 0 0 3 2 0 0) (2 ∷ 3 ∷ 4 ∷ 4 ∷ replicate 27 5))
+    ∷ case (writeOn (in-state 9) io (6 ∷ [])) (moves 10 (in-state 9) io)
+    -- a reset asks for `U` and stores state, left and the flag; residue and status byte stay
+    ∷ case (resetOn (newRecord 8 3 31) io) (leaves 0x0000000000020000 (newRecord 8 3 31))
+    ∷ case (resetOn (bytes 4 1 1 4 2 12 2) io) (leaves 0x0000000000020000 (bytes 0 0 1 4 0 12 2))
+    ∷ case (resetOn (in-state 9) io) (leaves 10 (in-state 9))
+    -- A1 FE answers flag 1 and max LUN; A1 FF is a reset; 21 FF does not count
+    ∷ case (controlOn (in-state 4) io (request 0xA1 0xFE)) (leaves 0x0000000301000000 (in-state 4))
+    ∷ case (controlOn (in-state 4) io (request 0xA1 0xFF)) (resetOn (in-state 4) io)
+    ∷ case (controlOn (in-state 4) io (request 0x21 0xFF)) (leaves 0 (in-state 4))
+    ∷ case (controlOn (in-state 9) io (request 0xA1 0xFE)) (leaves 10 (in-state 9))
+    -- a command: LUN, flag and block length; nothing is shown in 0; 10 for 15 lent bytes
+    ∷ case (commandOn (in-state 4) io (replicate 16 0)) (shows 0x0000000501000100 block)
+    ∷ case (commandOn (in-state 0) io (replicate 16 8)) (shows 0 (replicate 16 8))
+    ∷ case (commandOn (in-state 4) io (replicate 15 8)) (shows 10 (replicate 15 8))
+    ∷ case (commandOn (in-state 9) io (replicate 16 8)) (shows 10 (replicate 16 8))
+    -- the step: LUN and flag, and the inquiry in six numbers; nothing behind a status; 10 for seven lent numbers
+    ∷ case (stepOn (in-state 4) io (replicate 6 0)) (shows 0x0000000001000100 (1 ∷ 1 ∷ 128 ∷ 255 ∷ 0 ∷ 0 ∷ []))
+    ∷ case (stepOn (bytes 4 1 1 4 2 12 2) io (replicate 6 8)) (shows 0 (replicate 6 8))
+    ∷ case (stepOn (in-state 4) io (replicate 7 8)) (shows 10 (replicate 7 8))
+    ∷ case (stepOn (in-state 9) io (replicate 6 8)) (shows 10 (replicate 6 8))
+    ∷ []
+
+pub table-holds : AllHold table
+unfolding table block bytes in-state io figure request overlay bytesAt counted digits ordered get getBits put isSound unreadBytes moved withRoom appended fitting written lacksRoom writtenAll ready given readOff residueOf flag lists counts isListed fieldsBy decoded decodeCall plainCall isPacketSize creation commandFits isWhole isBroken unlessBroken isIn takesStatus statusOf withFigure acceptedStatus setStatusCall worksIn readOut limited writeIn writeAllIn entering resetCall served controlCall isShown commandCall isOffered offering blockOf stepCall isKnown stateOf directionOf statusBy statusAt marksAt wrapperAt deviceAt store storeState storeMarks storeLeft storeWrapper storeDevice newRecord word isHeld onDevice createOn statusOn resetOn controlOn readOn writeOn writeAllOn commandOn stepOn
+table-holds = refl

@@ -1,0 +1,361 @@
+-- The round trip of the record.
+--     back, back-known         a device that was stored is read back, and the bytes are still a record
+--     new-holds, new-known     the bytes of a new device are a record, and hold it
+--     of-read, of-new          where the first two apply: each record is that of the device which it holds, and a new one is a new device's
+-- With `Parts.device-kept`, by which storing back what was read changes no byte, these are the two laws of a record that is read and
+-- written: nothing is lost on the way into the bytes, and nothing on the way out. Assumes nothing.
+use mathlib.Core.Path.{_≡_, refl, sym, ap, _∙_}
+use mathlib.Core.Bool.{true, _&&_}
+use mathlib.Core.List.{List, [], _∷_, _++_}
+use Prim.Native.Nat.{ℕ, _+_, _^_, _≤_, _<_}
+use native.Mathlib.Omega.{arith}
+use lib.Dec.{leb, lit<}
+use lib.ListN.{length, replicate}
+use borrow.Author.Tests.{leb-true}
+use Rattle.fields.specs.Field.{Field, bytesAt, counted, ordered, get}
+use Rattle.fields.proofs.Bools.{and-left}
+use Rattle.fields.proofs.Overlay.{part-inside, part-before}
+use Rattle.buffer.specs.Buffer.{at}
+use Rattle.ring.specs.declared.State.{State}
+use Rattle.ring.specs.declared.State.the-variants.{CommandTransfer, CommandTransferInvalid, DataTransferNoData, StatusTransfer, DataTransferToHost, DataTransferToHostStatusAwait, DataTransferToHostEnding, DataTransferFromHost, DataTransferFromHostEnding}
+use Rattle.ring.specs.States.{stateNumber}
+use Rattle.wrapper.specs.declared.DataDirection.{DataDirection}
+use Rattle.wrapper.specs.declared.DataDirection.the-variants.{Out, In, NotExpected}
+use Rattle.wrapper.specs.declared.Wrapper.{Wrapper}
+use Rattle.wrapper.specs.declared.counters.Residue.{Residue}
+use Rattle.wrapper.specs.declared.status.CommandStatus.{CommandStatus}
+use Rattle.wrapper.specs.declared.status.CommandStatus.the-variants.{Passed, Failed, PhaseError}
+use Rattle.wrapper.specs.Status.{statusNumber}
+use Rattle.wrapper.specs.Wrapper.{directionNumber, blank}
+use Rattle.device.specs.declared.Device.{Device}
+use Rattle.device.specs.declared.Status.{Status}
+use Rattle.device.specs.declared.Status.the-variants.{Absent, Present}
+use Rattle.device.specs.Create.{newDevice}
+use Rattle.calls.specs.Status.{statusOf}
+use Rattle.recordbytes.specs.Layout as field
+use Rattle.recordbytes.specs.Record.{isKnown, stateOf, directionOf, statusBy, statusAt, marksAt, wrapperAt, deviceAt, storeState, storeMarks, storeLeft, storeStatus, storeWrapper, storeDevice, newRecord}
+use Rattle.recordbytes.specs.Storable.{Storable, RecordOf}
+use Rattle.recordbytes.proofs.Storing.{isApart}
+use Rattle.recordbytes.proofs.Reading.{reads-marks, reads-wrapper, reads-device, reads-status}
+use Rattle.recordbytes.proofs.Stored.{Write, write, storeAll, areWithin, areApart, length-all, bytes-elsewhere, get-elsewhere, get-there, known-is}
+use Rattle.recordbytes.proofs.Parts.{statusWrites, wrapperWrites, behind-wrapper, length-wrapper}
+
+-- ---- a number tells what it stands for, and is a byte
+
+state-back : (s : State) → stateOf (stateNumber s) ≡ s
+unfolding stateOf
+state-back CommandTransfer = refl
+state-back CommandTransferInvalid = refl
+state-back DataTransferNoData = refl
+state-back StatusTransfer = refl
+state-back DataTransferToHost = refl
+state-back DataTransferToHostStatusAwait = refl
+state-back DataTransferToHostEnding = refl
+state-back DataTransferFromHost = refl
+state-back DataTransferFromHostEnding = refl
+
+state-small : (s : State) → leb (stateNumber s) 8 ≡ true
+state-small CommandTransfer = refl
+state-small CommandTransferInvalid = refl
+state-small DataTransferNoData = refl
+state-small StatusTransfer = refl
+state-small DataTransferToHost = refl
+state-small DataTransferToHostStatusAwait = refl
+state-small DataTransferToHostEnding = refl
+state-small DataTransferFromHost = refl
+state-small DataTransferFromHostEnding = refl
+
+direction-back : (d : DataDirection) → directionOf (directionNumber d) ≡ d
+unfolding directionOf
+direction-back Out = refl
+direction-back In = refl
+direction-back NotExpected = refl
+
+direction-small : (d : DataDirection) → leb (directionNumber d) 2 ≡ true
+direction-small Out = refl
+direction-small In = refl
+direction-small NotExpected = refl
+
+status-back : (s : CommandStatus) → statusOf (statusNumber s) ≡ s
+unfolding statusOf
+status-back Passed = refl
+status-back Failed = refl
+status-back PhaseError = refl
+
+status-small : (s : CommandStatus) → leb (statusNumber s) 2 ≡ true
+status-small Passed = refl
+status-small Failed = refl
+status-small PhaseError = refl
+
+a-byte : (n k : ℕ) → leb n k ≡ true → k < 256 → n < 256 ^ 1
+a-byte n k h b = omega (arith, leb-true n k h)
+
+-- ---- the wrapper's fields
+
+module _ (r : List ℕ) (long : length r ≡ field.recordSize) (w : Wrapper) (sixteen : length (w .block) ≡ 16) where
+  -- one of the wrapper's numbers: the block is laid over behind it
+  in-wrapper : (before : List Write) (g : Field) (x : ℕ) (after : List Write) → before ++ (write g x ∷ after) ≡ wrapperWrites w
+      → g .start + g .width ≤ 36 → areApart g after ≡ true → x < 256 ^ g .width → get g (storeWrapper w r) ≡ x
+  unfolding storeWrapper get bytesAt
+  in-wrapper before g x after e h a b =
+      let q : List ℕ = storeAll (wrapperWrites w) r in
+      let whole : length q ≡ 52 = length-all 52 (wrapperWrites w) r long refl in
+      ap (λ (l : List ℕ). counted (ordered (g .order) l)) (part-before q 36 (w .block) (g .start) (g .width) h (omega arith))
+      ∙ ap (λ (ws : List Write). get g (storeAll ws r)) (sym e)
+      ∙ get-there 52 before g x after r long (ap (areWithin 52) e) a b
+
+  block-there : bytesAt field.block (storeWrapper w r) ≡ w .block
+  unfolding storeWrapper bytesAt
+  block-there =
+      let q : List ℕ = storeAll (wrapperWrites w) r in
+      let whole : length q ≡ 52 = length-all 52 (wrapperWrites w) r long refl in
+      rw sixteen at (part-inside q 36 (w .block) (omega arith))
+
+  direction-there : get field.direction (storeWrapper w r) ≡ directionNumber (w .direction)
+  unfolding isApart
+  direction-there =
+      in-wrapper [] field.direction _ (write field.lun (w .lun) ∷ write field.blockLength (w .blocklength) ∷ write field.tag (w .tag) ∷ write field.declared (w .length) ∷ []) refl (leb-true 26 36 refl) refl
+      (a-byte _ 2 (direction-small (w .direction)) (lit< tt))
+
+-- ---- the status's fields
+
+-- a field apart from all three of them
+abbrev besideStatus : Field → Type 0
+besideStatus g = areApart g (statusWrites (Present Passed (record { 0 = 0 }))) ≡ true
+
+module _ (q : List ℕ) (long : length q ≡ field.recordSize) where
+  length-status : (s : Status) → length (storeStatus s q) ≡ field.recordSize
+  length-status Absent = length-all 52 (statusWrites Absent) q long refl
+  length-status (Present b x) = length-all 52 (statusWrites (Present b x)) q long refl
+
+  bytes-beside-status : (s : Status) (g : Field) → besideStatus g → bytesAt g (storeStatus s q) ≡ bytesAt g q
+  bytes-beside-status Absent g a = bytes-elsewhere 52 g (statusWrites Absent) q long refl (rw (and-left (isApart field.present g) (isApart field.residue g && (isApart field.status g && true)) a))
+  bytes-beside-status (Present b x) g a = bytes-elsewhere 52 g (statusWrites (Present b x)) q long refl a
+
+  status-there : (s : Status) → ((b : CommandStatus) (x : Residue) → s ≡ Present b x → x .0 < 2 ^ 32) → statusAt (storeStatus s q) ≡ s
+  unfolding statusAt statusBy isApart
+  status-there Absent h = rw (get-there 52 [] field.present 0 [] q long refl refl (lit< tt))
+  status-there (Present b x) h =
+      let flag = get-there 52 [] field.present 1 (write field.residue (x .0) ∷ write field.status (statusNumber b) ∷ []) q long refl refl (lit< tt) in
+      let residue = get-there 52 (write field.present 1 ∷ []) field.residue (x .0) (write field.status (statusNumber b) ∷ []) q long refl refl (h b x refl) in
+      let byte = get-there 52 (write field.present 1 ∷ write field.residue (x .0) ∷ []) field.status (statusNumber b) [] q long refl refl (a-byte _ 2 (status-small b) (lit< tt)) in
+      rw (flag, residue, byte, status-back b)
+
+  -- what a test of flag and status byte sees
+  flag-small : (s : Status) → get field.present (storeStatus s q) ≤ 1
+  unfolding isApart
+  flag-small Absent = rw (get-there 52 [] field.present 0 [] q long refl refl (lit< tt)) (leb-true 0 1 refl)
+  flag-small (Present b x) = rw (get-there 52 [] field.present 1 (write field.residue (x .0) ∷ write field.status (statusNumber b) ∷ []) q long refl refl (lit< tt)) (leb-true 1 1 refl)
+
+  byte-small : (s : Status) → (s ≡ Absent → get field.status q ≤ 2) → get field.status (storeStatus s q) ≤ 2
+  unfolding isApart
+  byte-small Absent h = rw (get-elsewhere 52 field.status (statusWrites Absent) q long refl refl) (h refl)
+  byte-small (Present b x) h =
+      rw (get-there 52 (write field.present 1 ∷ write field.residue (x .0) ∷ []) field.status (statusNumber b) [] q long refl refl (a-byte _ 2 (status-small b) (lit< tt)))
+      (leb-true _ _ (status-small b))
+
+-- ---- the whole device
+
+-- the numbers that are stored last
+abbrev lastWrites : Device → List Write
+lastWrites d = write field.state (stateNumber (d .state)) ∷ write field.readMark (d .marks .read) ∷ write field.writeMark (d .marks .write) ∷ write field.left (d .left .0) ∷ []
+
+module _ (d : Device) (r : List ℕ) (long : length r ≡ field.recordSize) (sixteen : length (d .wrapper .block) ≡ 16) where
+  -- behind the wrapper, and behind wrapper and status
+  abbrev first : List ℕ
+  first = storeWrapper (d .wrapper) r
+
+  abbrev second : List ℕ
+  second = storeStatus (d .status) first
+
+  in-turn : storeDevice d r ≡ storeAll (lastWrites d) second
+  unfolding storeDevice storeLeft storeMarks storeState
+  in-turn = refl
+
+  length-first : length first ≡ field.recordSize
+  length-first = length-wrapper r long (d .wrapper) sixteen
+
+  length-second : length second ≡ field.recordSize
+  length-second = length-status first length-first (d .status)
+
+  pub length-device : length (storeDevice d r) ≡ field.recordSize
+  length-device = rw in-turn (length-all 52 (lastWrites d) second length-second refl)
+
+  -- a field that is stored last
+  at-last : (before : List Write) (g : Field) (x : ℕ) (after : List Write) → before ++ (write g x ∷ after) ≡ lastWrites d → areApart g after ≡ true → x < 256 ^ g .width → get g (storeDevice d r) ≡ x
+  at-last before g x after e a b =
+      ap (get g) in-turn
+      ∙ ap (λ (ws : List Write). get g (storeAll ws second)) (sym e)
+      ∙ get-there 52 before g x after second length-second (ap (areWithin 52) e) a b
+
+  -- a field of the status, and one of the wrapper or of none
+  of-status : (g : Field) → areApart g (lastWrites d) ≡ true → get g (storeDevice d r) ≡ get g second
+  of-status g a = rw in-turn (get-elsewhere 52 g (lastWrites d) second length-second refl a)
+
+  bytes-first : (g : Field) → areApart g (lastWrites d) ≡ true → besideStatus g → bytesAt g (storeDevice d r) ≡ bytesAt g first
+  bytes-first g a b = rw in-turn (bytes-elsewhere 52 g (lastWrites d) second length-second refl a ∙ bytes-beside-status first length-first (d .status) g b)
+
+  of-first : (g : Field) → areApart g (lastWrites d) ≡ true → besideStatus g → get g (storeDevice d r) ≡ get g first
+  unfolding get
+  of-first g a b = rw (bytes-first g a b)
+
+  -- a field that no part of a device stands in
+  of-none : (g : Field) → areApart g (lastWrites d) ≡ true → besideStatus g → g .start + g .width ≤ 36 → areApart g (wrapperWrites (d .wrapper)) ≡ true → get g (storeDevice d r) ≡ get g r
+  of-none g a b h c = of-first g a b ∙ behind-wrapper r long (d .wrapper) sixteen g h c
+
+  state-read : get field.state (storeDevice d r) ≡ stateNumber (d .state)
+  unfolding isApart
+  state-read =
+      at-last [] field.state _ (write field.readMark (d .marks .read) ∷ write field.writeMark (d .marks .write) ∷ write field.left (d .left .0) ∷ []) refl refl
+      (a-byte _ 8 (state-small (d .state)) (lit< tt))
+
+  direction-read : get field.direction (storeDevice d r) ≡ directionNumber (d .wrapper .direction)
+  unfolding isApart
+  direction-read = of-first field.direction refl refl ∙ direction-there r long (d .wrapper) sixteen
+
+  marks-read : d .marks .read < 2 ^ 32 → d .marks .write < 2 ^ 32 → marksAt (storeDevice d r) ≡ d .marks
+  unfolding isApart
+  marks-read h k =
+      let read = at-last (write field.state (stateNumber (d .state)) ∷ []) field.readMark (d .marks .read) (write field.writeMark (d .marks .write) ∷ write field.left (d .left .0) ∷ []) refl refl h in
+      let wrote = at-last (write field.state (stateNumber (d .state)) ∷ write field.readMark (d .marks .read) ∷ []) field.writeMark (d .marks .write) (write field.left (d .left .0) ∷ []) refl refl k in
+      sym (reads-marks (storeDevice d r) (sym read) (sym wrote))
+
+  left-read : d .left .0 < 2 ^ 32 → get field.left (storeDevice d r) ≡ d .left .0
+  unfolding isApart
+  left-read h =
+      at-last (write field.state (stateNumber (d .state)) ∷ write field.readMark (d .marks .read) ∷ write field.writeMark (d .marks .write) ∷ []) field.left (d .left .0) [] refl refl h
+
+  status-read : ((b : CommandStatus) (x : Residue) → d .status ≡ Present b x → x .0 < 2 ^ 32) → statusAt (storeDevice d r) ≡ d .status
+  unfolding statusAt isApart
+  status-read h = rw (of-status field.present refl, of-status field.status refl, of-status field.residue refl) (status-there first length-first (d .status) h)
+
+  wrapper-read : Storable d → wrapperAt (storeDevice d r) ≡ d .wrapper
+  unfolding isApart
+  wrapper-read s =
+      let w : Wrapper = d .wrapper in
+      let inside = in-wrapper r long w sixteen in
+      let a : Write = write field.direction (directionNumber (w .direction)) in
+      let b : Write = write field.lun (w .lun) in
+      let c : Write = write field.blockLength (w .blocklength) in
+      let e : Write = write field.tag (w .tag) in
+      let f : Write = write field.declared (w .length) in
+      let lun = of-first field.lun refl refl ∙ inside (a ∷ []) field.lun (w .lun) (c ∷ e ∷ f ∷ []) refl (leb-true 27 36 refl) refl (s .lun) in
+      let blocklength = of-first field.blockLength refl refl ∙ inside (a ∷ b ∷ []) field.blockLength (w .blocklength) (e ∷ f ∷ []) refl (leb-true 28 36 refl) refl (s .blocklength) in
+      let tag = of-first field.tag refl refl ∙ inside (a ∷ b ∷ c ∷ []) field.tag (w .tag) (f ∷ []) refl (leb-true 32 36 refl) refl (s .tag) in
+      let declared = of-first field.declared refl refl ∙ inside (a ∷ b ∷ c ∷ e ∷ []) field.declared (w .length) [] refl (leb-true 36 36 refl) refl (s .declared) in
+      let block = bytes-first field.block refl refl ∙ block-there r long w sixteen in
+      sym (reads-wrapper (storeDevice d r) (sym direction-read) (sym (direction-back (w .direction))) (sym block) (sym tag) (sym declared) (sym lun) (sym blocklength))
+
+-- what was stored is read
+pub back : (d : Device) (r : List ℕ) → Storable d → RecordOf d r → deviceAt (storeDevice d r) ≡ d
+unfolding isApart
+back d r s o =
+    let none = of-none d r (o .long) (s .block) in
+    sym
+    (reads-device (storeDevice d r)
+    (sym (state-read d r (o .long) (s .block)))
+    (sym (state-back (d .state)))
+    (sym (marks-read d r (o .long) (s .block) (s .read) (s .write)))
+    (sym (wrapper-read d r (o .long) (s .block) s))
+    (sym (status-read d r (o .long) (s .block) (s .residue)))
+    (sym (none field.packetSize refl refl (leb-true 1 36 refl) refl ∙ o .packetsize))
+    (sym (none field.maxLun refl refl (leb-true 2 36 refl) refl ∙ o .maxlun))
+    (sym (none field.size refl refl (leb-true 8 36 refl) refl ∙ o .size))
+    (sym (left-read d r (o .long) (s .block) (s .left))))
+
+-- and the bytes are a record: without a status its byte stays, so that it must have been one
+pub back-known : (d : Device) (r : List ℕ) → length r ≡ field.recordSize → length (d .wrapper .block) ≡ 16 → (d .status ≡ Absent → get field.status r ≤ 2) → isKnown (storeDevice d r) ≡ true
+unfolding isApart
+back-known d r long sixteen h =
+    let q : List ℕ = storeWrapper (d .wrapper) r in
+    let whole : length q ≡ 52 = length-wrapper r long (d .wrapper) sixteen in
+    let before = behind-wrapper r long (d .wrapper) sixteen field.status (leb-true 25 36 refl) refl in
+    known-is (storeDevice d r) (record {
+      long = length-device d r long sixteen;
+      state = rw (state-read d r long sixteen) (leb-true _ _ (state-small (d .state)));
+      flag = rw (of-status d r long sixteen field.present refl) (flag-small q whole (d .status));
+      status = rw (of-status d r long sixteen field.status refl) (byte-small q whole (d .status) (λ e. rw before (h e)));
+      direction = rw (direction-read d r long sixteen) (leb-true _ _ (direction-small (d .wrapper .direction)));
+    })
+
+pub of-read : (r : List ℕ) → length r ≡ field.recordSize → RecordOf (deviceAt r) r
+unfolding deviceAt
+of-read r long = record { long = long; packetsize = refl; maxlun = refl; size = refl }
+
+-- ---- a new device
+
+abbrev newWrites : ℕ → ℕ → ℕ → List Write
+newWrites p maxlun size = write field.packetSize p ∷ write field.maxLun maxlun ∷ write field.size size ∷ []
+
+abbrev zeros : List ℕ
+zeros = replicate 52 0
+
+module _ (p maxlun size : ℕ) where
+  new-writes : newRecord p maxlun size ≡ storeAll (newWrites p maxlun size) zeros
+  unfolding newRecord
+  new-writes = refl
+
+  new-length : length (newRecord p maxlun size) ≡ field.recordSize
+  new-length = rw new-writes (length-all 52 (newWrites p maxlun size) zeros refl refl)
+
+  -- a field apart from the three has its zeros
+  new-bytes : (g : Field) → areApart g (newWrites p maxlun size) ≡ true → bytesAt g (newRecord p maxlun size) ≡ bytesAt g zeros
+  new-bytes g a = rw new-writes (bytes-elsewhere 52 g (newWrites p maxlun size) zeros refl refl a)
+
+  new-get : (g : Field) → areApart g (newWrites p maxlun size) ≡ true → get g (newRecord p maxlun size) ≡ get g zeros
+  unfolding get
+  new-get g a = rw (new-bytes g a)
+
+  pub new-known : isKnown (newRecord p maxlun size) ≡ true
+  unfolding isApart get bytesAt counted ordered
+  new-known = known-is (newRecord p maxlun size) (record {
+    long = new-length;
+    state = rw (new-get field.state refl) (leb-true 0 8 refl);
+    flag = rw (new-get field.present refl) (leb-true 0 1 refl);
+    status = rw (new-get field.status refl) (leb-true 0 2 refl);
+    direction = rw (new-get field.direction refl) (leb-true 0 2 refl);
+  })
+
+  new-three : p < 256 → maxlun < 256 → size < 2 ^ 32
+      → (get field.packetSize (newRecord p maxlun size) ≡ p) × (get field.maxLun (newRecord p maxlun size) ≡ maxlun) × (get field.size (newRecord p maxlun size) ≡ size)
+  unfolding isApart
+  new-three hp hm hs = (
+    ap (get field.packetSize) new-writes ∙ get-there 52 [] field.packetSize p (write field.maxLun maxlun ∷ write field.size size ∷ []) zeros refl refl refl hp,
+    ap (get field.maxLun) new-writes ∙ get-there 52 (write field.packetSize p ∷ []) field.maxLun maxlun (write field.size size ∷ []) zeros refl refl refl hm,
+    ap (get field.size) new-writes ∙ get-there 52 (write field.packetSize p ∷ write field.maxLun maxlun ∷ []) field.size size [] zeros refl refl refl hs,
+  )
+
+  new-wrapper : wrapperAt (newRecord p maxlun size) ≡ blank
+  unfolding isApart get bytesAt counted ordered directionOf blank
+  new-wrapper =
+      sym
+      (reads-wrapper (newRecord p maxlun size)
+      (sym (new-get field.direction refl))
+      refl
+      (sym (new-bytes field.block refl))
+      (sym (new-get field.tag refl))
+      (sym (new-get field.declared refl))
+      (sym (new-get field.lun refl))
+      (sym (new-get field.blockLength refl)))
+
+  pub new-holds : p < 256 → maxlun < 256 → size < 2 ^ 32 → deviceAt (newRecord p maxlun size) ≡ newDevice p maxlun size
+  unfolding isApart get bytesAt counted ordered stateOf statusBy
+  new-holds hp hm hs =
+      let q : List ℕ = newRecord p maxlun size in
+      let three = new-three hp hm hs in
+      sym
+      (reads-device q
+      (sym (new-get field.state refl))
+      refl
+      (reads-marks q (sym (new-get field.readMark refl)) (sym (new-get field.writeMark refl)))
+      (sym new-wrapper)
+      (reads-status q (sym (new-get field.present refl)) (sym (new-get field.status refl)) (sym (new-get field.residue refl)) refl)
+      (sym (three .0))
+      (sym (three .1))
+      (sym (three .2))
+      (sym (new-get field.left refl)))
+
+  pub of-new : p < 256 → maxlun < 256 → size < 2 ^ 32 → RecordOf (newDevice p maxlun size) (newRecord p maxlun size)
+  of-new hp hm hs =
+      let three = new-three hp hm hs in
+      record { long = new-length; packetsize = three .0; maxlun = three .1; size = three .2 }

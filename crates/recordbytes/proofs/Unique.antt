@@ -1,0 +1,58 @@
+-- No second answer satisfies a promise: what the `ensures` of a public function says is true of one answer alone, and of one content
+-- of the record at exit. `Post` is the contract itself, as the check reads it. First the functions that read, then those of `store`.
+-- Assumes nothing.
+use mathlib.Core.Path.{refl, sym, _∙_}
+use denote.Ref.{now}
+use Rattle.fields.proofs.Only.{Only}
+use Rattle.recordbytes.proofs.known.Kinds as known-kinds
+use Rattle.recordbytes.proofs.known.Reads as known
+use Rattle.recordbytes.proofs.device_at.Kinds as device-at-kinds
+use Rattle.recordbytes.proofs.device_at.Reads as device-at
+use Rattle.recordbytes.proofs.numbers_at.Kinds as numbers-at-kinds
+use Rattle.recordbytes.proofs.numbers_at.Reads as numbers-at
+use Rattle.recordbytes.proofs.store.narrow.Kinds as narrow-kinds
+use Rattle.recordbytes.proofs.store.narrow.Reads as narrow
+use Rattle.recordbytes.proofs.store.new.Kinds as new-kinds
+use Rattle.recordbytes.proofs.store.new.Reads as new
+use Rattle.recordbytes.proofs.store.state.Kinds as state-kinds
+use Rattle.recordbytes.proofs.store.state.Reads as state
+use Rattle.recordbytes.proofs.store.marks.Kinds as marks-kinds
+use Rattle.recordbytes.proofs.store.marks.Reads as marks
+use Rattle.recordbytes.proofs.store.left.Kinds as left-kinds
+use Rattle.recordbytes.proofs.store.left.Reads as left
+use Rattle.recordbytes.proofs.store.status.Kinds as status-kinds
+use Rattle.recordbytes.proofs.store.status.Reads as status
+use Rattle.recordbytes.proofs.store.wrapper.Kinds as wrapper-kinds
+use Rattle.recordbytes.proofs.store.wrapper.Reads as wrapper
+
+pub known-only : Only 1 known-kinds.ps known-kinds.r known.Post (λ κs s. tt {0})
+known-only κs a x y s t p q = (p ∙ sym q, refl)
+
+pub device-at-only : Only 1 device-at-kinds.ps device-at-kinds.r device-at.Post (λ κs s. tt {0})
+device-at-only κs a x y s t p q = (p ∙ sym q, refl)
+
+pub numbers-at-only : Only 1 numbers-at-kinds.ps numbers-at-kinds.r numbers-at.Post (λ κs s. tt {0})
+numbers-at-only κs a x y s t p q = (p ∙ sym q, refl)
+
+-- ---- store
+
+pub narrow-only : Only 0 narrow-kinds.ps narrow-kinds.r narrow.Post (λ κs s. tt {0})
+narrow-only κs a x y s t p q = (p ∙ sym q, refl)
+
+pub new-only : Only 1 new-kinds.ps new-kinds.r new.Post (λ κs s. now (s .0))
+new-only κs a x y s t p q = (refl, p ∙ sym q)
+
+pub state-only : Only 1 state-kinds.ps state-kinds.r state.Post (λ κs s. now (s .0))
+state-only κs a x y s t p q = (refl, p ∙ sym q)
+
+pub marks-only : Only 1 marks-kinds.ps marks-kinds.r marks.Post (λ κs s. now (s .0))
+marks-only κs a x y s t p q = (refl, p ∙ sym q)
+
+pub left-only : Only 1 left-kinds.ps left-kinds.r left.Post (λ κs s. now (s .0))
+left-only κs a x y s t p q = (refl, p ∙ sym q)
+
+pub status-only : Only 1 status-kinds.ps status-kinds.r status.Post (λ κs s. now (s .0))
+status-only κs a x y s t p q = (refl, p ∙ sym q)
+
+pub wrapper-only : Only 2 wrapper-kinds.ps wrapper-kinds.r wrapper.Post (λ κs s. now (s .0))
+wrapper-only κs a x y s t p q = (refl, p ∙ sym q)
