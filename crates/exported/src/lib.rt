@@ -1,6 +1,6 @@
 // The socket for firmware in C and for Rust: numbers and byte slices, the record as 52 bytes. In C a slice is two arguments, its pointer
-// and its length; host/include/souklavanh.h says what each call does. Every call takes any record, any bytes of any length and any
-// numbers, and ends with one of document 01's answers; 10 comes first. A refusal with 10 leaves all that was lent as it was.
+// and its length; host/include/souklavanh.h says what each call does. Every call takes any bytes of any length and any numbers, and ends
+// with an answer. Every call that is lent a record to work on tests it first: a refusal with 10 leaves all that was lent as it was.
 //     create               a new record
 //     poll, onward         one poll; those in the midst of a transfer first
 //     status, data, bus    what the firmware and the bus call between polls
