@@ -874,6 +874,53 @@ fn differences() -> Vec<Named> {
             "diff-status-2-costs-a-bus-reset",
             create(64, 0, 64).wrapper(ready(1)).status(2, 0).poll(),
         ),
+        named(
+            "diff-a-figure-of-l-makes-filler-count-as-data",
+            create(64, 0, 64).wrapper(reading(1)).status(0, 1).polls(2),
+        ),
+        named(
+            "diff-21-ff-does-not-leave-state-1",
+            create(64, 0, 64)
+                .wrapper(bad_signature())
+                .control(0x21, 0xFF)
+                .poll(),
+        ),
+        named(
+            "diff-host-data-not-read-in-time-is-lost",
+            create(64, 0, 64)
+                .wrapper(writing(1))
+                .packet(&[1])
+                .poll()
+                .read(1),
+        ),
+        named(
+            "diff-a-read-declared-from-host-is-offered",
+            create(64, 0, 64)
+                .wrapper(Wrapper {
+                    flags: 0,
+                    ..reading(1)
+                })
+                .command()
+                .write(&[1]),
+        ),
+        named(
+            "diff-reset-within-a-read-takes-wrappers-one-late",
+            create(64, 0, 95)
+                .wrapper(reading(31))
+                .write(&counted(31))
+                .reset()
+                .wrapper(ready(2))
+                .reset()
+                .wrapper(ready(3))
+                .status(0, 0)
+                .poll(),
+        ),
+        named(
+            "diff-decoding-leaves-fields-out",
+            create(64, 0, 64)
+                .wrapper(Wrapper::new(1, &[0x28, 0xFF, 0, 0, 0, 0, 0xFF, 0, 1, 0xFF]))
+                .command(),
+        ),
     ]
 }
 
