@@ -1,10 +1,12 @@
--- proofs.Opening   what each way through opening owes
--- proofs.Acting    what each way through an act owes
--- proofs.Same      open, decide, act is the poll of document 01
--- proofs.Polling   what each way through a poll owes
--- proofs.Unique    no second answer satisfies a promise
--- proofs.Keeping   what no poll changes: a whole record stays whole, sizes and lengths stay
--- proofs.After     what is unread, left and sent after each way in which a poll ends
+-- proofs.Opening      what each way through opening owes
+-- proofs.Acting       what each way through an act owes
+-- proofs.Same         open, decide, act is the poll of document 01
+-- proofs.Polling      what each way through a poll owes
+-- proofs.Unique       no second answer satisfies a promise
+-- proofs.Keeping      what no poll changes: a whole record stays whole, sizes and lengths stay
+-- proofs.After        what is unread, left and sent after each way in which a poll ends
+-- proofs.Computing    what cases compute with
+-- proofs.Cases        the cases of specs/Cases.antt hold
 pub mod Opening
 pub mod Acting
 pub mod Same
@@ -12,3 +14,5 @@ pub mod Polling
 pub mod Unique
 pub mod Keeping
 pub mod After
+pub mod Computing
+pub mod Cases

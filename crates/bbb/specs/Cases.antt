@@ -1,48 +1,38 @@
--- Document 01's cases of polls: one table, and one statement, which antt computes. Assumes nothing.
-use mathlib.Core.Path.{refl}
+-- Document 01's cases of polls: one table. proofs/Cases.antt has the statement that each holds. Assumes nothing.
 use mathlib.Core.List.{List, [], _∷_}
 use Prim.Native.Nat.{ℕ}
 use lib.ListN.{replicate, take, drop}
-use Rattle.fields.specs.Overlay.{overlay}
-use Rattle.fields.specs.Field.{bytesAt, counted, digits, ordered, get, put, getBits}
-use Rattle.fields.specs.Case.{Case, case, AllHold}
-use Rattle.buffer.specs.Buffer.{isSound, unreadBytes, moved, withRoom, appended, fitting, written, filled, lacksRoom, writtenAll, ready, readOff, emptied}
+use Rattle.fields.specs.Case.{Case, case}
 use Rattle.buffer.specs.Buffer as buffer
 use Rattle.answers.specs.declared.Stalls.the-variants.{Stalled, Unstalled}
-use Rattle.answers.specs.Answers.{told, no, endpointOf}
+use Rattle.answers.specs.Answers.{told, no}
 use Rattle.ring.specs.declared.State.{State}
 use Rattle.ring.specs.declared.State.the-variants.{CommandTransferInvalid, DataTransferNoData, StatusTransfer, DataTransferToHost, DataTransferToHostStatusAwait, DataTransferToHostEnding, DataTransferFromHost}
 use Rattle.ring.specs.States.{stateNumber}
 use Rattle.wrapper.specs.declared.DataDirection.the-variants.{In}
 use Rattle.wrapper.specs.declared.status.CommandStatus.the-variants.{Passed}
-use Rattle.wrapper.specs.Counters.{fallen, residueOf}
-use Rattle.wrapper.specs.Status.{statusBytes}
-use Rattle.wrapper.specs.Wrapper.{isSigned, isBlockLength, isValid, directionOf, wrapperOf, blank}
-use Rattle.packets.specs.Packets.{handed, readTold, takesOne, brought, received, accepted, sendTold, sentCount, sentOff, sentInto, filledUp}
-use Rattle.packets.specs.Packets as packets
 use Rattle.device.specs.declared.Device.{Device}
 use Rattle.device.specs.declared.Status.{Status}
 use Rattle.device.specs.declared.Status.the-variants.{Absent, Present}
-use Rattle.device.specs.Create.{isPacketSize, creation, newDevice}
-use Rattle.device.specs.Broken.{commandFits, isWhole}
-use Rattle.bbb.specs.Poll.{Given, given, Polling, statusBy, sendStatus, dataBy, sendData, offers, offeredBy, takeBy, takeData, statusPut, enterStatus, statusAwaitRule, noDataRule, toHostEndingRule, fallsShort, toHostRule, fromHostEndingRule, fromHostRule, startRule, messageAt, parseRule, readBy, readOneBy, readCbwRule, statusTransferRule, invalidRule, ruleIn, pollRule, isFitting, pollCall}
+use Rattle.device.specs.Create.{newDevice}
+use Rattle.bbb.specs.Poll.{Given, given, Polling, pollCall}
 
 -- a poll with a packet on OUT, the second OUT busy, and IN that does its part; the packet buffer has 64 bytes of 7
-offered : List ℕ → Given
+unfoldable pub offered : List ℕ → Given
 offered packet = given (replicate 64 7) packet [] (record { first = 0; second = 1; write = 0 })
 
 -- the first poll of a new device with an IO buffer of zeros, and the poll after one
-first : ℕ → ℕ → List ℕ → Polling
+unfoldable pub first : ℕ → ℕ → List ℕ → Polling
 first p size packet = pollCall (newDevice p 0 size) (replicate size 0) (offered packet)
 
-next : Polling → List ℕ → Polling
+unfoldable pub next : Polling → List ℕ → Polling
 next x packet = pollCall (x .device) (x .io) (offered packet)
 
 -- a wrapper to the host, and one from it, with tag 1, LUN 0 and a block of 6 zeros, which declares L below 256 bytes
-wrapper : ℕ → List ℕ
+unfoldable pub wrapper : ℕ → List ℕ
 wrapper l = 0x55 ∷ 0x53 ∷ 0x42 ∷ 0x43 ∷ 1 ∷ 0 ∷ 0 ∷ 0 ∷ l ∷ 0 ∷ 0 ∷ 0 ∷ 0x80 ∷ 0 ∷ 6 ∷ replicate 16 0
 
-from-host : ℕ → List ℕ
+unfoldable pub from-host : ℕ → List ℕ
 from-host l = 0x55 ∷ 0x53 ∷ 0x42 ∷ 0x43 ∷ 1 ∷ 0 ∷ 0 ∷ 0 ∷ l ∷ 0 ∷ 0 ∷ 0 ∷ 0 ∷ 0 ∷ 6 ∷ replicate 16 0
 
 -- what a line of `bench` shows of a poll: answer, state, left, unread, packets taken, bytes sent
@@ -54,13 +44,13 @@ pub record Line : Type 0 where
   pub taken : ℕ
   pub sent : ℕ
 
-line : Polling → Line
+unfoldable pub line : Polling → Line
 line x = record { answer = x .told .number; state = stateNumber (x .device .state); left = x .device .left .0; unread = buffer.unread (buffer.buffer (x .io) (x .device .marks)); taken = x .taken; sent = x .sent }
 
 abbrev shown : ℕ → ℕ → ℕ → ℕ → ℕ → ℕ → Line
 shown answer state left unread taken sent = record { answer = answer; state = state; left = left; unread = unread; taken = taken; sent = sent }
 
-pub starred : List Case
+unfoldable pub starred : List Case
 starred =
     -- "Buffer 31, P 8: after 24 bytes the next poll gives 1*"
     case (line (next (next (next (first 8 31 (take 8 (wrapper 64))) (take 8 (drop 8 (wrapper 64)))) (take 8 (drop 16 (wrapper 64)))) (drop 24 (wrapper 64)))) (shown 1 0 0 24 0 0)
@@ -70,20 +60,20 @@ starred =
     ∷ []
 
 -- a device with P 8 and an IO buffer of 40 bytes: 1, 2, 3, .. in front, of which some are unread
-in-state : State → Status → ℕ → ℕ → ℕ → Device
+unfoldable pub in-state : State → Status → ℕ → ℕ → ℕ → Device
 in-state state status read write left = record { packetsize = 8; maxlun = 0; size = 40; state = state; marks = buffer.at read write; wrapper = record { tag = 1; length = 20; direction = In; lun = 0; blocklength = 6; block = replicate 16 0 }; status = status; left = record { 0 = left } }
 
-io : List ℕ
+unfoldable pub io : List ℕ
 io = 1 ∷ 2 ∷ 3 ∷ 4 ∷ 5 ∷ 6 ∷ 7 ∷ 8 ∷ replicate 32 0
 
 -- a poll of it, with these answers of the endpoints, 9 on the first OUT and 10, 11 on the second
-polled : Device → ℕ → ℕ → ℕ → Polling
+unfoldable pub polled : Device → ℕ → ℕ → ℕ → Polling
 polled d one two into = pollCall d io (given (replicate 8 7) (9 ∷ []) (10 ∷ 11 ∷ []) (record { first = one; second = two; write = into }))
 
-passed : Status
+unfoldable pub passed : Status
 passed = Present Passed (record { 0 = 12 })
 
-pub ours : List Case
+unfoldable pub ours : List Case
 ours =
     -- 0: the parts of a wrapper are put behind each other; an invalid one stalls, and its 31 bytes count as read
     case (line (next (first 32 64 (take 30 (wrapper 64))) (drop 30 (wrapper 64)))) (shown 4 4 64 0 1 0)
@@ -121,11 +111,3 @@ ours =
     ∷ case (pollCall (in-state DataTransferToHost Absent 0 8 8) io (given (replicate 8 7) [] (replicate 9 1) (record { first = 0; second = 0; write = 0 })) .told) (no 11)
     ∷ case (pollCall (in-state DataTransferToHost Absent 0 8 8) (0 ∷ io) (given (replicate 7 7) [] [] (record { first = 0; second = 0; write = 0 })) .told) (no 10)
     ∷ []
-
-pub starred-hold : AllHold starred
-unfolding starred offered first next wrapper line overlay bytesAt counted digits ordered get put getBits isSound unreadBytes moved withRoom appended fitting written filled lacksRoom writtenAll ready buffer.given readOff emptied told endpointOf fallen residueOf statusBytes isSigned isBlockLength isValid directionOf wrapperOf blank handed readTold takesOne brought received accepted sendTold sentCount sentOff sentInto filledUp packets.withStatus isPacketSize creation commandFits isWhole statusBy sendStatus dataBy sendData offers offeredBy takeBy takeData statusPut enterStatus statusAwaitRule noDataRule toHostEndingRule fallsShort toHostRule fromHostEndingRule fromHostRule startRule messageAt parseRule readBy readOneBy readCbwRule statusTransferRule invalidRule ruleIn pollRule isFitting pollCall
-starred-hold = refl
-
-pub ours-hold : AllHold ours
-unfolding ours offered first next wrapper from-host line in-state io polled passed overlay bytesAt counted digits ordered get put getBits isSound unreadBytes moved withRoom appended fitting written filled lacksRoom writtenAll ready buffer.given readOff emptied told endpointOf fallen residueOf statusBytes isSigned isBlockLength isValid directionOf wrapperOf blank handed readTold takesOne brought received accepted sendTold sentCount sentOff sentInto filledUp packets.withStatus isPacketSize creation commandFits isWhole statusBy sendStatus dataBy sendData offers offeredBy takeBy takeData statusPut enterStatus statusAwaitRule noDataRule toHostEndingRule fallsShort toHostRule fromHostEndingRule fromHostRule startRule messageAt parseRule readBy readOneBy readCbwRule statusTransferRule invalidRule ruleIn pollRule isFitting pollCall
-ours-hold = refl

@@ -1,15 +1,12 @@
--- Cases of the bench file: the rules for events in one table, which antt computes, and two good files: the definitions can be met.
--- Assumes nothing.
-use mathlib.Core.Path.{refl}
+-- Cases of the bench file: the rules for events in one table, and 01's listing as a file. proofs/Cases.antt has the statement that each
+-- case holds, and that the listing and a file of no event are good. Assumes nothing: these are definitions.
 use mathlib.Core.Bool.{true, false}
 use mathlib.Core.List.{List, [], _∷_, _++_}
 use Prim.Native.Nat.{ℕ}
-use lib.Dec.{lit≤}
 use lib.ListN.{replicate}
-use Rattle.fields.specs.Field.{bytesAt, counted, ordered, get}
-use Rattle.fields.specs.Case.{Case, case, AllHold}
-use Rattle.benchfile.specs.Event.{bodyOf, agrees, isPoll, isStatus, isLong, suits, mayStand, isEvent, frontOf, headOf, eventAt, nothing}
-use Rattle.benchfile.specs.File.{joined, areEvents, lastOffset, Good}
+use Rattle.fields.specs.Case.{Case, case}
+use Rattle.benchfile.specs.Event.{isPoll, isStatus, suits, isEvent, headOf, eventAt, nothing}
+use Rattle.benchfile.specs.File.{joined, areEvents, lastOffset}
 
 -- ---- the events of 01's listing
 
@@ -33,10 +30,10 @@ unfoldable pub listing : List (List ℕ)
 listing = create ∷ wrapperPoll ∷ status ∷ busyPoll ∷ busyPoll ∷ []
 
 -- 5 events, the last at 65, `BOT1`
-pub listingTrailer : List ℕ
+unfoldable pub listingTrailer : List ℕ
 listingTrailer = 0x05 ∷ 0x00 ∷ 0x00 ∷ 0x00 ∷ 0x41 ∷ 0x00 ∷ 0x00 ∷ 0x00 ∷ 0x42 ∷ 0x4F ∷ 0x54 ∷ 0x31 ∷ []
 
-pub table : List Case
+unfoldable pub table : List Case
 table =
     case (areEvents true listing) true
     ∷ case (lastOffset listing) 65
@@ -57,27 +54,6 @@ table =
     ∷ case (suits 9 []) false
     ∷ []
 
-pub table-holds : AllHold table
-unfolding table listing bytesAt counted ordered get bodyOf agrees isPoll isStatus isLong suits mayStand isEvent frontOf headOf eventAt joined areEvents lastOffset
-table-holds = refl
-
--- 01's listing is a good file, and so is "a file of none"
-pub listing-good : Good (joined listing ++ listingTrailer) listing
-unfolding listing listingTrailer bytesAt counted ordered get bodyOf agrees isPoll isStatus isLong suits mayStand isEvent joined areEvents lastOffset
-listing-good = record {
-  most = lit≤ tt;
-  are = refl;
-  trailer = listingTrailer;
-  parts = refl;
-  closes = record { twelve = refl; count = refl; last = refl; bot1 = refl };
-}
-
-pub none-good : Good (0x00 ∷ 0x00 ∷ 0x00 ∷ 0x00 ∷ 0x00 ∷ 0x00 ∷ 0x00 ∷ 0x00 ∷ 0x42 ∷ 0x4F ∷ 0x54 ∷ 0x31 ∷ []) []
-unfolding bytesAt counted ordered get joined areEvents lastOffset
-none-good = record {
-  most = lit≤ tt;
-  are = refl;
-  trailer = 0x00 ∷ 0x00 ∷ 0x00 ∷ 0x00 ∷ 0x00 ∷ 0x00 ∷ 0x00 ∷ 0x00 ∷ 0x42 ∷ 0x4F ∷ 0x54 ∷ 0x31 ∷ [];
-  parts = refl;
-  closes = record { twelve = refl; count = refl; last = refl; bot1 = refl };
-}
+-- "a file of none is good": no events, 0 and 0, `BOT1`
+unfoldable pub noneTrailer : List ℕ
+noneTrailer = 0x00 ∷ 0x00 ∷ 0x00 ∷ 0x00 ∷ 0x00 ∷ 0x00 ∷ 0x00 ∷ 0x00 ∷ 0x42 ∷ 0x4F ∷ 0x54 ∷ 0x31 ∷ []

@@ -1,9 +1,13 @@
 -- Laws that no one function owns, for the proofs here and for those of the crates above.
---     Decimal    decimal text: its digits count the number, and the first is no 0
---     Text       texts put one behind the other, how long each is, and that a line fits
---     Ways       what each way through a function owes
---     Unique     the contract of `put_line` has no second answer
+--     Decimal      decimal text: its digits count the number, and the first is no 0
+--     Text         texts put one behind the other, how long each is, and that a line fits
+--     Ways         what each way through a function owes
+--     Unique       the contract of `put_line` has no second answer
+--     Computing    what cases compute with
+--     Cases        the cases of specs/Cases.antt hold
 pub mod Decimal
 pub mod Text
 pub mod Ways
 pub mod Unique
+pub mod Computing
+pub mod Cases

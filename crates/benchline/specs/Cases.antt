@@ -1,12 +1,11 @@
--- Cases that pin down what the words of `Line` mean, with two of 01's own lines: one table, and one statement, which antt computes.
+-- Cases that pin down what the words of `Line` mean, with two of 01's own lines: one table. proofs/Cases.antt has the statement that each holds.
 -- Assumes nothing.
-use mathlib.Core.Path.{refl}
 use mathlib.Core.List.{List, [], _∷_}
-use Rattle.fields.specs.Case.{Case, case, AllHold}
+use Rattle.fields.specs.Case.{Case, case}
 use Rattle.answers.specs.declared.Stalls.the-variants.{Kept, Unstalled}
-use Rattle.benchline.specs.Line.{digit, decimalUpTo, decimal, number, numbers, fields, hex, bytesText, lineOf}
+use Rattle.benchline.specs.Line.{decimal, hex, bytesText, lineOf}
 
-pub table : List Case
+unfoldable pub table : List Case
 table =
     -- one digit, two, and the greatest numbers of 32 and of 64 bits
     case (decimal 0) (0x30 ∷ [])
@@ -32,7 +31,3 @@ table =
     (lineOf record { index = 4; answer = 6; state = 0; left = 0; unread = 0; count = 0; stalls = Unstalled } [])
     (0x34 ∷ 0x20 ∷ 0x36 ∷ 0x20 ∷ 0x30 ∷ 0x20 ∷ 0x30 ∷ 0x20 ∷ 0x30 ∷ 0x20 ∷ 0x30 ∷ 0x20 ∷ 0x55 ∷ 0x20 ∷ 0x2D ∷ 0x0A ∷ [])
     ∷ []
-
-pub hold : AllHold table
-unfolding table digit decimalUpTo decimal number numbers fields hex bytesText lineOf
-hold = refl

@@ -12,9 +12,10 @@ use device::create::create;
 use fields::byte;
 use fields::le16;
 use fields::le32;
+use fields::least;
 use ring::state_number;
 ghost use mathlib.Core.Path.{_≡_};
-ghost use Prim.Native.Nat.{_-_, _≤_, min};
+ghost use Prim.Native.Nat.{_-_, _≤_};
 ghost use lib.ListN.{length, take};
 ghost use Rattle.answers.specs.Answers.{number};
 ghost use Rattle.benchline.specs.Line.{roomFor, Puts};
@@ -28,12 +29,6 @@ pub struct Run {
     pub index: usize,
     pub line: usize,
     pub going: bool,
-}
-
-fn least(a: usize, b: usize) -> usize
-    ensures { λ r. ⌜ r ≡ min a b ⌝ }
-{
-    if a < b { a } else { b }
 }
 
 fn unread(marks: Marks) -> usize

@@ -3,8 +3,12 @@
 --     Room, Unread    how much fits; what is unread after each call
 --     Ways            what each way through a function owes
 --     Unique          no contract has a second answer
+--     Computing       what cases compute with
+--     Cases           the cases of specs/Cases.antt hold
 pub mod Kept
 pub mod Room
 pub mod Unread
 pub mod Ways
 pub mod Unique
+pub mod Computing
+pub mod Cases

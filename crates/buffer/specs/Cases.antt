@@ -1,11 +1,10 @@
--- Cases of the buffer's calls: one table, and one statement, which antt computes. Assumes nothing.
-use mathlib.Core.Path.{_≡_, refl}
+-- Cases of the buffer's calls: one table. proofs/Cases.antt has the statement that each holds. Assumes nothing.
+use mathlib.Core.Path.{_≡_}
 use mathlib.Core.List.{List, [], _∷_, map}
 use Prim.Native.Nat.{ℕ}
 use lib.ListN.{length, replicate}
-use Rattle.fields.specs.Overlay.{overlay}
-use Rattle.buffer.specs.Buffer.{Buffer, buffer, at, isSound, unreadBytes, moved, withRoom, appended, fitting, written, filled, lacksRoom, writtenAll, ready, given, readOff, emptied}
-use Rattle.buffer.specs.Calls.{Outcome, outcome, unlessBroken, availableCall, cleanCall, shiftCall, writeCall, writeAllCall, fillCall, readCall, readInto}
+use Rattle.buffer.specs.Buffer.{Buffer, buffer, at}
+use Rattle.buffer.specs.Calls.{Outcome, outcome, availableCall, cleanCall, shiftCall, writeCall, writeAllCall, fillCall, readCall, readInto}
 
 -- a call, and what it makes of a buffer: the outcome, and the destination of a read
 pub data Call : Type 0 where
@@ -22,7 +21,7 @@ pub record Seen : Type 0 where
 abbrev seen : Outcome → List ℕ → Seen
 seen o d = record { outcome = o; destination = d }
 
-pub after : Call → Buffer → Seen
+unfoldable pub after : Call → Buffer → Seen
 after available s = seen (availableCall s) []
 after clean s = seen (cleanCall s) []
 after shift s = seen (shiftCall s) []
@@ -44,7 +43,7 @@ case b r w c n k b′ r′ w′ = record { start = buffer b (at r w); call = c; 
 abbrev reading : List ℕ → ℕ → ℕ → List ℕ → ℕ → ℕ → ℕ → ℕ → List ℕ → Case
 reading b r w d n k r′ w′ d′ = record { start = buffer b (at r w); call = read d; gives = seen (outcome n k (buffer b (at r′ w′))) d′ }
 
-pub table : List Case
+unfoldable pub table : List Case
 table =
     case (1 ∷ 2 ∷ 3 ∷ []) 1 3 available 0 2 (1 ∷ 2 ∷ 3 ∷ []) 1 3
     ∷ case (1 ∷ 2 ∷ 3 ∷ []) 1 3 clean 0 0 (1 ∷ 2 ∷ 3 ∷ []) 0 0
@@ -82,6 +81,6 @@ table =
     ∷ reading (1 ∷ 2 ∷ []) 2 1 (7 ∷ []) 10 0 2 1 (7 ∷ [])
     ∷ []
 
-pub cases : map (λ (c : Case). after (c .call) (c .start)) table ≡ map (λ (c : Case). c .gives) table
-unfolding after table overlay isSound unreadBytes moved withRoom appended fitting written filled lacksRoom writtenAll ready given readOff emptied unlessBroken availableCall cleanCall shiftCall writeCall writeAllCall fillCall readCall readInto
-cases = refl
+-- the statement: each call makes of its buffer what stands beside it
+abbrev pub AllHold : List Case → Type 0
+AllHold cases = map (λ (c : Case). after (c .call) (c .start)) cases ≡ map (λ (c : Case). c .gives) cases

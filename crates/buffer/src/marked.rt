@@ -4,9 +4,10 @@ use crate::Marks;
 use crate::span::fill;
 use crate::span::move_front;
 use crate::span::put;
+use fields::least;
 ghost use mathlib.Core.Path.{_≡_};
 ghost use mathlib.Core.Bool.{not};
-ghost use Prim.Native.Nat.{_+_, _-_, _≤_, min, max};
+ghost use Prim.Native.Nat.{_+_, _-_, _≤_, max};
 ghost use lib.ListN.{length};
 ghost use Rattle.buffer.specs.Buffer.{Sound, Leaves, buffer, at, moved, withRoom, fitting, written, filled, lacksRoom, writtenAll, ready, given, readOff};
 ghost use Rattle.fields.specs.Overlay.{overlay};
@@ -21,12 +22,6 @@ pub struct Taken {
 pub struct Put {
     pub done: bool,
     pub marks: Marks,
-}
-
-fn least(a: usize, b: usize) -> usize
-    ensures { λ r. ⌜ r ≡ min a b ⌝ }
-{
-    if a < b { a } else { b }
 }
 
 fn greatest(a: usize, b: usize) -> usize

@@ -1,38 +1,29 @@
--- Cases of the calls: one table, and one statement, which antt computes. Assumes nothing.
-use mathlib.Core.Path.{refl}
+-- Cases of the calls: one table. proofs/Cases.antt has the statement that each holds. Assumes nothing.
 use mathlib.Core.Bool.{true, false}
 use mathlib.Core.List.{List, [], _∷_}
 use Prim.Native.Nat.{ℕ}
 use lib.ListN.{replicate}
-use Rattle.fields.specs.Overlay.{overlay}
-use Rattle.fields.specs.Field.{bytesAt, counted, ordered, get, getBits}
-use Rattle.fields.specs.Case.{Case, case, AllHold}
-use Rattle.buffer.specs.Buffer.{at, isSound, unreadBytes, moved, withRoom, appended, fitting, written, lacksRoom, writtenAll, ready, given, readOff}
+use Rattle.fields.specs.Case.{Case, case}
+use Rattle.buffer.specs.Buffer.{at}
 use Rattle.answers.specs.declared.Stalls.the-variants.{Kept}
 use Rattle.wrapper.specs.declared.DataDirection.the-variants.{In}
 use Rattle.wrapper.specs.declared.status.CommandStatus.the-variants.{PhaseError}
-use Rattle.wrapper.specs.Counters.{residueOf}
 use Rattle.scsi.specs.declared.ScsiCommand.the-variants.{Inquiry}
-use Rattle.scsi.specs.Commands.{flag}
-use Rattle.scsi.specs.Decoding.{lists, counts, isListed, fieldsBy, decoded, decodeCall, plainCall}
 use Rattle.ring.specs.declared.State.{State}
 use Rattle.ring.specs.declared.State.the-variants.{CommandTransfer, CommandTransferInvalid, DataTransferToHost, DataTransferFromHost}
 use Rattle.device.specs.declared.Device.{Device}
 use Rattle.device.specs.declared.Status.the-variants.{Absent, Present}
 use Rattle.device.specs.Device.{withStatus}
-use Rattle.device.specs.Create.{isPacketSize, creation}
-use Rattle.device.specs.Broken.{commandFits, isWhole}
 use Rattle.calls.specs.declared.Figure.{Figure}
 use Rattle.calls.specs.declared.Request.{Request}
-use Rattle.calls.specs.Checks.{isBroken, unlessBroken, isIn}
-use Rattle.calls.specs.Status.{takesStatus, statusOf, withFigure, acceptedStatus, setStatusCall}
-use Rattle.calls.specs.Data.{worksIn, readOut, readCall, limited, writeIn, writeCall, writeAllIn, writeAllCall}
-use Rattle.calls.specs.Bus.{entering, resetCall, served, controlCall}
-use Rattle.calls.specs.Command.{showing, offered, stepping, isShown, commandCall, isOffered, offering, blockOf, stepCall}
+use Rattle.calls.specs.Status.{setStatusCall}
+use Rattle.calls.specs.Data.{readCall, writeCall, writeAllCall}
+use Rattle.calls.specs.Bus.{resetCall, controlCall}
+use Rattle.calls.specs.Command.{showing, offered, stepping, commandCall, stepCall}
 
 -- a device with P 8, max LUN 3 and an IO buffer of 32 bytes, three of them unread; L = 512, of which 2 are left; the command is 12 01
 -- 80 00 FF, for LUN 1, with a block of so many bytes
-device : State → ℕ → Device
+abbrev device : State → ℕ → Device
 device state blocklength = record {
   packetsize = 8;
   maxlun = 3;
@@ -44,16 +35,16 @@ device state blocklength = record {
   left = record { 0 = 2 };
 }
 
-io : List ℕ
+abbrev io : List ℕ
 io = 1 ∷ 2 ∷ 3 ∷ 4 ∷ replicate 28 5
 
-figure : ℕ → ℕ → Figure
+abbrev figure : ℕ → ℕ → Figure
 figure status processed = record { status = status; processed = processed }
 
-request : ℕ → ℕ → Request
+abbrev request : ℕ → ℕ → Request
 request type number = record { requesttype = type; request = number }
 
-pub table : List Case
+unfoldable pub table : List Case
 table =
     -- "L 512, figure 500: residue 12; 600: 0*": here as the status that is set
     case (setStatusCall (device DataTransferToHost 5) io (figure 2 500) .device .status) (Present PhaseError (record { 0 = 12 }))
@@ -98,7 +89,3 @@ table =
     -- 13: an empty block
     ∷ case (stepCall (device CommandTransferInvalid 0) io) (stepping 13 [])
     ∷ []
-
-pub table-holds : AllHold table
-unfolding table device io figure request overlay bytesAt counted ordered get getBits isSound unreadBytes moved withRoom appended fitting written lacksRoom writtenAll ready given readOff residueOf flag lists counts isListed fieldsBy decoded decodeCall plainCall isPacketSize creation commandFits isWhole isBroken unlessBroken isIn takesStatus statusOf withFigure acceptedStatus setStatusCall worksIn readOut limited writeIn writeAllIn entering resetCall served controlCall isShown commandCall isOffered offering blockOf stepCall
-table-holds = refl

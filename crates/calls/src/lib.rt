@@ -11,6 +11,7 @@ use device::Device;
 use device::Status;
 use device::numbers_of;
 use device::whole;
+use fields::least;
 use ring::State;
 use ring::state_number;
 use wrapper::counters::Left;
@@ -211,12 +212,6 @@ pub fn read_data(device: Device, dst: &mut [u8], io: &[u8]) -> Moved
         return left_at(device, after, Answer::Done, got.count);
     }
     refused(device, Answer::InvalidState)
-}
-
-fn least(a: usize, b: usize) -> usize
-    ensures { λ r. ⌜ r ≡ min a b ⌝ }
-{
-    if a < b { a } else { b }
 }
 
 // What fits of src goes into the buffer, and at most as much as is left.

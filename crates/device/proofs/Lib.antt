@@ -1,6 +1,10 @@
--- proofs.Laws     what each way through a function owes
--- proofs.Wholly   what follows for a whole record; the test says whether it is one
--- proofs.Unique   no second answer satisfies a promise
+-- proofs.Laws         what each way through a function owes
+-- proofs.Wholly       what follows for a whole record; the test says whether it is one
+-- proofs.Unique       no second answer satisfies a promise
+-- proofs.Computing    what cases compute with
+-- proofs.Cases        the cases of specs/Cases.antt hold
 pub mod Laws
 pub mod Wholly
 pub mod Unique
+pub mod Computing
+pub mod Cases

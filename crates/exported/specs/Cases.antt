@@ -1,57 +1,46 @@
--- Cases of the exported calls: one table, and one statement, which antt computes. Assumes nothing.
-use mathlib.Core.Path.{refl}
+-- Cases of the exported calls: one table of polls, and one of the other calls. proofs/Cases.antt has the statement that each holds. Assumes
+-- nothing: these are definitions.
 use mathlib.Core.Bool.{true, false}
 use mathlib.Core.List.{List, [], _∷_, _++_}
 use Prim.Native.Nat.{ℕ}
 use lib.ListN.{replicate}
 use Rattle.fields.specs.Overlay.{overlay}
-use Rattle.fields.specs.Field.{bytesAt, counted, digits, ordered, get, getBits, put}
-use Rattle.fields.specs.Case.{Case, case, AllHold}
-use Rattle.buffer.specs.Buffer.{isSound, unreadBytes, moved, withRoom, appended, fitting, written, lacksRoom, writtenAll, ready, given, readOff}
-use Rattle.wrapper.specs.Counters.{residueOf}
-use Rattle.scsi.specs.Commands.{flag}
-use Rattle.scsi.specs.Decoding.{lists, counts, isListed, fieldsBy, decoded, decodeCall, plainCall}
-use Rattle.device.specs.Create.{isPacketSize, creation}
-use Rattle.device.specs.Broken.{commandFits, isWhole}
+use Rattle.fields.specs.Case.{Case, case}
+use Rattle.bbb.specs.Poll.{Given, given}
 use Rattle.calls.specs.declared.Figure.{Figure}
 use Rattle.calls.specs.declared.Request.{Request}
-use Rattle.calls.specs.Checks.{isBroken, unlessBroken, isIn}
-use Rattle.calls.specs.Status.{takesStatus, statusOf, withFigure, acceptedStatus, setStatusCall}
-use Rattle.calls.specs.Data.{worksIn, readOut, limited, writeIn, writeAllIn}
-use Rattle.calls.specs.Bus.{entering, resetCall, served, controlCall}
-use Rattle.calls.specs.Command.{isShown, commandCall, isOffered, offering, blockOf, stepCall}
-use Rattle.recordbytes.specs.Record.{isKnown, stateOf, directionOf, statusBy, statusAt, marksAt, wrapperAt, deviceAt, store, storeState, storeMarks, storeLeft, storeWrapper, storeDevice, newRecord}
+use Rattle.recordbytes.specs.Record.{newRecord}
 use Rattle.exported.specs.Word.{word}
-use Rattle.exported.specs.Record.{isHeld, onDevice}
-use Rattle.exported.specs.Calls.{leaves, createOn, statusOn, resetOn, controlOn, moves, readOn, writeOn, writeAllOn}
+use Rattle.exported.specs.Record.{isHeld}
+use Rattle.exported.specs.Calls.{leaves, createOn, statusOn, resetOn, controlOn, moves, readOn, writeOn, writeAllOn, polls, pollOn}
 use Rattle.exported.specs.Command.{shows, commandOn, stepOn}
 
 -- the command 12 01 80 00 FF, an inquiry for a page
-block : List ℕ
+abbrev block : List ℕ
 block = 0x12 ∷ 0x01 ∷ 0x80 ∷ 0x00 ∷ 0xFF ∷ replicate 11 9
 
 -- a record with P 8, max LUN 3 and an IO buffer of 31 bytes: its state, whether a status is present, the marks, left, residue and status
 -- byte; then the wrapper, to the host, for LUN 1, with a block of five bytes, tag 7, L = 512
-bytes : ℕ → ℕ → ℕ → ℕ → ℕ → ℕ → ℕ → List ℕ
+abbrev bytes : ℕ → ℕ → ℕ → ℕ → ℕ → ℕ → ℕ → List ℕ
 bytes state present read write left residue status =
     (8 ∷ 3 ∷ state ∷ present ∷ 31 ∷ 0 ∷ 0 ∷ 0 ∷ read ∷ 0 ∷ 0 ∷ 0 ∷ write ∷ 0 ∷ 0 ∷ 0 ∷ left ∷ 0 ∷ 0 ∷ 0 ∷ residue ∷ 0 ∷ 0 ∷ 0 ∷ status ∷ [])
     ++ (1 ∷ 1 ∷ 5 ∷ 7 ∷ 0 ∷ 0 ∷ 0 ∷ 0 ∷ 2 ∷ 0 ∷ 0 ∷ [])
     ++ block
 
 -- three bytes unread, two left, and no status, in the state of a number
-in-state : ℕ → List ℕ
+abbrev in-state : ℕ → List ℕ
 in-state state = bytes state 0 1 4 2 0 0
 
-io : List ℕ
+abbrev io : List ℕ
 io = 1 ∷ 2 ∷ 3 ∷ 4 ∷ replicate 27 5
 
-figure : ℕ → ℕ → Figure
+abbrev figure : ℕ → ℕ → Figure
 figure status processed = record { status = status; processed = processed }
 
-request : ℕ → ℕ → Request
+abbrev request : ℕ → ℕ → Request
 request type number = record { requesttype = type; request = number }
 
-pub table : List Case
+unfoldable pub table : List Case
 table =
     -- each part in its place
     case (word 7 5 2 1 3) 0x0000000301020507
@@ -60,7 +49,7 @@ table =
     ∷ case (createOn (replicate 51 9) 64 0 64) (leaves 10 (replicate 51 9))
     ∷ case (createOn (replicate 52 9) 8 16 0) (leaves 2 (replicate 52 9))
     ∷ case (createOn [] 8 16 0) (leaves 2 [])
-    -- a number for no state, flag or status, or for no direction, beside a record that is whole; 51 and 53 bytes; another IO buffer
+    -- a number for no state, flag or status, or for no direction, beside a record that is whole; 53 bytes and none; another IO buffer
     ∷ case (isHeld (bytes 8 1 1 4 2 0 2) 31) true
     ∷ case (isHeld (bytes 9 1 1 4 2 0 2) 31) false
     ∷ case (isHeld (bytes 8 2 1 4 2 0 2) 31) false
@@ -105,6 +94,33 @@ table =
     ∷ case (stepOn (in-state 9) io (replicate 6 8)) (shows 10 (replicate 6 8))
     ∷ []
 
-pub table-holds : AllHold table
-unfolding table block bytes in-state io figure request overlay bytesAt counted digits ordered get getBits put isSound unreadBytes moved withRoom appended fitting written lacksRoom writtenAll ready given readOff residueOf flag lists counts isListed fieldsBy decoded decodeCall plainCall isPacketSize creation commandFits isWhole isBroken unlessBroken isIn takesStatus statusOf withFigure acceptedStatus setStatusCall worksIn readOut limited writeIn writeAllIn entering resetCall served controlCall isShown commandCall isOffered offering blockOf stepCall isKnown stateOf directionOf statusBy statusAt marksAt wrapperAt deviceAt store storeState storeMarks storeLeft storeWrapper storeDevice newRecord word isHeld onDevice createOn statusOn resetOn controlOn readOn writeOn writeAllOn commandOn stepOn
-table-holds = refl
+-- a poll with a packet buffer of 9s and this packet on the first OUT; the second is busy, and IN does its part
+abbrev offering : List ℕ → Given
+offering packet = given (replicate 8 9) packet [] (record { first = 0; second = 1; write = 0 })
+
+-- one in which both OUT are busy, with a packet buffer of n bytes
+abbrev silent : ℕ → Given
+silent n = given (replicate n 9) [] [] (record { first = 1; second = 1; write = 0 })
+
+-- a wrapper without data, for LUN 2, with a block of six bytes and tag 9: 23 of its bytes, and the other 8
+abbrev begun : List ℕ
+begun = 0x55 ∷ 0x53 ∷ 0x42 ∷ 0x43 ∷ 9 ∷ 0 ∷ 0 ∷ 0 ∷ 0 ∷ 0 ∷ 0 ∷ 0 ∷ 0 ∷ 2 ∷ 6 ∷ replicate 8 4
+
+unfoldable pub polling : List Case
+polling =
+    -- three bytes are unread and two are left: without a status they go out in 4, with one in 6; read mark and left are stored
+    case (pollOn (in-state 4) io (silent 8)) (polls 0x0000000300000000 (bytes 4 0 4 4 0 0 0) io (2 ∷ 3 ∷ 4 ∷ replicate 5 9))
+    ∷ case (pollOn (bytes 4 1 1 4 2 12 1) io (silent 8)) (polls 0x0000000300000000 (bytes 6 1 4 4 0 12 1) io (2 ∷ 3 ∷ 4 ∷ replicate 5 9))
+    -- one unread byte is filled up to two
+    ∷ case (pollOn (bytes 6 1 3 4 2 12 1) io (silent 8)) (polls 0x0000000200000000 (bytes 6 1 5 5 0 12 1) (1 ∷ 2 ∷ 3 ∷ 4 ∷ 0xFF ∷ replicate 26 5) (4 ∷ 0xFF ∷ replicate 6 9))
+    -- a packet of data comes in: one taken, and the write mark is stored
+    ∷ case (pollOn (in-state 7) io (offering (6 ∷ 7 ∷ []))) (polls 0x0000000001000000 (bytes 7 0 1 6 0 0 0) (1 ∷ 2 ∷ 3 ∷ 4 ∷ 6 ∷ 7 ∷ replicate 25 5) (replicate 8 9))
+    -- the status goes out: its first eight bytes, with the wrapper's tag
+    ∷ case (pollOn (bytes 5 1 1 4 0 12 1) io (silent 8)) (polls 0x0000000800000000 (bytes 3 1 8 13 0 12 1) (0x55 ∷ 0x53 ∷ 0x42 ∷ 0x53 ∷ 7 ∷ 0 ∷ 0 ∷ 0 ∷ 12 ∷ 0 ∷ 0 ∷ 0 ∷ 1 ∷ replicate 18 5) (0x55 ∷ 0x53 ∷ 0x42 ∷ 0x53 ∷ 7 ∷ 0 ∷ 0 ∷ 0 ∷ []))
+    -- the last eight bytes of a wrapper: it is stored, and awaits its status in 5
+    ∷ case (pollOn (bytes 0 0 0 23 0 0 0) (begun ++ replicate 8 0) (offering (replicate 8 4)))
+    (polls 0x0000000001000000 ((8 ∷ 3 ∷ 5 ∷ 0 ∷ 31 ∷ 0 ∷ 0 ∷ 0 ∷ 31 ∷ 0 ∷ 0 ∷ 0 ∷ 31 ∷ 0 ∷ 0 ∷ 0 ∷ replicate 9 0) ++ (0 ∷ 2 ∷ 6 ∷ 9 ∷ replicate 7 0) ++ replicate 16 4) (begun ++ replicate 8 4) (replicate 8 9))
+    -- 10 before 11, and 11: all as it was
+    ∷ case (pollOn (in-state 9) io (silent 7)) (polls 10 (in-state 9) io (replicate 7 9))
+    ∷ case (pollOn (in-state 4) io (silent 7)) (polls 11 (in-state 4) io (replicate 7 9))
+    ∷ []

@@ -1,5 +1,5 @@
 -- Polls in the midst of a transfer: the next packet of data crosses the wire, and nothing else happens. Only inner contracts cite these
--- definitions; what they come to is 01's rule of states 6 and 7 (proofs/Onward.antt). Assumes nothing: these are definitions.
+-- definitions; what they come to is 01's rules of states 4, 6 and 7 (proofs/Going.antt). Assumes nothing: these are definitions.
 use mathlib.Core.Path.{_≡_}
 use mathlib.Core.Bool.{Bool, not, _&&_, _||_}
 use mathlib.Core.List.{List}

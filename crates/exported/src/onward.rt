@@ -6,23 +6,18 @@ use buffer::marked;
 use buffer::span::put;
 use device::Numbers;
 use device::present;
+use fields::least;
 use recordbytes::store;
 use ring::State;
 use ring::state_number;
 use wrapper::counters::left_after;
 ghost use mathlib.Core.Path.{_≡_};
 ghost use mathlib.Core.Bool.{true};
-ghost use Prim.Native.Nat.{_≤_, min};
+ghost use Prim.Native.Nat.{_≤_};
 ghost use lib.ListN.{length};
 ghost use Rattle.device.specs.Broken.{Whole};
 ghost use Rattle.recordbytes.specs.Layout.{recordSize};
 ghost use Rattle.exported.specs.Onward.{sendsIn, sendsOn, SendsOn, takesOn, TakesOn};
-
-fn least(a: usize, b: usize) -> usize
-    ensures { λ x. ⌜ x ≡ min a b ⌝ }
-{
-    if a < b { a } else { b }
-}
 
 fn sends_in(state: u8) -> bool
     ensures { λ x. ⌜ x ≡ sendsIn state ⌝ }

@@ -5,6 +5,8 @@
 --     Case          tables of cases can be joined
 --     Only          what it is that a contract has no second answer
 --     Unique        no contract of this crate has one
+--     Computing     what cases compute with
+--     Cases         the cases of specs/Cases.antt hold
 pub mod Bools
 pub mod Seq
 pub mod Overlay
@@ -12,3 +14,5 @@ pub mod Field
 pub mod Case
 pub mod Only
 pub mod Unique
+pub mod Computing
+pub mod Cases

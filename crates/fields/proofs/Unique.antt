@@ -19,6 +19,8 @@ use Rattle.fields.proofs.bits_of.Kinds as bits-of-kinds
 use Rattle.fields.proofs.bits_of.Reads as bits-of
 use Rattle.fields.proofs.put_le32.Kinds as put-le32-kinds
 use Rattle.fields.proofs.put_le32.Reads as put-le32
+use Rattle.fields.proofs.least.Kinds as least-kinds
+use Rattle.fields.proofs.least.Reads as least
 
 pub byte-only : Only 1 byte-kinds.ps byte-kinds.r byte.Post (λ κs s. tt {0})
 byte-only κs a x y s t p q = (p ∙ sym q, refl)
@@ -43,3 +45,6 @@ bits-of-only κs a x y s t p q = (p ∙ sym q, refl)
 
 pub put-le32-only : Only 1 put-le32-kinds.ps put-le32-kinds.r put-le32.Post (λ κs s. now (s .0))
 put-le32-only κs a x y s t p q = (refl, p ∙ sym q)
+
+pub least-only : Only 0 least-kinds.ps least-kinds.r least.Post (λ κs s. tt {0})
+least-only κs a x y s t p q = (p ∙ sym q, refl)

@@ -1,12 +1,10 @@
--- Cases that pin down what the words of `Field` mean: one table, and one statement, which antt computes. Assumes nothing.
-use mathlib.Core.Path.{refl}
+-- Cases that pin down what the words of `Field` mean: one table. proofs/Cases.antt has the statement that each holds. Assumes nothing.
 use mathlib.Core.Bool.{true, false}
 use mathlib.Core.List.{List, [], _∷_}
-use Rattle.fields.specs.Overlay.{overlay}
-use Rattle.fields.specs.Field.{littleEndian, bigEndian, oneByte, bytesAt, counted, digits, ordered, get, put, tile, bits, getBits}
-use Rattle.fields.specs.Case.{Case, case, AllHold}
+use Rattle.fields.specs.Field.{littleEndian, bigEndian, oneByte, get, put, tile, bits, getBits}
+use Rattle.fields.specs.Case.{Case, case}
 
-pub table : List Case
+unfoldable pub table : List Case
 table =
     -- the two orders, and a single byte
     case (get (littleEndian 1 2) (9 ∷ 1 ∷ 2 ∷ [])) 0x0201
@@ -26,7 +24,3 @@ table =
     ∷ case (tile 0 (littleEndian 0 2 ∷ oneByte 1 ∷ []) 2) false
     ∷ case (tile 0 (littleEndian 0 2 ∷ oneByte 2 ∷ []) 3) true
     ∷ []
-
-pub hold : AllHold table
-unfolding table overlay bytesAt counted digits ordered get put tile getBits
-hold = refl

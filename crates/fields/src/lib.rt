@@ -1,7 +1,8 @@
 // Numbers in byte slices: the fields of the public standards' tables, in either order of their bytes, and bits of a byte.
-// A number of twice the width is two numbers side by side, so each function stands on the one above it.
+// A number of twice the width is two numbers side by side, so each function stands on the one above it. Beside them the lesser of two
+// numbers, which every crate that copies bytes needs.
 ghost use mathlib.Core.Path.{_≡_};
-ghost use Prim.Native.Nat.{_+_, _≤_, _<_};
+ghost use Prim.Native.Nat.{_+_, _≤_, _<_, min};
 ghost use lib.ListN.{length};
 ghost use Rattle.fields.specs.Field.{littleEndian, bigEndian, oneByte, get, put, bits, getBits};
 
@@ -76,4 +77,10 @@ pub fn bits_of(m: &[u8], at: usize, low: u8, width: u8) -> u8
     ensures { λ r. ⌜ r ≡ getBits (bits at low width) (now (m .entry)) ⌝ }
 {
     (m[at] >> low) % (1u8 << width)
+}
+
+pub fn least(a: usize, b: usize) -> usize
+    ensures { λ r. ⌜ r ≡ min a b ⌝ }
+{
+    if a < b { a } else { b }
 }

@@ -1,4 +1,6 @@
--- proofs.Laws    what each way through a function owes
--- proofs.Unique  no second answer satisfies a promise
+-- proofs.Laws         what each way through a function owes
+-- proofs.Unique       no second answer satisfies a promise
+-- proofs.Computing    what cases compute with
 pub mod Laws
 pub mod Unique
+pub mod Computing

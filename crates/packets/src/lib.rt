@@ -8,6 +8,7 @@ use answers::served;
 use buffer::Marks;
 use buffer::marked;
 use buffer::marked::Put;
+use fields::least;
 use wrapper::counters::Left;
 use wrapper::counters::Residue;
 use wrapper::status::CommandStatus;
@@ -32,12 +33,6 @@ pub struct Sent {
     pub outcome: Outcome,
     pub count: usize,
     pub marks: Marks,
-}
-
-fn least(a: usize, b: usize) -> usize
-    ensures { λ r. ⌜ r ≡ min a b ⌝ }
-{
-    if a < b { a } else { b }
 }
 
 // What is reported of a read for which room was asked, and n bytes put in where there was room.

@@ -15,6 +15,8 @@
 -- proofs.Premises     what is supposed, as tests; it can be met
 -- proofs.Enough       ten of the twelve premises suffice
 -- proofs.Needed       each of the ten is needed
+-- proofs.Computing    what cases compute with
+-- proofs.Cases        the cases of specs/Cases.antt hold
 pub mod Ceiling
 pub mod Filled
 pub mod Transfer
@@ -32,3 +34,5 @@ pub mod Called
 pub mod Premises
 pub mod Enough
 pub mod Needed
+pub mod Computing
+pub mod Cases

@@ -25,7 +25,8 @@ use Rattle.calls.specs.Checks.{bufferOf}
 use Rattle.calls.specs.Status.{takesStatus}
 use Rattle.readout.specs.History.{Socket, Event, poll, status, shows, next, arrivedIn, served, isReset, isStatus, accepts, Throughout}
 use Rattle.readout.specs.Demand.{Story, parsed, reached, told, ended, message, L, firmware, servedSince, waitsIn, Earlier, Full, Later, Supposed, number, Ends}
-use Rattle.readout.specs.Cases.{computing, sending, read64, bare8, short8, write8}
+use Rattle.readout.specs.Cases.{sending, read64, bare8, short8, write8}
+use Rattle.readout.proofs.Computing.{computing}
 use Rattle.readout.proofs.Demand.{demand}
 
 -- ---- what is supposed of events, as tests that can be computed

@@ -1,31 +1,13 @@
--- Document 01's cases of demand 3, and one of ours: stories, tables, and one statement for each table, which antt computes. Assumes nothing.
-use mathlib.Core.Path.{refl}
-use mathlib.Core.List.{List, [], _∷_, _++_, flatten}
+-- Document 01's cases of demand 3, and one of ours: stories and tables. proofs/Cases.antt has the statement that each holds. Assumes nothing:
+-- these are definitions.
+use mathlib.Core.List.{List, [], _∷_, _++_}
 use Prim.Native.Nat.{ℕ, _+_}
 use lib.ListN.{replicate, take, drop}
-use Rattle.fields.specs.Overlay.{overlay}
-use Rattle.fields.specs.Field.{bytesAt, counted, digits, ordered, get, put, getBits}
-use Rattle.fields.specs.Case.{Case, case, AllHold}
-use Rattle.buffer.specs.Buffer.{isSound, unreadBytes, moved, withRoom, appended, fitting, written, filled, lacksRoom, writtenAll, ready, readOff, emptied}
-use Rattle.buffer.specs.Buffer as buffer
-use Rattle.answers.specs.Answers.{endpointOf}
-use Rattle.wrapper.specs.Counters.{fallen, residueOf}
-use Rattle.wrapper.specs.Status.{statusBytes}
-use Rattle.wrapper.specs.Wrapper.{isSigned, isBlockLength, isValid, directionOf, wrapperOf, blank}
-use Rattle.packets.specs.Packets.{handed, readTold, takesOne, brought, received, accepted, sendTold, sentCount, sentOff, sentInto, filledUp, withStatus}
-use Rattle.device.specs.Create.{isPacketSize, creation, newDevice}
-use Rattle.device.specs.Broken.{commandFits, isWhole}
-use Rattle.bbb.specs.Poll.{Given, given, statusBy, sendStatus, dataBy, sendData, offers, offeredBy, takeBy, takeData, statusPut, enterStatus, statusAwaitRule, noDataRule, toHostEndingRule, fallsShort, toHostRule, fromHostEndingRule, fromHostRule, startRule, messageAt, parseRule, readBy, readOneBy, readCbwRule, statusTransferRule, ruleIn, pollRule, isFitting, pollCall}
-use Rattle.calls.specs.Checks.{isBroken, unlessBroken, isIn}
-use Rattle.calls.specs.Status.{takesStatus, statusOf, withFigure, acceptedStatus, setStatusCall}
-use Rattle.calls.specs.Data.{worksIn, readOut, limited, writeIn}
-use Rattle.readout.specs.History.{Socket, socket, Event, poll, status, write, read, commandStep, Shows, shows, next, run, all, isServed, isPoll, served, servedIn}
-use Rattle.readout.specs.Demand.{Story, told, ended, R, number, host, servedSince, crossed, ceiling, filledWith, theData, theStatus}
-
--- to unfold this is to unfold all that the cases compute with
-unfoldable pub computing : Unit {0}
-unfolding flatten overlay bytesAt counted digits ordered get put getBits isSound unreadBytes moved withRoom appended fitting written filled lacksRoom writtenAll ready buffer.given readOff emptied endpointOf fallen residueOf statusBytes isSigned isBlockLength isValid directionOf wrapperOf blank handed readTold takesOne brought received accepted sendTold sentCount sentOff sentInto filledUp withStatus isPacketSize creation commandFits isWhole statusBy sendStatus dataBy sendData offers offeredBy takeBy takeData statusPut enterStatus statusAwaitRule noDataRule toHostEndingRule fallsShort toHostRule fromHostEndingRule fromHostRule startRule messageAt parseRule readBy readOneBy readCbwRule statusTransferRule ruleIn pollRule isFitting pollCall isBroken unlessBroken isIn takesStatus statusOf withFigure acceptedStatus setStatusCall worksIn readOut limited writeIn shows run all isServed isPoll served servedIn ceiling filledWith
-computing = tt
+use Rattle.fields.specs.Case.{Case, case}
+use Rattle.device.specs.Create.{newDevice}
+use Rattle.bbb.specs.Poll.{Given, given}
+use Rattle.readout.specs.History.{Socket, socket, Event, poll, status, write, read, commandStep, Shows, shows, next, all}
+use Rattle.readout.specs.Demand.{Story, told, ended, R, number, host, servedSince, crossed, ceiling, theData, theStatus}
 
 -- ---- the polls
 
@@ -118,26 +100,26 @@ write8 = record {
 -- ---- what they show
 
 -- what each event of a history answered
-answersIn : List Event → Socket → List ℕ
+unfoldable pub answersIn : List Event → Socket → List ℕ
 answersIn h s = all (λ (o : Shows). o .number ∷ []) h s
 
 -- what each poll sent that sent something
-behind : List ℕ → List (List ℕ) → List (List ℕ)
+unfoldable pub behind : List ℕ → List (List ℕ) → List (List ℕ)
 behind [] packets = packets
 behind (b ∷ bs) packets = (b ∷ bs) ∷ packets
 
-packetsIn : List Event → Socket → List (List ℕ)
+unfoldable pub packetsIn : List Event → Socket → List (List ℕ)
 packetsIn [] s = []
 packetsIn (e ∷ h) s = behind (shows e s .sent) (packetsIn h (next e s))
 
 -- since the status, with a last poll; and all that the host got with it
-packets : Story → Given → List (List ℕ)
+unfoldable pub packets : Story → Given → List (List ℕ)
 packets t g = packetsIn (t .after ++ (poll g ∷ [])) (told t)
 
-whole : Story → Given → List ℕ
+unfoldable pub whole : Story → Given → List ℕ
 whole t g = host t ++ shows (poll g) (ended t) .sent
 
-pub starred : List Case
+unfoldable pub starred : List Case
 starred =
     -- "P 64, R 130: 4 served polls*.": three are over, with a busy poll (6) and a refused one (11) between them, and the fourth ends it
     case (R read64) 130
@@ -168,7 +150,7 @@ starred =
     ∷ case (theData short8 ++ theStatus short8) (1 ∷ 2 ∷ 3 ∷ 4 ∷ 0xFF ∷ 0xFF ∷ 0xFF ∷ 0xFF ∷ 0xFF ∷ 0xFF ∷ 0x55 ∷ 0x53 ∷ 0x42 ∷ 0x53 ∷ 1 ∷ 0 ∷ 0 ∷ 0 ∷ 6 ∷ 0 ∷ 0 ∷ 0 ∷ 0 ∷ [])
     ∷ []
 
-pub ours : List Case
+unfoldable pub ours : List Case
 ours =
     -- 12 of 20 are left at the second status: two packets of them, 8 bytes and 4, with a busy OUT between, and two of the status
     case (R write8) 12
@@ -183,11 +165,3 @@ ours =
     ∷ case (ceiling 4294967295 64 + ceiling 13 64) 67108865
     ∷ case (ceiling 4294967295 8 + ceiling 13 8) 536870914
     ∷ []
-
-pub starred-hold : AllHold starred
-unfolding starred read64 bare8 short8 answersIn behind packetsIn packets whole computing
-starred-hold = refl
-
-pub ours-hold : AllHold ours
-unfolding ours short8 write8 answersIn whole computing
-ours-hold = refl

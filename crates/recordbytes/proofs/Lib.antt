@@ -4,9 +4,13 @@
 -- proofs.Parts        the parts of a device
 -- proofs.RoundTrip    what was stored is read back
 -- proofs.Unique       no second answer satisfies a promise
+-- proofs.Computing    what cases compute with
+-- proofs.Cases        the cases of specs/Cases.antt hold
 pub mod Reading
 pub mod Storing
 pub mod Stored
 pub mod Parts
 pub mod RoundTrip
 pub mod Unique
+pub mod Computing
+pub mod Cases

@@ -1,30 +1,27 @@
--- Cases: one table, and one statement, which antt computes. Assumes nothing.
-use mathlib.Core.Path.{refl}
+-- Cases: one table. proofs/Cases.antt has the statement that each holds. Assumes nothing.
 use mathlib.Core.Bool.{true, false}
 use mathlib.Core.List.{List, [], _∷_}
 use Prim.Native.Nat.{ℕ}
 use lib.ListN.{take, replicate}
-use Rattle.fields.specs.Overlay.{overlay}
-use Rattle.fields.specs.Field.{bytesAt, counted, digits, ordered, get, put, tile}
-use Rattle.fields.specs.Case.{Case, case, AllHold}
+use Rattle.fields.specs.Field.{tile}
+use Rattle.fields.specs.Case.{Case, case}
 use Rattle.buffer.specs.Buffer.{at}
 use Rattle.ring.specs.declared.State.the-variants.{DataTransferNoData}
 use Rattle.wrapper.specs.declared.DataDirection.the-variants.{Out}
 use Rattle.wrapper.specs.declared.status.CommandStatus.the-variants.{Failed}
 use Rattle.device.specs.declared.Status.the-variants.{Absent, Present}
-use Rattle.calls.specs.Status.{statusOf}
 use Rattle.recordbytes.specs.Layout as field
-use Rattle.recordbytes.specs.Record.{isKnown, stateOf, directionOf, statusBy, statusAt, marksAt, wrapperAt, deviceAt, store, storeState, storeMarks, storeLeft, storeStatus, storeWrapper, storeDevice, newRecord}
+use Rattle.recordbytes.specs.Record.{isKnown, statusAt, deviceAt, store, storeStatus, storeDevice, newRecord}
 
 -- a record whose every byte is its own place, but for the numbers of state, flag, status and direction
-numbered : ℕ → ℕ → ℕ → ℕ → List ℕ
+abbrev numbered : ℕ → ℕ → ℕ → ℕ → List ℕ
 numbered state flag status direction =
     0 ∷ 1 ∷ state ∷ flag ∷ 4 ∷ 5 ∷ 6 ∷ 7 ∷ 8 ∷ 9 ∷ 10 ∷ 11 ∷ 12 ∷ 13 ∷ 14 ∷ 15 ∷ 16 ∷ 17 ∷ 18 ∷ 19 ∷ 20 ∷ 21 ∷ 22 ∷ 23
     ∷ status ∷ direction ∷ 26 ∷ 27 ∷ 28 ∷ 29 ∷ 30 ∷ 31 ∷ 32 ∷ 33 ∷ 34 ∷ 35 ∷ 36 ∷ 37 ∷ 38 ∷ 39 ∷ 40 ∷ 41 ∷ 42 ∷ 43
     ∷ 44 ∷ 45 ∷ 46 ∷ 47 ∷ 48 ∷ 49 ∷ 50 ∷ 51 ∷ []
 
-pub cases : List Case
-cases =
+unfoldable pub table : List Case
+table =
     -- the fields stand one behind the other, without a gap
     case (tile 0 field.table 52) true
     -- the bytes of a new device with P 64, max LUN 3 and a buffer of 512
@@ -66,7 +63,3 @@ cases =
     ∷ case (store field.left 0x04030201 (newRecord 64 3 512))
     (64 ∷ 3 ∷ 0 ∷ 0 ∷ 0 ∷ 2 ∷ 0 ∷ 0 ∷ 0 ∷ 0 ∷ 0 ∷ 0 ∷ 0 ∷ 0 ∷ 0 ∷ 0 ∷ 1 ∷ 2 ∷ 3 ∷ 4 ∷ replicate 32 0)
     ∷ []
-
-pub cases-hold : AllHold cases
-unfolding cases numbered overlay bytesAt counted digits ordered get put tile statusOf isKnown stateOf directionOf statusBy statusAt marksAt wrapperAt deviceAt store storeState storeMarks storeLeft storeWrapper storeDevice newRecord
-cases-hold = refl

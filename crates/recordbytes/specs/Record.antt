@@ -116,7 +116,7 @@ storeWrapper w r =
     (store field.blockLength (w .blocklength)
     (store field.lun (w .lun)
     (store field.direction (directionNumber (w .direction)) r)))))
-    36 (w .block)
+    (field.block .start) (w .block)
 
 -- what a call that leaves this device leaves of the record's bytes; P, max LUN and the buffer's length never change
 unfoldable pub storeDevice : Device → List ℕ → List ℕ

@@ -18,10 +18,10 @@ use Rattle.fields.proofs.Bools.{and-left, and-right}
 use Rattle.scsi.specs.declared.PageControl.{PageControl}
 use Rattle.scsi.specs.declared.PageControl.the-variants.{CurrentValues}
 use Rattle.scsi.specs.declared.ScsiCommand.{ScsiCommand}
-use Rattle.scsi.specs.declared.ScsiCommand.the-variants.{Unknown}
+use Rattle.scsi.specs.declared.ScsiCommand.the-variants.{Unknown, Inquiry, TestUnitReady, RequestSense, ModeSense6, ModeSense10, ReadCapacity10, ReadCapacity16, Read, Write, ReadFormatCapacities}
 use Rattle.scsi.specs.declared.table.Row.{Row}
 use Rattle.scsi.specs.Commands.{flag, pageControl}
-use Rattle.scsi.specs.Decoding.{Layout, rows, opcodeOf, lists, counts, isListed, fieldsBy, isUnknown, Outcome, decoded, decodeCall}
+use Rattle.scsi.specs.Decoding.{Layout, rows, opcodeOf, lists, counts, isListed, fieldsBy, Outcome, decoded, decodeCall}
 
 -- ---- the table, in the code's form
 
@@ -67,6 +67,20 @@ missing A (r ∷ rs) op b m =
     rw (ne-eqb (r .opcode) op (λ e. before B rs op m .1 (sym e))) (missing B rs op b m)
 
 -- ---- a listed block is known, and no other
+
+-- whether a command is Unknown
+abbrev isUnknown : ScsiCommand → Bool
+isUnknown (Unknown cmd) = true
+isUnknown (Inquiry evpd page allocation) = false
+isUnknown TestUnitReady = false
+isUnknown (RequestSense desc allocation) = false
+isUnknown (ModeSense6 dbd control page subpage allocation) = false
+isUnknown (ModeSense10 dbd control page subpage allocation) = false
+isUnknown ReadCapacity10 = false
+isUnknown (ReadCapacity16 allocation) = false
+isUnknown (Read address blocks) = false
+isUnknown (Write address blocks) = false
+isUnknown (ReadFormatCapacities allocation) = false
 
 -- no row of a table reads Unknown
 allKnown : List Layout → List ℕ → Bool

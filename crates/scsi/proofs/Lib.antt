@@ -1,5 +1,9 @@
 -- Laws that no one function owns.
---     Laws      the table's rule, once over any table; and what each way through a function owes
---     Unique    no contract has a second answer
+--     Laws         the table's rule, once over any table; and what each way through a function owes
+--     Unique       no contract has a second answer
+--     Computing    what cases compute with
+--     Cases        the cases of specs/Cases.antt hold
 pub mod Laws
 pub mod Unique
+pub mod Computing
+pub mod Cases

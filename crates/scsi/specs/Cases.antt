@@ -1,26 +1,23 @@
--- Document 01's cases of decoding: one table, and one statement, which antt computes. Assumes nothing.
-use mathlib.Core.Path.{refl}
+-- Document 01's cases of decoding: one table. proofs/Cases.antt has the statement that each holds. Assumes nothing.
 use mathlib.Core.Bool.{true, false}
 use mathlib.Core.List.{List, [], _∷_, _++_}
 use Prim.Native.Nat.{ℕ}
 use lib.ListN.{replicate}
-use Rattle.fields.specs.Field.{bytesAt, counted, ordered, get, getBits}
-use Rattle.fields.specs.Case.{Case, case, AllHold}
+use Rattle.fields.specs.Case.{Case, case}
 use Rattle.scsi.specs.declared.PageControl.the-variants.{DefaultValues, SavedValues}
 use Rattle.scsi.specs.declared.ScsiCommand.{ScsiCommand}
 use Rattle.scsi.specs.declared.ScsiCommand.the-variants.{Unknown, Inquiry, TestUnitReady, RequestSense, ModeSense6, ModeSense10, ReadCapacity10, ReadCapacity16, Read, Write, ReadFormatCapacities}
-use Rattle.scsi.specs.Commands.{flag, pageControl}
-use Rattle.scsi.specs.Decoding.{lists, counts, isListed, fieldsBy, decoded, decodeCall, plainCall}
+use Rattle.scsi.specs.Decoding.{decodeCall, plainCall}
 
 -- a block and the command that it decodes to, with extended addressing off; and on
-plain : List ℕ → ScsiCommand → Case
+abbrev plain : List ℕ → ScsiCommand → Case
 plain b c = case (plainCall b) (record { number = 0; commands = c ∷ [] })
 
-extended : List ℕ → ScsiCommand → Case
+abbrev extended : List ℕ → ScsiCommand → Case
 extended b c = case (decodeCall true b) (record { number = 0; commands = c ∷ [] })
 
 -- "(starred ones are proved)": those of 01 that concern this crate
-pub starred : List Case
+unfoldable pub starred : List Case
 starred =
     -- "12 01 80 00 FF: EVPD, page 128, allocation 255*"
     plain (0x12 ∷ 0x01 ∷ 0x80 ∷ 0x00 ∷ 0xFF ∷ []) (Inquiry true 128 255)
@@ -31,7 +28,7 @@ starred =
     ∷ []
 
 -- and ours: each row at its shortest length, with bytes that tell each field's place and order, and a byte less
-pub ours : List Case
+unfoldable pub ours : List Case
 ours =
     -- "four bytes: Unknown"
     plain (0x12 ∷ 0x01 ∷ 0x80 ∷ 0x00 ∷ []) (Unknown 0x12)
@@ -59,11 +56,3 @@ ours =
     ∷ case (plainCall []) (record { number = 13; commands = [] })
     ∷ case (decodeCall true []) (record { number = 13; commands = [] })
     ∷ []
-
-pub starred-hold : AllHold starred
-unfolding starred plain extended bytesAt counted ordered get getBits flag pageControl lists counts isListed fieldsBy decoded decodeCall plainCall
-starred-hold = refl
-
-pub ours-hold : AllHold ours
-unfolding ours plain extended bytesAt counted ordered get getBits flag pageControl lists counts isListed fieldsBy decoded decodeCall plainCall
-ours-hold = refl

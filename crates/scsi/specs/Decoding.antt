@@ -1,6 +1,6 @@
 -- Document 01, section Decoding: the table, and what a block decodes to. Assumes nothing: these are definitions.
 use Prim.Native.Nat.{ℕ}
-use mathlib.Core.Bool.{Bool, true, false, cond, not, _&&_, _||_}
+use mathlib.Core.Bool.{Bool, false, cond, not, _&&_, _||_}
 use mathlib.Core.List.{List, [], _∷_}
 use lib.Dec.{eqb, leb}
 use lib.ListN.{length}
@@ -8,7 +8,7 @@ use Rattle.fields.specs.Field.{oneByte, get}
 use Rattle.scsi.specs.declared.Decoded.{Decoded}
 use Rattle.scsi.specs.declared.Decoded.the-variants.{Command, Empty}
 use Rattle.scsi.specs.declared.ScsiCommand.{ScsiCommand}
-use Rattle.scsi.specs.declared.ScsiCommand.the-variants.{Unknown, Inquiry, TestUnitReady, RequestSense, ModeSense6, ModeSense10, ReadCapacity10, ReadCapacity16, Read, Write, ReadFormatCapacities}
+use Rattle.scsi.specs.declared.ScsiCommand.the-variants.{Unknown}
 use Rattle.scsi.specs.Commands.{testUnitReady, requestSense, inquiry, modeSense6, modeSense10, readCapacity10, readCapacity16, read10, write10, read16, write16, readFormatCapacities}
 
 -- a row of the table: an opcode, its shortest block, and the fields of its command
@@ -61,20 +61,6 @@ fieldsBy (r ∷ rs) opcode b = cond (eqb (r .opcode) opcode) (r .fields b) (fiel
 -- "Anything else, or shorter, is Unknown with its opcode."
 unfoldable pub decoded : Bool → List ℕ → ScsiCommand
 decoded extended b = cond (isListed extended (opcodeOf b) (length b)) (fieldsBy rows (opcodeOf b) b) (Unknown (opcodeOf b))
-
--- whether a command is Unknown
-abbrev pub isUnknown : ScsiCommand → Bool
-isUnknown (Unknown cmd) = true
-isUnknown (Inquiry evpd page allocation) = false
-isUnknown TestUnitReady = false
-isUnknown (RequestSense desc allocation) = false
-isUnknown (ModeSense6 dbd control page subpage allocation) = false
-isUnknown (ModeSense10 dbd control page subpage allocation) = false
-isUnknown ReadCapacity10 = false
-isUnknown (ReadCapacity16 allocation) = false
-isUnknown (Read address blocks) = false
-isUnknown (Write address blocks) = false
-isUnknown (ReadFormatCapacities allocation) = false
 
 -- 01's number of a decoding, and the command where there is one
 pub record Outcome : Type 0 where

@@ -1,27 +1,25 @@
--- Document 01's cases of the wrapper, the status and the residue: one table, and one statement, which antt computes. Assumes nothing.
-use mathlib.Core.Path.{refl}
+-- Document 01's cases of the wrapper, the status and the residue: one table. proofs/Cases.antt has the statement that each holds. Assumes nothing.
 use mathlib.Core.Bool.{true, false}
 use mathlib.Core.List.{List, [], _∷_, _++_}
 use Prim.Native.Nat.{ℕ}
 use lib.ListN.{replicate}
-use Rattle.fields.specs.Overlay.{overlay}
-use Rattle.fields.specs.Field.{tile, bytesAt, counted, digits, ordered, get, put, getBits}
-use Rattle.fields.specs.Case.{Case, case, AllHold}
+use Rattle.fields.specs.Field.{tile, digits}
+use Rattle.fields.specs.Case.{Case, case}
 use Rattle.wrapper.specs.declared.DataDirection.the-variants.{Out, In, NotExpected}
 use Rattle.wrapper.specs.declared.status.CommandStatus.the-variants.{Failed}
 use Rattle.wrapper.specs.declared.verdict.Verdict.the-variants.{Invalid, ValidOnly, Meaningful}
 use Rattle.wrapper.specs.Counters.{fallen, residueOf}
 use Rattle.wrapper.specs.Status.{statusTable, statusSignature, statusNumber, statusBytes, statusCall}
-use Rattle.wrapper.specs.Wrapper.{wrapperTable, wrapperSignature, isSigned, isBlockLength, isValid, directionOf, wrapperOf, blank, parsed}
-use Rattle.wrapper.specs.Verdict.{isMeaningful, verdictOf}
+use Rattle.wrapper.specs.Wrapper.{wrapperTable, wrapperSignature, directionOf, wrapperOf, blank, parsed}
+use Rattle.wrapper.specs.Verdict.{verdictOf}
 
 -- a wrapper with tag 01020304, L = 512, and these bytes for flags, LUN and block length
-message : ℕ → ℕ → ℕ → List ℕ
+abbrev message : ℕ → ℕ → ℕ → List ℕ
 message flags lun blocklength =
     0x55 ∷ 0x53 ∷ 0x42 ∷ 0x43 ∷ 4 ∷ 3 ∷ 2 ∷ 1 ∷ 0 ∷ 2 ∷ 0 ∷ 0 ∷ flags ∷ lun ∷ blocklength ∷ 0x28 ∷ replicate 15 0
 
 -- "(starred ones are proved)": those of 01 that concern this crate
-pub starred : List Case
+unfoldable pub starred : List Case
 starred =
     -- "Block length 0 and 17 invalid*"
     case (parsed (message 0x80 0 0) .valid) false
@@ -34,7 +32,7 @@ starred =
     ∷ []
 
 -- and ours, each at a bound
-pub ours : List Case
+unfoldable pub ours : List Case
 ours =
     -- "1 and 16 valid"
     case (parsed (message 0x80 0 1) .valid) true
@@ -62,11 +60,3 @@ ours =
     ∷ case (digits 4 wrapperSignature) (0x55 ∷ 0x53 ∷ 0x42 ∷ 0x43 ∷ [])
     ∷ case (digits 4 statusSignature) (0x55 ∷ 0x53 ∷ 0x42 ∷ 0x53 ∷ [])
     ∷ []
-
-pub starred-hold : AllHold starred
-unfolding starred message tile overlay bytesAt counted digits ordered get put getBits fallen residueOf statusBytes statusCall isSigned isBlockLength isValid directionOf wrapperOf blank parsed isMeaningful verdictOf
-starred-hold = refl
-
-pub ours-hold : AllHold ours
-unfolding ours message tile overlay bytesAt counted digits ordered get put getBits fallen residueOf statusBytes statusCall isSigned isBlockLength isValid directionOf wrapperOf blank parsed isMeaningful verdictOf
-ours-hold = refl

@@ -1,0 +1,6 @@
+-- To unfold this is to unfold all that cases over this crate's definitions compute with. Assumes nothing.
+use Rattle.benchline.specs.Line.{digit, decimalUpTo, decimal, number, numbers, hex, bytesText, fields, lineOf}
+
+unfoldable pub computing : Unit {0}
+unfolding digit decimalUpTo decimal number numbers hex bytesText fields lineOf
+computing = tt

@@ -1,0 +1,13 @@
+-- Each case of specs/Cases.antt holds: antt computes it. Assumes nothing.
+use mathlib.Core.Path.{refl}
+use Rattle.fields.specs.Case.{AllHold}
+use Rattle.exported.specs.Cases.{table, polling}
+use Rattle.exported.proofs.Computing.{computing}
+
+pub table-hold : AllHold table
+unfolding table computing
+table-hold = refl
+
+pub polling-hold : AllHold polling
+unfolding polling computing
+polling-hold = refl

@@ -1,0 +1,9 @@
+-- To unfold this is to unfold all that cases over this crate's definitions compute with. Assumes nothing.
+use Rattle.buffer.proofs.Computing as buffer
+use Rattle.wrapper.proofs.Computing as wrapper
+use Rattle.answers.proofs.Computing as answers
+use Rattle.packets.specs.Packets.{handed, readTold, takesOne, brought, received, accepted, sendTold, sentCount, sentOff, sentInto, filledUp, withStatus}
+
+unfoldable pub computing : Unit {0}
+unfolding handed readTold takesOne brought received accepted sendTold sentCount sentOff sentInto filledUp withStatus buffer.computing wrapper.computing answers.computing
+computing = tt

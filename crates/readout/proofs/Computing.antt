@@ -1,0 +1,10 @@
+-- To unfold this is to unfold all that cases over this crate's definitions compute with. Assumes nothing.
+use mathlib.Core.List.{flatten}
+use Rattle.bbb.proofs.Computing as bbb
+use Rattle.calls.proofs.Computing as calls
+use Rattle.readout.specs.History.{shows, run, all, isServed, isPoll, served, servedIn}
+use Rattle.readout.specs.Demand.{ceiling, filledWith}
+
+unfoldable pub computing : Unit {0}
+unfolding flatten shows run all isServed isPoll served servedIn ceiling filledWith bbb.computing calls.computing
+computing = tt
