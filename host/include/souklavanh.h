@@ -264,7 +264,8 @@ uint64_t souk_poll(uint8_t *record, size_t record_len, uint8_t *io, size_t io_le
 uint32_t souk_set_status(uint8_t *record, size_t record_len, const uint8_t *io, size_t io_len, uint8_t status,
                          uint32_t figure);
 
-/* Takes data that came from the host: as much as is there and fits into dst. The rest of dst is kept. Answers 0, 3, 10. */
+/* Takes data that came from the host: as much as is there and fits into dst. The rest of dst is kept. Take all of it before the
+   next poll: once nothing is left on the wire, or a status is set, the poll drops what was not taken. Answers 0, 3, 10. */
 uint64_t souk_read_data(uint8_t *record, size_t record_len, const uint8_t *io, size_t io_len, uint8_t *dst, size_t dst_len);
 
 /* Puts in data for the host: as much of src as fits, and at most as much as is left on the wire (unread bytes that were put
@@ -281,7 +282,8 @@ uint64_t souk_try_write_data_all(uint8_t *record, size_t record_len, uint8_t *io
    (see souk_create). Answers 0, 10. */
 uint64_t souk_reset(uint8_t *record, size_t record_len, const uint8_t *io, size_t io_len);
 
-/* A control request's first two bytes. Answers 0, 10; 0 also where the request does not count and nothing was done.
+/* A control request's first two bytes. Hand over only requests for the disk's own interface (wIndex): the other bytes are not
+   looked at. Answers 0, 10; 0 also where the request does not count and nothing was done.
    A1h, FEh (Get Max LUN): souk_flag is 1 and souk_count the byte to answer.
    A1h, FFh: as souk_reset; souk_stalls says to unstall. BOT's own reset request is 21h, FFh and does not count here. */
 uint64_t souk_control(uint8_t *record, size_t record_len, const uint8_t *io, size_t io_len, uint8_t request_type,

@@ -75,7 +75,7 @@ pub fn is_valid(found: Found) -> bool
     }
 }
 
-// Decide and act.
+// Decide and act. It is long for taking parts out of records and putting others together; the work is two calls.
 pub fn go_on(
     n: Numbers,
     o: Opened,

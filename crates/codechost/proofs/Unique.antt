@@ -7,6 +7,8 @@ use denote.Ref.{now}
 use Rattle.fields.proofs.Only.{Only}
 use Rattle.codechost.specs.Decode.{Shown, shown}
 use Rattle.codechost.specs.Layout.{Parse, parse, Status}
+use Rattle.codechost.proofs.decode.put_command.Kinds as put-command-kinds
+use Rattle.codechost.proofs.decode.put_command.Reads as put-command
 use Rattle.codechost.proofs.decode.scsi_decode.Kinds as scsi-decode-kinds
 use Rattle.codechost.proofs.decode.scsi_decode.Reads as scsi-decode
 use Rattle.codechost.proofs.decode.scsi_decode_told.Kinds as scsi-decode-told-kinds
@@ -20,6 +22,9 @@ use Rattle.codechost.proofs.layout.wrapper_verdict.Reads as wrapper-ver
 
 shown-once : {n k : ℕ} {l m : List ℕ} → shown n l ≡ shown k m → (n ≡ k) × (l ≡ m)
 shown-once e = (ap (λ (s : Shown). s .number) e, ap (λ (s : Shown). s .lent) e)
+
+pub put-command-only : Only 1 put-command-kinds.ps put-command-kinds.r put-command.Post (λ κs s. now (s .0))
+put-command-only κs a x y s t p q = (refl, p ∙ sym q)
 
 pub scsi-decode-only : Only 2 scsi-decode-kinds.ps scsi-decode-kinds.r scsi-decode.Post (λ κs s. now (s .1 .0))
 scsi-decode-only κs a x y s t p q = shown-once (p ∙ sym q)

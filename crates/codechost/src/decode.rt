@@ -36,6 +36,7 @@ fn put_six(lent: &mut [u64], kind: u64, a: u64, b: u64, c: u64, d: u64, e: u64)
     lent[5] = e;
 }
 
+// The numbers of a command: an arm for each of the twelve, so it is longer than other functions.
 pub fn put_command(lent: &mut [u64], command: ScsiCommand)
     requires { ⌜ length (now lent) ≡ 6 ⌝ }
     ensures { λ _. ⌜ now (lent .exit) ≡ numbers command ⌝ }

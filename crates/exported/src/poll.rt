@@ -114,6 +114,7 @@ fn go_round(
     told(report)
 }
 
+// 10, then 11; then the two kinds of poll in the midst of a transfer, which most are; then any other. Half its lines are parameters.
 #[no_mangle]
 pub extern "C" fn souk_poll(
     record: &mut [u8],

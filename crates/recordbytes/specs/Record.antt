@@ -84,9 +84,9 @@ deviceAt r = record {
   left = record { 0 = get field.left r };
 }
 
--- ---- storing: "Only the fields that changed are written back."
+-- ---- storing
 
--- the number n in a field: where it stands there already nothing is written
+-- the number n in a field: where it stands there already the bytes stay
 unfoldable pub store : Field → ℕ → List ℕ → List ℕ
 store f n r = cond (eqb (get f r) n) r (put f n r)
 
