@@ -67,14 +67,17 @@ wrapperWrites w =
     ∷ write field.tag (w .tag) ∷ write field.declared (w .length) ∷ []
 
 module _ (r : List ℕ) (long : length r ≡ field.recordSize) (w : Wrapper) (sixteen : length (w .block) ≡ 16) where
-  -- a field in front of the block, and apart from the wrapper's numbers
-  pub behind-wrapper : (g : Field) → g .start + g .width ≤ 36 → areApart g (wrapperWrites w) ≡ true → get g (storeWrapper w r) ≡ get g r
+  -- a field in front of the block, which is laid over behind it
+  pub before-block : (g : Field) → g .start + g .width ≤ 36 → get g (storeWrapper w r) ≡ get g (storeAll (wrapperWrites w) r)
   unfolding storeWrapper get bytesAt
-  behind-wrapper g h a =
+  before-block g h =
       let q : List ℕ = storeAll (wrapperWrites w) r in
       let whole : length q ≡ 52 = length-all 52 (wrapperWrites w) r long refl in
       ap (λ (l : List ℕ). counted (ordered (g .order) l)) (part-before q 36 (w .block) (g .start) (g .width) h (omega arith))
-      ∙ get-elsewhere 52 g (wrapperWrites w) r long refl a
+
+  -- and apart from the wrapper's numbers
+  pub behind-wrapper : (g : Field) → g .start + g .width ≤ 36 → areApart g (wrapperWrites w) ≡ true → get g (storeWrapper w r) ≡ get g r
+  behind-wrapper g h a = before-block g h ∙ get-elsewhere 52 g (wrapperWrites w) r long refl a
 
   pub length-wrapper : length (storeWrapper w r) ≡ field.recordSize
   unfolding storeWrapper

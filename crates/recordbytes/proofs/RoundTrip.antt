@@ -14,7 +14,7 @@ use lib.ListN.{length, replicate}
 use borrow.Author.Tests.{leb-true}
 use Rattle.fields.specs.Field.{Field, bytesAt, counted, ordered, get}
 use Rattle.fields.proofs.Bools.{and-left}
-use Rattle.fields.proofs.Overlay.{part-inside, part-before}
+use Rattle.fields.proofs.Overlay.{part-inside}
 use Rattle.buffer.specs.Buffer.{at}
 use Rattle.ring.specs.declared.State.{State}
 use Rattle.ring.specs.declared.State.the-variants.{CommandTransfer, CommandTransferInvalid, DataTransferNoData, StatusTransfer, DataTransferToHost, DataTransferToHostStatusAwait, DataTransferToHostEnding, DataTransferFromHost, DataTransferFromHostEnding}
@@ -38,7 +38,7 @@ use Rattle.recordbytes.specs.Storable.{Storable, RecordOf}
 use Rattle.recordbytes.proofs.Storing.{isApart}
 use Rattle.recordbytes.proofs.Reading.{reads-marks, reads-wrapper, reads-device, reads-status}
 use Rattle.recordbytes.proofs.Stored.{Write, write, storeAll, areWithin, areApart, length-all, bytes-elsewhere, get-elsewhere, get-there, known-is}
-use Rattle.recordbytes.proofs.Parts.{statusWrites, wrapperWrites, behind-wrapper, length-wrapper}
+use Rattle.recordbytes.proofs.Parts.{statusWrites, wrapperWrites, before-block, behind-wrapper, length-wrapper}
 
 -- ---- a number tells what it stands for, and is a byte
 
@@ -96,13 +96,8 @@ module _ (r : List ℕ) (long : length r ≡ field.recordSize) (w : Wrapper) (si
   -- one of the wrapper's numbers: the block is laid over behind it
   in-wrapper : (before : List Write) (g : Field) (x : ℕ) (after : List Write) → before ++ (write g x ∷ after) ≡ wrapperWrites w
       → g .start + g .width ≤ 36 → areApart g after ≡ true → x < 256 ^ g .width → get g (storeWrapper w r) ≡ x
-  unfolding storeWrapper get bytesAt
   in-wrapper before g x after e h a b =
-      let q : List ℕ = storeAll (wrapperWrites w) r in
-      let whole : length q ≡ 52 = length-all 52 (wrapperWrites w) r long refl in
-      ap (λ (l : List ℕ). counted (ordered (g .order) l)) (part-before q 36 (w .block) (g .start) (g .width) h (omega arith))
-      ∙ ap (λ (ws : List Write). get g (storeAll ws r)) (sym e)
-      ∙ get-there 52 before g x after r long (ap (areWithin 52) e) a b
+      before-block r long w sixteen g h ∙ ap (λ (ws : List Write). get g (storeAll ws r)) (sym e) ∙ get-there 52 before g x after r long (ap (areWithin 52) e) a b
 
   block-there : bytesAt field.block (storeWrapper w r) ≡ w .block
   unfolding storeWrapper bytesAt
