@@ -238,6 +238,10 @@ fn to_host() -> Vec<Named> {
             create(64, 0, 64).wrapper(reading(64)).poll(),
         ),
         named(
+            "to-host-l-16-mib-gives-4",
+            create(64, 0, 64).wrapper(reading(1 << 24)).poll(),
+        ),
+        named(
             "to-host-l-63-p-64-sends-nothing",
             create(64, 0, 64).wrapper(reading(63)),
         ),

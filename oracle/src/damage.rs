@@ -20,8 +20,17 @@ pub const RULES: &[(&str, Damage)] = &[
     ("count too high by 65536", |events| {
         changed_at_end(events, 10, 1)
     }),
+    ("count too high by 16777216", |events| {
+        changed_at_end(events, 9, 1)
+    }),
     ("last offset too high", |events| {
         changed_at_end(events, 8, 1)
+    }),
+    ("last offset too high by 65536", |events| {
+        changed_at_end(events, 6, 1)
+    }),
+    ("last offset too high by 16777216", |events| {
+        changed_at_end(events, 5, 1)
     }),
     ("last offset too low", |events| {
         changed_at_end(events, 8, 255)
@@ -76,10 +85,19 @@ pub const RULES: &[(&str, Damage)] = &[
     ("length with an OUT error", |events| {
         with_event(events, 1, &[0, 2, 1, 1, 0, 7])
     }),
+    ("length with a second OUT error", |events| {
+        with_event(events, 1, &[0, 1, 2, 0, 1, 7])
+    }),
     ("status of 4 bytes", |events| with_event(events, 2, &[0; 4])),
     ("status of 6 bytes", |events| with_event(events, 2, &[0; 6])),
     ("status byte 3", |events| {
         with_event(events, 2, &[3, 0, 0, 0, 0])
+    }),
+    ("status byte 4", |events| {
+        with_event(events, 2, &[4, 0, 0, 0, 0])
+    }),
+    ("status byte 128", |events| {
+        with_event(events, 2, &[128, 0, 0, 0, 0])
     }),
     ("status byte 255", |events| {
         with_event(events, 2, &[255, 0, 0, 0, 0])

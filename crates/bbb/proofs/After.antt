@@ -7,6 +7,7 @@
 --     read-..               the same in 0, with fewer than 31 bytes unread and with more
 --     parse-..              the 31 bytes that are parsed, and what is unread behind them
 --     full-due              answer 4
+--     whole-sent, short-sent    where 4 is not answered: one packet is sent
 --     parse-taken           the packet that brought the wrapper is counted
 -- Assumes nothing.
 use mathlib.Core.Path.{_≡_, refl, sym, ap, _∙_}
@@ -15,10 +16,11 @@ use mathlib.Core.List.{List, _++_, append-nil}
 use Prim.Native.Nat.{ℕ, _+_, _-_, _≤_, _<_, min, max, zero-le}
 use native.Mathlib.Nat.{add-comm, sub-zero, sub-add-eq-max, min-comm, min-le-right, min-eq-right, max-eq-left}
 use native.Mathlib.Omega.{arith}
-use lib.Dec.{eqb}
+use lib.Dec.{eqb, leb}
 use lib.ListN.{length, take, drop, replicate, take-append-drop, length-append, length-drop, length-replicate}
 use lib.Seq.{length-take-le, take-length, take-take, drop-drop}
-use borrow.Author.Tests.{eq-eqb, ne-eqb, le-leb, lt-leb, lt-ltb}
+use borrow.Author.Tests.{eq-eqb, ne-eqb, le-leb, lt-leb, lt-ltb, le-ltb}
+use borrow.Table.Steps.{cases}
 use Rattle.fields.specs.Overlay.{overlay}
 use Rattle.fields.proofs.Bools.{of-picked}
 use Rattle.fields.proofs.Seq.{drop-take}
@@ -416,6 +418,21 @@ unfolding toHostRule fallsShort
 full-due g x absent due few =
     let some : x .device .left .0 ≡ 0 → ⊥ = λ (none : x .device .left .0 ≡ 0). omega arith in
     rw (ne-eqb _ _ some, absent, le-leb _ _ due, lt-ltb _ _ few)
+
+-- ---- and where 4 is not answered
+
+-- "otherwise send one packet": a whole packet is unread
+pub whole-sent : (g : Given) (x : Point) → (x .device .left .0 ≡ 0 → ⊥) → isPresent (x .device .status) ≡ false → P x ≤ unread (bufferAt x) → toHostRule g x ≡ sendData g (reaching DataTransferToHost x)
+unfolding toHostRule fallsShort
+whole-sent g x some absent whole =
+    cases (leb (P x) (x .device .left .0))
+    (λ e. rw (ne-eqb _ _ some, absent, e, le-ltb _ _ whole))
+    (λ e. rw (ne-eqb _ _ some, absent, e))
+
+-- "With left below P a short packet of what is unread goes out"
+pub short-sent : (g : Given) (x : Point) → (x .device .left .0 ≡ 0 → ⊥) → isPresent (x .device .status) ≡ false → x .device .left .0 < P x → toHostRule g x ≡ sendData g (reaching DataTransferToHost x)
+unfolding toHostRule fallsShort
+short-sent g x some absent less = rw (ne-eqb _ _ some, absent, lt-leb _ _ less)
 
 -- ---- packets taken
 

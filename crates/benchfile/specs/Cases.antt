@@ -4,9 +4,10 @@ use mathlib.Core.Bool.{true, false}
 use mathlib.Core.List.{List, [], _∷_, _++_}
 use Prim.Native.Nat.{ℕ}
 use lib.ListN.{replicate}
+use Rattle.fields.specs.Field.{get}
 use Rattle.fields.specs.Case.{Case, case}
 use Rattle.benchfile.specs.Event.{isPoll, isStatus, suits, isEvent, headOf, eventAt, nothing}
-use Rattle.benchfile.specs.File.{joined, areEvents, lastOffset}
+use Rattle.benchfile.specs.File.{joined, areEvents, lastOffset, countField, lastField}
 
 -- ---- the events of 01's listing
 
@@ -49,8 +50,13 @@ table =
     -- "a length is 0 unless its answer is 0"
     ∷ case (isPoll (0x00 ∷ 0x01 ∷ 0x01 ∷ 0x01 ∷ 0x00 ∷ 0x55 ∷ [])) false
     ∷ case (isPoll (0x00 ∷ 0x00 ∷ 0x01 ∷ 0x01 ∷ 0x00 ∷ 0x55 ∷ [])) true
+    ∷ case (isPoll (0x00 ∷ 0x01 ∷ 0x02 ∷ 0x00 ∷ 0x01 ∷ 0x55 ∷ [])) false
     -- "status (byte 0 to 2, ..)", and a kind that there is not
     ∷ case (isStatus (0x03 ∷ 0x00 ∷ 0x00 ∷ 0x00 ∷ 0x00 ∷ [])) false
+    ∷ case (isStatus (0x04 ∷ 0x00 ∷ 0x00 ∷ 0x00 ∷ 0x00 ∷ [])) false
+    -- "event count, offset of the last event (0 if none), 4 bytes each"
+    ∷ case (get countField (0x01 ∷ 0x02 ∷ 0x03 ∷ 0x04 ∷ 0x05 ∷ 0x06 ∷ 0x07 ∷ 0x08 ∷ [])) 0x04030201
+    ∷ case (get lastField (0x01 ∷ 0x02 ∷ 0x03 ∷ 0x04 ∷ 0x05 ∷ 0x06 ∷ 0x07 ∷ 0x08 ∷ [])) 0x08070605
     ∷ case (suits 9 []) false
     ∷ []
 

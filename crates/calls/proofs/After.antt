@@ -4,6 +4,7 @@
 --     ..-keeps      what of the record is as before, whatever the answer
 --     ..-done       what a call comes to on a whole record, where it is accepted
 --     ..-unread     the unread bytes after it
+--     ..-count      how many bytes a read or a write moves
 --     ..-within     the count is not above the write mark
 --     ..-whole      a whole record stays whole, over the IO buffer that the call leaves
 -- Assumes nothing.
@@ -15,7 +16,7 @@ use native.Mathlib.Nat.{min-le-left, min-le-right, max-eq-right}
 use native.Mathlib.Omega.{arith}
 use lib.Dec.{eqb, leb}
 use lib.ListN.{length, take, drop, length-take}
-use lib.Seq.{length-take-le}
+use lib.Seq.{length-take-le, take-take}
 use borrow.Author.Tests.{eqb-true, eqb-false, ne-eqb, le-leb, leb-true}
 use borrow.Table.Steps.{cases}
 use Rattle.fields.specs.Overlay.{overlay}
@@ -23,6 +24,7 @@ use Rattle.fields.proofs.Bools.{and-left, of-picked, clash}
 use Rattle.buffer.specs.declared.Marks.{Marks}
 use Rattle.buffer.specs.Buffer.{Buffer, Sound, buffer, unread, unreadBytes, room, withRoom, appended, fitting, written, lacksRoom, writtenAll, ready, given, readOff}
 use Rattle.buffer.proofs.Kept.{length-written, sound-written, length-writtenAll, sound-writtenAll, sound-readOff}
+use Rattle.buffer.proofs.Room.{room-left, fitting-by-unread}
 use Rattle.buffer.proofs.Unread.{unread-written, unread-writtenAll, unread-readOff}
 use Rattle.answers.specs.declared.Stalls.the-variants.{Kept}
 use Rattle.wrapper.specs.Status.{statusNumber}
@@ -252,7 +254,20 @@ module _ (d : Device) (io : List ℕ) (w : Whole (numbersOf d) (length io)) wher
           subst (λ (o : Moving). o .count ≤ d .left .0) (sym (data-done 4 d io io _ w h))
           (omega (arith, min-le-right (room (withRoom (length ys) (bufferOf d io))) (length ys), length-take (d .left .0) src, min-le-left (d .left .0) (length src)))
 
-      -- so many bytes come behind the unread ones, and they are the source's first
+      -- no fewer either: what is left, what the source has, and what is not unread of the buffer
+      pub write-count : writeCall d io src .count ≡ min (room-left (bufferOf d io)) (min (d .left .0) (length src))
+      unfolding writeIn limited
+      write-count =
+          ap (λ (o : Moving). o .count) (data-done 4 d io io _ w h)
+          ∙ fitting-by-unread (length (limited (d .left) src)) (bufferOf d io) (sound d io w)
+          ∙ ap (min (room-left (bufferOf d io))) (length-take (d .left .0) src)
+
+      -- and they are the source's first
+      pub write-first : take (writeCall d io src .count) (limited (d .left) src) ≡ take (writeCall d io src .count) src
+      unfolding limited
+      write-first = take-take (writeCall d io src .count) (d .left .0) src write-most
+
+      -- so many bytes come behind the unread ones
       pub write-unread : unreadBytes (bufferOf (writeCall d io src .device) (writeCall d io src .bytes)) ≡ unreadBytes (bufferOf d io) ++ take (writeCall d io src .count) (limited (d .left) src)
       unfolding writeIn
       write-unread =

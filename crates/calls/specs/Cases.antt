@@ -10,7 +10,7 @@ use Rattle.wrapper.specs.declared.DataDirection.the-variants.{In}
 use Rattle.wrapper.specs.declared.status.CommandStatus.the-variants.{PhaseError}
 use Rattle.scsi.specs.declared.ScsiCommand.the-variants.{Inquiry}
 use Rattle.ring.specs.declared.State.{State}
-use Rattle.ring.specs.declared.State.the-variants.{CommandTransfer, CommandTransferInvalid, DataTransferToHost, DataTransferFromHost}
+use Rattle.ring.specs.declared.State.the-variants.{CommandTransfer, CommandTransferInvalid, DataTransferNoData, DataTransferToHost, DataTransferFromHost}
 use Rattle.device.specs.declared.Device.{Device}
 use Rattle.device.specs.declared.Status.the-variants.{Absent, Present}
 use Rattle.device.specs.Device.{withStatus}
@@ -49,6 +49,8 @@ table =
     -- "L 512, figure 500: residue 12; 600: 0*": here as the status that is set
     case (setStatusCall (device DataTransferToHost 5) io (figure 2 500) .device .status) (Present PhaseError (record { 0 = 12 }))
     ∷ case (setStatusCall (device DataTransferToHost 5) io (figure 2 600) .device .status) (Present PhaseError (record { 0 = 0 }))
+    -- 2 takes one too, though no poll ends there
+    ∷ case (setStatusCall (device DataTransferNoData 5) io (figure 0 512) .number) 0
     -- a status byte above 2; a state that takes none; both leave all as it was
     ∷ case (setStatusCall (device DataTransferToHost 5) io (figure 3 500)) (record { number = 12; device = device DataTransferToHost 5 })
     ∷ case (setStatusCall (device CommandTransferInvalid 5) io (figure 0 500)) (record { number = 12; device = device CommandTransferInvalid 5 })

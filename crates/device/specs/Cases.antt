@@ -43,6 +43,8 @@ ours =
     ∷ case (creation 24 0 65537) 8
     ∷ case (creation 24 0 23) 5
     ∷ case (creation 64 0 65536) 0
+    ∷ case (creation 65600 0 65536) 5
+    ∷ case (creation 264 0 65536) 8
     -- each way to be broken, beside a record that is whole
     ∷ case (isWhole (record-of DataTransferToHost Absent (at 3 31) 15 16) 31) true
     ∷ case (isWhole (record-of DataTransferToHost Absent (at 3 31) 15 16) 32) false

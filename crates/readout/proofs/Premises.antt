@@ -25,7 +25,7 @@ use Rattle.calls.specs.Checks.{bufferOf}
 use Rattle.calls.specs.Status.{takesStatus}
 use Rattle.readout.specs.History.{Socket, Event, poll, status, shows, next, arrivedIn, served, isReset, isStatus, accepts, Throughout}
 use Rattle.readout.specs.Demand.{Story, parsed, reached, told, ended, message, L, firmware, servedSince, waitsIn, Earlier, Full, Later, Supposed, number, Ends}
-use Rattle.readout.specs.Cases.{sending, read64, bare8, short8, write8}
+use Rattle.readout.specs.Cases.{sending, read64, bare8, short8, write8, full8}
 use Rattle.readout.proofs.Computing.{computing}
 use Rattle.readout.proofs.Demand.{demand}
 
@@ -195,3 +195,11 @@ met-write8 = supposed-by write8 refl
 pub ends-write8 : Ends write8 (sending 8)
 unfolding testing short8 write8
 ends-write8 = ends-by write8 met-write8 (sending 8) refl refl refl
+
+pub met-full8 : Supposed full8
+unfolding testing full8
+met-full8 = supposed-by full8 refl
+
+pub ends-full8 : Ends full8 (sending 8)
+unfolding testing full8
+ends-full8 = ends-by full8 met-full8 (sending 8) refl refl refl

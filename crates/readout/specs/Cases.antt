@@ -2,12 +2,12 @@
 -- these are definitions.
 use mathlib.Core.List.{List, [], _∷_, _++_}
 use Prim.Native.Nat.{ℕ, _+_}
-use lib.ListN.{replicate, take, drop}
+use lib.ListN.{length, replicate, take, drop}
 use Rattle.fields.specs.Case.{Case, case}
 use Rattle.device.specs.Create.{newDevice}
 use Rattle.bbb.specs.Poll.{Given, given}
 use Rattle.readout.specs.History.{Socket, socket, Event, poll, status, write, read, commandStep, Shows, shows, next, all}
-use Rattle.readout.specs.Demand.{Story, told, ended, R, number, host, servedSince, crossed, ceiling, theData, theStatus}
+use Rattle.readout.specs.Demand.{Story, told, ended, L, R, number, firmware, host, servedSince, crossed, ceiling, theData, theStatus}
 
 -- ---- the polls
 
@@ -97,6 +97,18 @@ write8 = record {
   after = poll (taking 8 (replicate 8 3)) ∷ poll (sending 8) ∷ poll (taking 8 (replicate 4 3)) ∷ poll (sending 8) ∷ [];
 }
 
+-- ours: the plain read of all that L asks for. P 8, L = 20: the firmware puts in 8 bytes, a poll sends them, the same once more, and its
+-- last 4 come behind the status, of which nothing is missing
+unfoldable pub full8 : Story
+full8 = record {
+  start = new 8 40;
+  arrival = three (wrapper 20);
+  completing = fourth (wrapper 20);
+  before = commandStep ∷ write (1 ∷ 2 ∷ 3 ∷ 4 ∷ 5 ∷ 6 ∷ 7 ∷ 8 ∷ []) ∷ poll (sending 8) ∷ write (9 ∷ 10 ∷ 11 ∷ 12 ∷ 13 ∷ 14 ∷ 15 ∷ 16 ∷ []) ∷ poll (busy 8) ∷ poll (sending 8) ∷ [];
+  figure = record { status = 0; processed = 20 };
+  after = write (17 ∷ 18 ∷ 19 ∷ 20 ∷ []) ∷ poll (sending 8) ∷ poll (busy 8) ∷ poll (sending 8) ∷ [];
+}
+
 -- ---- what they show
 
 -- what each event of a history answered
@@ -161,6 +173,14 @@ ours =
     -- the status of byte 1, with the tag of this wrapper and a residue of 12
     ∷ case (whole write8 (sending 8)) (0x55 ∷ 0x53 ∷ 0x42 ∷ 0x53 ∷ 9 ∷ 0 ∷ 0 ∷ 0 ∷ 12 ∷ 0 ∷ 0 ∷ 0 ∷ 1 ∷ [])
     ∷ case (theData write8 ++ theStatus write8) (0x55 ∷ 0x53 ∷ 0x42 ∷ 0x53 ∷ 9 ∷ 0 ∷ 0 ∷ 0 ∷ 12 ∷ 0 ∷ 0 ∷ 0 ∷ 1 ∷ [])
+    -- 16 of 20 bytes are over before the status: 4 are left, in one poll, and two polls are for the status; the residue is 0
+    ∷ case (R full8) 4
+    ∷ case (crossed full8) 16
+    ∷ case (length (firmware full8)) (L full8)
+    ∷ case (number full8) 3
+    ∷ case (servedSince full8) 2
+    ∷ case (answersIn (full8 .after) (told full8)) (0 ∷ 0 ∷ 6 ∷ 0 ∷ [])
+    ∷ case (whole full8 (sending 8)) ((1 ∷ 2 ∷ 3 ∷ 4 ∷ 5 ∷ 6 ∷ 7 ∷ 8 ∷ 9 ∷ 10 ∷ 11 ∷ 12 ∷ 13 ∷ 14 ∷ 15 ∷ 16 ∷ 17 ∷ 18 ∷ 19 ∷ 20 ∷ []) ++ (0x55 ∷ 0x53 ∷ 0x42 ∷ 0x53 ∷ 1 ∷ 0 ∷ 0 ∷ 0 ∷ 0 ∷ 0 ∷ 0 ∷ 0 ∷ 0 ∷ []))
     -- the largest L, all of it left
     ∷ case (ceiling 4294967295 64 + ceiling 13 64) 67108865
     ∷ case (ceiling 4294967295 8 + ceiling 13 8) 536870914

@@ -50,6 +50,8 @@ ours =
     -- the verdict: LUN at and above max LUN (its upper four bits do not count), block length 17, a byte too many, a wrong signature
     ∷ case (verdictOf 3 (message 0 0xF3 10)) Meaningful
     ∷ case (verdictOf 2 (message 0 0xF3 10)) ValidOnly
+    -- a max LUN that no device has: every LUN is below it
+    ∷ case (verdictOf 16 (message 0 0x0F 10)) Meaningful
     ∷ case (verdictOf 15 (message 0 0 17)) ValidOnly
     ∷ case (verdictOf 15 (message 0 0 10 ++ (0 ∷ []))) Invalid
     ∷ case (verdictOf 15 (0x54 ∷ replicate 30 1)) Invalid

@@ -369,11 +369,12 @@ fn stalls(word: Word) -> Checked<&'static str> {
     }))
 }
 
+/// The answer's number and the packet lent with it. An endpoint that does not do its part hands nothing over, whatever is lent.
 fn out_parts(out: &OutAnswer) -> (u8, &[u8]) {
     match out {
         OutAnswer::Packet(packet) => (0, packet),
-        OutAnswer::Busy => (1, &[]),
-        OutAnswer::Error(number) => (*number, &[]),
+        OutAnswer::Busy => (1, b"busy"),
+        OutAnswer::Error(number) => (*number, b"failing"),
     }
 }
 
