@@ -47,12 +47,6 @@ module _ (r : List ℕ) (k : Known r) (ws : List Write) (within : areWithin 52 w
   left-behind : areApart field.left ws ≡ true → storeLeft (record { 0 = get field.left r }) (storeAll ws r) ≡ storeAll ws r
   left-behind a = rw (reads field.left a) at (left-kept (storeAll ws r))
 
-  status-behind : areApart field.present ws ≡ true → areApart field.status ws ≡ true → areApart field.residue ws ≡ true → storeStatus (statusAt r) (storeAll ws r) ≡ storeAll ws r
-  unfolding statusAt
-  status-behind a b c =
-      rw (reads field.present a, reads field.status b, reads field.residue c)
-      at (status-kept (storeAll ws r) (rw (reads field.present a) (k .flag)) (rw (reads field.status b) (k .status)))
-
 -- ---- a call's parts
 
 -- the numbers of a status
