@@ -30,16 +30,17 @@ use Rattle.bbb.specs.Poll.{Given, Polling, Fits, isFitting, refusing, pollingOf
 use Rattle.bbb.specs.Phases.{openOf, isValidFound, InFront, Opens, opened, openedIo, justRead, wrapperThen, endedOf, goneOn, changedBy}
 use Rattle.bbb.proofs.Polling as bbb
 use Rattle.bbb.proofs.Keeping.{call-whole, call-sizes}
+use Rattle.recordbytes.specs.Layout.{recordSize}
 use Rattle.recordbytes.specs.Record.{isKnown, deviceAt, joined, storeState, storeMarks, storeLeft, storeStatus, storeWrapper, storeDevice}
 use Rattle.recordbytes.proofs.Stored.{Known, is-known}
 use Rattle.recordbytes.proofs.Parts.{device-kept, polled, moved-to, moved-within, parsed}
 use Rattle.exported.specs.Word.{word, plain, stallsNumber}
 use Rattle.exported.specs.Record.{onDevice}
-use Rattle.exported.specs.Onward.{sendsOn, SendsOn, takesOn, TakesOn}
+use Rattle.exported.specs.Onward.{Ready, MaySend, SendsOn, MayTake, TakesOn}
 use Rattle.exported.specs.Calls.{Keepable, keptChange, polls, pollOn}
 use Rattle.exported.specs.Calls as spec
 use Rattle.exported.proofs.Lending.{made}
-use Rattle.exported.proofs.Going.{is-sending, sentOn, send-rule, is-taking, takenOn, take-rule}
+use Rattle.exported.proofs.Going.{sentOn, send-rule, takenOn, take-rule}
 
 -- ---- the functions of a round
 
@@ -145,56 +146,79 @@ whole-there n len {v} ev q = tested n len ev (not-false v q)
 pub fits-there : (p : ℕ) (packet one two : List ℕ) {u : Bool} → u ≡ isFitting p (length packet) (length one) (length two) → not u ≡ false → Fits p packet one two
 fits-there p packet one two {u} eu q = bbb.is-fitting p packet one two eu (not-false u q)
 
+module _ (r io : List ℕ) (g : Given) (is : isKnown r ≡ true) where
+  on : (o : Polling) → pollCall (deviceAt r) io g ≡ o → spec.polled r o ≡ pollOn r io g
+  unfolding pollOn
+  on o e = ap (spec.polled r) (sym e) ∙ made r (polls (plain 10) r io (g .packet)) (λ (d : Device). spec.polled r (pollCall d io g)) is
+
+  same : (answer : ℕ) → spec.polled r (refusing (deviceAt r) io g answer) ≡ polls (plain answer) r io (g .packet)
+  same answer = ap (λ (l : List ℕ). polls (plain answer) l io (g .packet)) (device-kept r (is-known r is))
+
 module _ (r io : List ℕ) (g : Given) {b : Bool} (eb : b ≡ isKnown r) where
   pub poll-unknown : not b ≡ true → polls 10 r io (g .packet) ≡ pollOn r io g
   unfolding pollOn onDevice word
   poll-unknown q = rw (← eb, not-true b q)
 
   module _ (qb : not b ≡ false) {n : Numbers} (en : n ≡ numbersOf (deviceAt r)) {v : Bool} (ev : v ≡ isWhole n (length io)) where
-    is : isKnown r ≡ true
-    is = known-there r eb qb
-
-    on : (o : Polling) → pollCall (deviceAt r) io g ≡ o → spec.polled r o ≡ pollOn r io g
-    unfolding pollOn
-    on o e = ap (spec.polled r) (sym e) ∙ made r (polls (plain 10) r io (g .packet)) (λ (d : Device). spec.polled r (pollCall d io g)) is
-
-    same : (answer : ℕ) → spec.polled r (refusing (deviceAt r) io g answer) ≡ polls (plain answer) r io (g .packet)
-    same answer = ap (λ (l : List ℕ). polls (plain answer) l io (g .packet)) (device-kept r (is-known r is))
-
     pub poll-broken : not v ≡ true → polls 10 r io (g .packet) ≡ pollOn r io g
     unfolding pollCall word
-    poll-broken q = sym (same 10) ∙ on (refusing (deviceAt r) io g 10) (rw (← en, ← ev, not-true v q))
+    poll-broken q = let is = known-there r eb qb in sym (same r io g is 10) ∙ on r io g is (refusing (deviceAt r) io g 10) (rw (← en, ← ev, not-true v q))
 
-    module _ (qv : not v ≡ false) {u : Bool} (eu : u ≡ isFitting (n .packetsize) (length (g .packet)) (length (g .one)) (length (g .two))) where
-      poll-whole : Whole n (length io)
-      poll-whole = whole-there n (length io) ev qv
+    pub poll-refused : not v ≡ false → {u : Bool} → u ≡ isFitting (n .packetsize) (length (g .packet)) (length (g .one)) (length (g .two)) → not u ≡ true → polls 11 r io (g .packet) ≡ pollOn r io g
+    unfolding pollCall word
+    poll-refused qv {u} eu q =
+        let is = known-there r eb qb in
+        let unfit : isFitting (deviceAt r .packetsize) (length (g .packet)) (length (g .one)) (length (g .two)) ≡ false = sym (rw en at eu) ∙ not-true u q in
+        sym (same r io g is 11) ∙ on r io g is (refusing (deviceAt r) io g 11) (rw (← en, ← ev, not-false v qv, unfit))
 
-      pub poll-refused : not u ≡ true → polls 11 r io (g .packet) ≡ pollOn r io g
-      unfolding pollCall word
-      poll-refused q =
-          let unfit : isFitting (deviceAt r .packetsize) (length (g .packet)) (length (g .one)) (length (g .two)) ≡ false = sym (rw en at eu) ∙ not-true u q in
-          sym (same 11) ∙ on (refusing (deviceAt r) io g 11) (rw (← en, ← ev, not-false v qv, unfit))
+-- ---- in the midst of a transfer
 
-      module _ (qu : not u ≡ false) where
-        poll-fits : Fits (n .packetsize) (g .packet) (g .one) (g .two)
-        poll-fits = fits-there (n .packetsize) (g .packet) (g .one) (g .two) eu qu
+module _ (r io packet one two : List ℕ) (y : Ready r (length io) (length packet) (length one) (length two)) where
+  ready-long : length r ≡ recordSize
+  ready-long = is-known r (y .known) .long
 
-        pub poll-sends : {t : Bool} → t ≡ sendsOn n (g .turn .write) → t ≡ true → {x : ℕ} {r′ packet′ : List ℕ} → SendsOn n io r (g .packet) x r′ packet′ → polls x r′ io packet′ ≡ pollOn r io g
-        poll-sends et qt {x} {r′} {packet′} h =
-            let whole : Whole (numbersOf (deviceAt r)) (length io) = rw en at poll-whole in
-            let fits : Fits (deviceAt r .packetsize) (g .packet) (g .one) (g .two) = rw en at poll-fits in
-            let sends = send-rule (deviceAt r) io g whole fits (is-sending (numbersOf (deviceAt r)) (g .turn .write) (sym (rw en at et) ∙ qt)) in
-            let it : SendsOn (numbersOf (deviceAt r)) io r (g .packet) x r′ packet′ = subst (λ (m : Numbers). SendsOn m io r (g .packet) x r′ packet′) en h in
-            let kept : r′ ≡ storeDevice (sentOn (deviceAt r) io g whole fits .device) r = it .bytes ∙ sym (moved-to r (is-known r is) _ _ _) in
-            rw (it .told, it .packet, kept) (on (sentOn (deviceAt r) io g whole fits) sends)
+  offers-fit : Fits (deviceAt r .packetsize) packet one two
+  offers-fit = bbb.is-fitting (deviceAt r .packetsize) packet one two refl (y .fits)
 
-        pub poll-takes : {t : Bool} → t ≡ takesOn n (length io) (g .turn .first) → t ≡ true → {x : ℕ} {r′ io′ : List ℕ} → TakesOn n io r (g .one) x r′ io′ → polls x r′ io′ (g .packet) ≡ pollOn r io g
-        poll-takes et qt {x} {r′} {io′} h =
-            let whole : Whole (numbersOf (deviceAt r)) (length io) = rw en at poll-whole in
-            let fits : Fits (deviceAt r .packetsize) (g .packet) (g .one) (g .two) = rw en at poll-fits in
-            let takes = take-rule (deviceAt r) io g whole fits (is-taking (numbersOf (deviceAt r)) (length io) (g .turn .first) (sym (rw en at et) ∙ qt)) in
-            let it : TakesOn (numbersOf (deviceAt r)) io r (g .one) x r′ io′ = subst (λ (m : Numbers). TakesOn m io r (g .one) x r′ io′) en h in
-            let kept : r′ ≡ storeDevice (takenOn (deviceAt r) io g whole fits .device) r = it .bytes ∙ sym (moved-within r (is-known r is) _ _) in
-            rw (it .told, it .io, kept) (on (takenOn (deviceAt r) io g whole fits) takes)
+module _ (r : List ℕ) {len packet one two turn : ℕ} {t : Bool} where
+  pub send-long : (t ≡ true → MaySend r len packet one two turn) → t ≡ true → length r ≡ recordSize
+  send-long tells q = is-known r (tells q .ready .known) .long
+
+  pub take-long : (t ≡ true → MayTake r len packet one two turn) → t ≡ true → length r ≡ recordSize
+  take-long tells q = is-known r (tells q .ready .known) .long
+
+module _ (r io packet one two : List ℕ) {turn : ℕ} {t : Bool} where
+  pub send-needs : (t ≡ true → MaySend r (length io) (length packet) (length one) (length two) turn) → t ≡ true → {n : Numbers} → n ≡ numbersOf (deviceAt r)
+      → (length r ≡ recordSize) × Whole n (length io) × (n .packetsize ≤ length packet) × (n .packetsize ≤ n .marks .write - n .marks .read)
+  send-needs tells q en =
+      let y = tells q in
+      rw en (ready-long r io packet one two (y .ready), y .ready .whole, offers-fit r io packet one two (y .ready) .into, y .sends .unread)
+
+  pub take-needs : (t ≡ true → MayTake r (length io) (length packet) (length one) (length two) turn) → t ≡ true → {n : Numbers} → n ≡ numbersOf (deviceAt r)
+      → (length r ≡ recordSize) × Whole n (length io) × (length one ≤ n .packetsize) × (n .packetsize ≤ length io - n .marks .write)
+  take-needs tells q en =
+      let y = tells q in
+      rw en (ready-long r io packet one two (y .ready), y .ready .whole, offers-fit r io packet one two (y .ready) .first, y .takes .room)
+
+module _ (r io : List ℕ) (g : Given) {t : Bool} where
+  pub poll-sends : (t ≡ true → MaySend r (length io) (length (g .packet)) (length (g .one)) (length (g .two)) (g .turn .write)) → t ≡ true → {n : Numbers} → n ≡ numbersOf (deviceAt r)
+      → {x : ℕ} {r′ packet′ : List ℕ} → SendsOn n io r (g .packet) x r′ packet′ → polls x r′ io packet′ ≡ pollOn r io g
+  poll-sends tells q en {x} {r′} {packet′} h =
+      let y = tells q in
+      let whole = y .ready .whole in
+      let fits = offers-fit r io (g .packet) (g .one) (g .two) (y .ready) in
+      let it : SendsOn (numbersOf (deviceAt r)) io r (g .packet) x r′ packet′ = subst (λ (m : Numbers). SendsOn m io r (g .packet) x r′ packet′) en h in
+      let kept : r′ ≡ storeDevice (sentOn (deviceAt r) io g whole fits .device) r = it .bytes ∙ sym (moved-to r (is-known r (y .ready .known)) _ _ _) in
+      rw (it .told, it .packet, kept) (on r io g (y .ready .known) (sentOn (deviceAt r) io g whole fits) (send-rule (deviceAt r) io g whole fits (y .sends)))
+
+  pub poll-takes : (t ≡ true → MayTake r (length io) (length (g .packet)) (length (g .one)) (length (g .two)) (g .turn .first)) → t ≡ true → {n : Numbers} → n ≡ numbersOf (deviceAt r)
+      → {x : ℕ} {r′ io′ : List ℕ} → TakesOn n io r (g .one) x r′ io′ → polls x r′ io′ (g .packet) ≡ pollOn r io g
+  poll-takes tells q en {x} {r′} {io′} h =
+      let y = tells q in
+      let whole = y .ready .whole in
+      let fits = offers-fit r io (g .packet) (g .one) (g .two) (y .ready) in
+      let it : TakesOn (numbersOf (deviceAt r)) io r (g .one) x r′ io′ = subst (λ (m : Numbers). TakesOn m io r (g .one) x r′ io′) en h in
+      let kept : r′ ≡ storeDevice (takenOn (deviceAt r) io g whole fits .device) r = it .bytes ∙ sym (moved-within r (is-known r (y .ready .known)) _ _) in
+      rw (it .told, it .io, kept) (on r io g (y .ready .known) (takenOn (deviceAt r) io g whole fits) (take-rule (deviceAt r) io g whole fits (y .takes)))
 
 pub ruleset ways = (tells, clears, clears-not, keeps, keeps-found, keeps-none)

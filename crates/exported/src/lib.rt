@@ -3,6 +3,7 @@
 // with an answer. Every call that is lent a record to work on tests it first: a refusal with 10 leaves all that was lent as it was.
 //     create               a new record
 //     poll, onward         one poll; those in the midst of a transfer first
+//     packet               a packet put into a slice
 //     status, data, bus    what the firmware and the bus call between polls
 //     command              the command shown, and the command step
 //     decode               the decoder's two entries, and BOT's verdict on a message
@@ -13,6 +14,7 @@ mod create;
 mod data;
 mod decode;
 mod onward;
+mod packet;
 mod poll;
 mod status;
 mod word;

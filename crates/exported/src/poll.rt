@@ -1,4 +1,4 @@
-// One poll: the checks, then a poll in the midst of a transfer, or the whole ring.
+// One poll: in the midst of a transfer, or the checks and then the whole ring.
 use crate::onward::send_on;
 use crate::onward::sends_on;
 use crate::onward::take_on;
@@ -114,7 +114,8 @@ fn go_round(
     told(report)
 }
 
-// 10, then 11; then the two kinds of poll in the midst of a transfer, which most are; then any other. Half its lines are parameters.
+// The two kinds of poll in the midst of a transfer, which most are; they are never 10 or 11. Then 10, then 11, then any other. Half its
+// lines are parameters.
 #[no_mangle]
 pub extern "C" fn souk_poll(
     record: &mut [u8],
@@ -128,6 +129,12 @@ pub extern "C" fn souk_poll(
 ) -> u64
     ensures { λ x. ⌜ polls x (now («record» .exit)) (now (io .exit)) (now (packet .exit)) ≡ pollOn (now («record» .entry)) (now (io .entry)) (given (now (packet .entry)) (now (one .entry)) (now (two .entry)) (record { first = first; second = second; write = write })) ⌝ }
 {
+    if sends_on(record, io.len(), packet.len(), one.len(), two.len(), write) {
+        return send_on(record, numbers_at(record), io, packet);
+    }
+    if takes_on(record, io.len(), packet.len(), one.len(), two.len(), first) {
+        return take_on(record, numbers_at(record), io, one);
+    }
     if !known(record) {
         return 10;
     }
@@ -137,12 +144,6 @@ pub extern "C" fn souk_poll(
     }
     if !fits(n.packetsize, packet.len(), one.len(), two.len()) {
         return 11;
-    }
-    if sends_on(n, write) {
-        return send_on(record, n, io, packet);
-    }
-    if takes_on(n, io.len(), first) {
-        return take_on(record, n, io, one, first);
     }
     go_round(
         record,

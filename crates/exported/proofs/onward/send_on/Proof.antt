@@ -1,12 +1,12 @@
--- `exported::onward::send_on` meets its contract: what was read goes into the packet buffer, marks and left into the record. Assumes nothing.
-use Rattle.exported.proofs.Going.{mark-fits, sent-fits, ways}
+-- `exported::onward::send_on` meets its contract: marks and left go into the record, a packet from the read mark on into the packet buffer. Assumes nothing.
 use native.Mathlib.Omega.{arith}
 use borrow.Author.Needs.{needs}
+use Rattle.exported.proofs.Going.{mark-fits, count-fits, ways}
 use Rattle.exported.proofs.onward.send_on.Statement.{statement}
 use Rattle.exported.proofs.onward.send_on.Tie as tie
 
-read-requires : tie.Need-read-requires
-read-requires c κs = search needs
+add-end : tie.Need-add-end
+add-end c = search needs
 
 left-after-requires : tie.Need-left-after-requires
 left-after-requires c κs = search needs
@@ -16,18 +16,30 @@ state-requires c κs = search needs
 
 marks-requires : tie.Need-marks-requires
 marks-requires c κs =
-    let read = c .before .before .before .before .before .before .before .before .before in
-    let given = read .before .before .before .before .before .before .before .pre in
-    let after = read .read .ensures .1 .sound in
-    (search needs, mark-fits _ _ (given .1) (omega (arith, after .order, after .within)), mark-fits _ _ (given .1) (after .within))
+    let start = c .before .before .before .before .before .before .before .before .before .before .before .before in
+    let whole = start .pre .1 in (
+      search needs,
+      mark-fits _ _ whole (omega (arith, start .pre .3, whole .order, whole .within, whole .lent)),
+      mark-fits _ _ whole (omega (arith, whole .within, whole .lent)),
+    )
 
 left-requires : tie.Need-left-requires
 left-requires c κs = search needs
 
+sub-put-packet : tie.Need-sub-put-packet
+sub-put-packet c = search needs
+
+part-put-packet-start : tie.Need-part-put-packet-start
+part-put-packet-start c = search needs
+
+part-put-packet-end : tie.Need-part-put-packet-end
+part-put-packet-end c = search needs
+
+put-packet-requires : tie.Need-put-packet-requires
+put-packet-requires c κs = search needs
+
 narrow-requires : tie.Need-narrow-requires
-narrow-requires c κs =
-    let read = c .before .before .before .before .before .before .before .before .before .before .before .before .before .before .before .before in
-    sent-fits _ _ (read .before .before .before .before .before .before .before .pre .1) (read .read .ensures .0)
+narrow-requires c κs = count-fits _ _ (c .before .before .before .before .before .before .before .before .before .before .before .before .before .before .before .before .before .before .before .before .before .before .before .before .pre .1) (omega arith)
 
 word-requires : tie.Need-word-requires
 word-requires c κs = search needs
@@ -45,11 +57,15 @@ pub send-on-spec : {M : Type 1} → statement M
 send-on-spec =
     tie.close
     (tie.spec
-    read-requires
+    add-end
     left-after-requires
     state-requires
     marks-requires
     left-requires
+    sub-put-packet
+    part-put-packet-start
+    part-put-packet-end
+    put-packet-requires
     narrow-requires
     word-requires
     same-length
