@@ -8,6 +8,8 @@ use Rattle.device.proofs.present.Kinds as present-kinds
 use Rattle.device.proofs.present.Reads as present
 use Rattle.device.proofs.numbers_of.Kinds as numbers-of-kinds
 use Rattle.device.proofs.numbers_of.Reads as numbers-of
+use Rattle.device.proofs.is_packet_size.Kinds as is-packet-size-kinds
+use Rattle.device.proofs.is_packet_size.Reads as is-packet-size
 use Rattle.device.proofs.whole.Kinds as whole-kinds
 use Rattle.device.proofs.whole.Reads as whole
 use Rattle.device.proofs.create.create.Kinds as create-kinds
@@ -25,6 +27,9 @@ present-only κs a x y s t p q = (p ∙ sym q, refl)
 
 pub numbers-of-only : Only 0 numbers-of-kinds.ps numbers-of-kinds.r numbers-of.Post (λ κs s. tt {0})
 numbers-of-only κs a x y s t p q = (p ∙ sym q, refl)
+
+pub is-packet-size-only : Only 0 is-packet-size-kinds.ps is-packet-size-kinds.r is-packet-size.Post (λ κs s. tt {0})
+is-packet-size-only κs a x y s t p q = (p ∙ sym q, refl)
 
 pub whole-only : Only 0 whole-kinds.ps whole-kinds.r whole.Post (λ κs s. tt {0})
 whole-only κs a x y s t p q = (p ∙ sym q, refl)

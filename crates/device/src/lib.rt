@@ -77,7 +77,7 @@ pub fn numbers_of(d: Device) -> Numbers
     }
 }
 
-fn is_packet_size(p: usize) -> bool
+pub fn is_packet_size(p: usize) -> bool
     ensures { λ r. ⌜ r ≡ isPacketSize p ⌝ }
 {
     if p == 8 {

@@ -36,7 +36,6 @@ use Rattle.device.specs.declared.Numbers.{Numbers}
 use Rattle.device.specs.Create.{isPacketSize, creation}
 use Rattle.device.specs.Device.{isPresent, numbersOf, inState, withMarks, withLeft}
 use Rattle.device.specs.Broken.{statusFits, Whole}
-use Rattle.device.proofs.Laws.{size-8, size-16, size-32, size-64}
 use Rattle.device.proofs.Wholly.{whole-sound, size-most, packet-known, packet-bounds}
 use Rattle.bbb.specs.Poll.{Given, Polling, Fits, isFitting, point, sendData, dataBy, takeData, takeBy, offers, offeredBy, toHostEndingRule, toHostRule, fromHostRule, ruleIn, pollRule, pollCall}
 use Rattle.bbb.proofs.Keeping.{call-done}
@@ -282,4 +281,4 @@ through d at n src zeros ed eb es ez =
     let all : take n src ≡ src = take-all n src (omega (arith, es)) in
     ed ∙ ap (overlay d at) (eb ∙ ap (overlay zeros 0) all ∙ overlay-whole zeros src (es ∙ sym ez))
 
-pub ruleset ways = (sends-6, sends-4, size-8, size-16, size-32, size-64, is-steady, may-send, may-take, leaves-sent, leaves-taken, through)
+pub ruleset ways = (sends-6, sends-4, is-steady, may-send, may-take, leaves-sent, leaves-taken, through)

@@ -6,6 +6,7 @@ use crate::word::word;
 use bbb::fits;
 use buffer::Marks;
 use device::Numbers;
+use device::is_packet_size;
 use fields::byte;
 use fields::le32;
 use recordbytes::store;
@@ -15,7 +16,6 @@ ghost use mathlib.Core.Path.{_≡_};
 ghost use mathlib.Core.Bool.{true};
 ghost use Prim.Native.Nat.{_-_, _≤_};
 ghost use lib.ListN.{length};
-ghost use Rattle.device.specs.Create.{isPacketSize};
 ghost use Rattle.device.specs.Broken.{Whole};
 ghost use Rattle.recordbytes.specs.Layout.{recordSize};
 ghost use Rattle.exported.specs.Onward.{Steady, sendsIn, MaySend, MayTake, SendsOn, TakesOn};
@@ -27,21 +27,6 @@ fn sends_in(state: u8) -> bool
         return true;
     }
     state == 4
-}
-
-fn is_size(p: usize) -> bool
-    ensures { λ x. ⌜ x ≡ isPacketSize p ⌝ }
-{
-    if p == 8 {
-        return true;
-    }
-    if p == 16 {
-        return true;
-    }
-    if p == 32 {
-        return true;
-    }
-    p == 64
 }
 
 // Of the record what both ways need. A buffer of fewer bytes than the largest packet is left to the ring.
@@ -74,7 +59,7 @@ fn steady(record: &[u8], len: usize) -> bool
     if 16 < byte(record, 27) {
         return false;
     }
-    is_size(byte(record, 0) as usize)
+    is_packet_size(byte(record, 0) as usize)
 }
 
 // Whether the record is whole, the offers fit, and a whole packet of data goes out.

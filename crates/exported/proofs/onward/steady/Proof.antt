@@ -52,11 +52,11 @@ returns-8 c = fails _
 byte-requires-6 : tie.Need-byte-requires-6
 byte-requires-6 c κs = search needs
 
-cast-is-size : tie.Need-cast-is-size
-cast-is-size c = search needs
+cast-is-packet-size : tie.Need-cast-is-packet-size
+cast-is-packet-size c = search needs
 
-is-size-requires : tie.Need-is-size-requires
-is-size-requires c κs = search needs
+is-packet-size-requires : tie.Need-is-packet-size-requires
+is-packet-size-requires c κs = search needs
 
 returns-9 : tie.Need-returns-9
 returns-9 c = search (ways, needs)
@@ -81,6 +81,6 @@ steady-spec =
     byte-requires-5
     returns-8
     byte-requires-6
-    cast-is-size
-    is-size-requires
+    cast-is-packet-size
+    is-packet-size-requires
     returns-9)
