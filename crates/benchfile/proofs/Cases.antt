@@ -3,13 +3,14 @@ use mathlib.Core.Path.{refl}
 use mathlib.Core.List.{[], _++_}
 use lib.Dec.{lit≤}
 use Rattle.fields.specs.Case.{AllHold}
+use Rattle.fields.proofs.Case.{by-computing}
 use Rattle.benchfile.specs.Cases.{listing, listingTrailer, noneTrailer, table}
 use Rattle.benchfile.specs.File.{joined, Good}
 use Rattle.benchfile.proofs.Computing.{computing}
 
 pub table-hold : AllHold table
 unfolding listing table computing
-table-hold = refl
+table-hold = by-computing table
 
 pub listing-good : Good (joined listing ++ listingTrailer) listing
 unfolding listing listingTrailer computing

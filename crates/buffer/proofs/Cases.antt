@@ -1,8 +1,9 @@
 -- Each case of specs/Cases.antt holds: antt computes it. Assumes nothing.
-use mathlib.Core.Path.{refl}
-use Rattle.buffer.specs.Cases.{after, table, AllHold}
+use Rattle.fields.specs.Case.{AllHold}
+use Rattle.fields.proofs.Case.{by-computing}
+use Rattle.buffer.specs.Cases.{after, table}
 use Rattle.buffer.proofs.Computing.{computing}
 
 pub table-hold : AllHold table
 unfolding after table computing
-table-hold = refl
+table-hold = by-computing table

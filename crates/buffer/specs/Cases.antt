@@ -1,8 +1,9 @@
 -- Cases of the buffer's calls: one table. proofs/Cases.antt has the statement that each holds. Assumes nothing.
-use mathlib.Core.Path.{_≡_}
-use mathlib.Core.List.{List, [], _∷_, map}
+use mathlib.Core.List.{List, [], _∷_}
 use Prim.Native.Nat.{ℕ}
 use lib.ListN.{length, replicate}
+use Rattle.fields.specs.Case.{Case}
+use Rattle.fields.specs.Case as table-of
 use Rattle.buffer.specs.Buffer.{Buffer, buffer, at}
 use Rattle.buffer.specs.Calls.{Outcome, outcome, availableCall, cleanCall, shiftCall, writeCall, writeAllCall, fillCall, readCall, readInto}
 
@@ -30,18 +31,13 @@ after (writeAll want ys) s = seen (writeAllCall want ys s) []
 after (fillUpTo v n) s = seen (fillCall v n s) []
 after (read d) s = seen (readCall (length d) s) (readInto d s)
 
-pub record Case : Type 0 where
-  pub start : Buffer
-  pub call : Call
-  pub gives : Seen
-
 -- bytes, read mark and write mark; the call; number, count; bytes, read mark and write mark after it
 abbrev case : List ℕ → ℕ → ℕ → Call → ℕ → ℕ → List ℕ → ℕ → ℕ → Case
-case b r w c n k b′ r′ w′ = record { start = buffer b (at r w); call = c; gives = seen (outcome n k (buffer b′ (at r′ w′))) [] }
+case b r w c n k b′ r′ w′ = table-of.case (after c (buffer b (at r w))) (seen (outcome n k (buffer b′ (at r′ w′))) [])
 
 -- a read: bytes, marks and destination; number, count; marks and destination after it
 abbrev reading : List ℕ → ℕ → ℕ → List ℕ → ℕ → ℕ → ℕ → ℕ → List ℕ → Case
-reading b r w d n k r′ w′ d′ = record { start = buffer b (at r w); call = read d; gives = seen (outcome n k (buffer b (at r′ w′))) d′ }
+reading b r w d n k r′ w′ d′ = table-of.case (after (read d) (buffer b (at r w))) (seen (outcome n k (buffer b (at r′ w′))) d′)
 
 unfoldable pub table : List Case
 table =
@@ -80,7 +76,3 @@ table =
     ∷ case (1 ∷ 2 ∷ []) 0 3 (fillUpTo 255 1) 10 0 (1 ∷ 2 ∷ []) 0 3
     ∷ reading (1 ∷ 2 ∷ []) 2 1 (7 ∷ []) 10 0 2 1 (7 ∷ [])
     ∷ []
-
--- the statement: each call makes of its buffer what stands beside it
-abbrev pub AllHold : List Case → Type 0
-AllHold cases = map (λ (c : Case). after (c .call) (c .start)) cases ≡ map (λ (c : Case). c .gives) cases

@@ -1,11 +1,20 @@
--- Tables of cases can be joined. Assumes nothing.
-use mathlib.Core.Path.{sym, ap, _∙_}
-use mathlib.Core.List.{List, _++_, map, map-append}
-use Rattle.fields.specs.Case.{Value, Case, AllHold}
+-- Tables of cases: how one is shown to hold, and that tables can be joined. Assumes nothing.
+use mathlib.Core.Path.{refl}
+use mathlib.Core.List.{List, [], _∷_, _++_}
+use Rattle.fields.specs.Case.{Case, case, AllHold}
+
+-- each case with what is computed in the place of what is expected
+unfoldable pub computing-twice : List Case → List Case
+computing-twice [] = []
+computing-twice (c ∷ cs) = case (c .computed) (c .computed) ∷ computing-twice cs
+
+-- Such a table holds. Where antt computes all that stands in a table, the two tables are one for it, and this proves both.
+pub by-computing : (table : List Case) → AllHold (computing-twice table)
+unfolding AllHold computing-twice
+by-computing [] = tt
+by-computing (c ∷ cs) = (refl , by-computing cs)
 
 pub joined : (a b : List Case) → AllHold a → AllHold b → AllHold (a ++ b)
-joined a b p q =
-    map-append _ a b
-    ∙ ap (λ (l : List Value). l ++ map (λ (c : Case). c .computed) b) p
-    ∙ ap (λ (l : List Value). map (λ (c : Case). c .expected) a ++ l) q
-    ∙ sym (map-append _ a b)
+unfolding AllHold
+joined [] b p q = q
+joined (c ∷ cs) b (holds , p) q = (holds , joined cs b p q)

@@ -1,9 +1,9 @@
 -- Each case of specs/Cases.antt holds: antt computes it. Assumes nothing.
-use mathlib.Core.Path.{refl}
 use Rattle.fields.specs.Case.{AllHold}
 use Rattle.fields.specs.Cases.{table}
+use Rattle.fields.proofs.Case.{by-computing}
 use Rattle.fields.proofs.Computing.{computing}
 
 pub table-hold : AllHold table
 unfolding table computing
-table-hold = refl
+table-hold = by-computing table

@@ -2,7 +2,8 @@
 --     Bools, Seq    tests and lists
 --     Overlay       a list laid over a part of another, and the loops that do it
 --     Field         numbers in bytes: one law for each width
---     Case          tables of cases can be joined
+--     Case          how a table of cases is shown to hold; tables can be joined
+--     Wrong         a table with a wrong case does not hold
 --     Only          what it is that a contract has no second answer
 --     Unique        no contract of this crate has one
 --     Computing     what cases compute with
@@ -12,6 +13,7 @@ pub mod Seq
 pub mod Overlay
 pub mod Field
 pub mod Case
+pub mod Wrong
 pub mod Only
 pub mod Unique
 pub mod Computing

@@ -12,6 +12,7 @@ use lib.Dec.{eqb}
 use lib.ListN.{getD, take, drop}
 use borrow.Author.Tests.{eqb-false}
 use Rattle.fields.specs.Case.{Case, case, AllHold}
+use Rattle.fields.proofs.Case.{by-computing}
 use Rattle.bbb.specs.Poll.{Given, invalidRule}
 use Rattle.calls.specs.declared.Figure.{Figure}
 use Rattle.calls.specs.Data.{writeAllIn}
@@ -229,4 +230,4 @@ needed =
 
 pub needed-table : AllHold needed
 unfolding needed calling without-waits without-nothing without-unfinished without-valid without-valid-signature without-no-reset-before without-same-command without-accepted without-no-reset without-no-reset-within without-no-status without-full without-few without-few-twice
-needed-table = refl
+needed-table = by-computing needed

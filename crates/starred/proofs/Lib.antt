@@ -1,1 +1,2 @@
 pub mod Hold
+pub mod Wrong

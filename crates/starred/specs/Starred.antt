@@ -12,5 +12,5 @@ use Rattle.scsi.specs.Cases as scsi
 unfoldable pub table : List Case
 table = device.starred ++ (wrapper.starred ++ (bbb.starred ++ (readout.starred ++ scsi.starred)))
 
-abbrev pub Statement : Type 1
+abbrev pub Statement : Type 0
 Statement = AllHold table

@@ -14,7 +14,7 @@ use Rattle.wrapper.specs.Wrapper.{wrapperTable, wrapperSignature, direct
 use Rattle.wrapper.specs.Verdict.{verdictOf}
 
 -- a wrapper with tag 01020304, L = 512, and these bytes for flags, LUN and block length
-abbrev message : ℕ → ℕ → ℕ → List ℕ
+abbrev pub message : ℕ → ℕ → ℕ → List ℕ
 message flags lun blocklength =
     0x55 ∷ 0x53 ∷ 0x42 ∷ 0x43 ∷ 4 ∷ 3 ∷ 2 ∷ 1 ∷ 0 ∷ 2 ∷ 0 ∷ 0 ∷ flags ∷ lun ∷ blocklength ∷ 0x28 ∷ replicate 15 0
 
