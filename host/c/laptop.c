@@ -83,6 +83,12 @@ static void fill_wrapper(uint8_t *bytes, const struct request *r) {
     memcpy(bytes + 15, r->block, r->block_length);
 }
 
+static void send_wrapper(const struct request *r) {
+    uint8_t bytes[WRAPPER];
+    fill_wrapper(bytes, r);
+    require(send(bytes, sizeof bytes), "a stall before a command");
+}
+
 /* The host's read ends with the last byte that it asked for, or with a short packet. */
 static size_t receive_data(uint32_t length) {
     struct packet came;
@@ -121,12 +127,10 @@ static uint32_t receive_status(const struct request *r) {
 /* A whole command: wrapper, data, status. Returns how many bytes of data are the disk's: all but the residue, for what is
    behind them is filler. */
 static uint32_t run(const struct request *r) {
-    uint8_t bytes[WRAPPER];
     size_t got = 0;
     printf("%s: ", r->name);
     if (r->length > 0) printf("%u bytes %s, ", r->length, r->to_host ? "asked" : "offered");
-    fill_wrapper(bytes, r);
-    require(send(bytes, sizeof bytes), "a stall before a command");
+    send_wrapper(r);
     if (r->to_host && r->length > 0) got = receive_data(r->length);
     else send_data(r->length);
     uint32_t valid = r->length - receive_status(r);
@@ -192,10 +196,14 @@ static void ask_why(void) {
     printf("    %u bytes: sense %X/%02X/%02X\n", length, data[2] & 15u, data[12], data[13]);
 }
 
-static void plug_in(void) {
-    control("Get Max LUN", 0xA1, 0xFE);
+static void ask_name(void) {
     run(&inquiry);
     printf("    '%.8s' '%.16s' '%.4s'\n", (const char *)data + 8, (const char *)data + 16, (const char *)data + 32);
+}
+
+static void plug_in(void) {
+    control("Get Max LUN", 0xA1, 0xFE);
+    ask_name();
     run(&test_unit_ready);
     run(&read_capacity);
     printf("    %u blocks of %u bytes\n", be32(data) + 1, be32(data + 4));
@@ -228,16 +236,33 @@ static void refusals(void) {
     ask_why();
 }
 
-/* The cable is pulled in the middle of a read, when the disk has much more to send. */
-static void broken_off(void) {
-    uint8_t bytes[WRAPPER];
+/* In the middle of a read, when the disk has much more to send. */
+static void break_off(void) {
     struct packet came;
-    fill_wrapper(bytes, &read_list);
-    require(send(bytes, sizeof bytes), "a stall before a command");
+    send_wrapper(&read_list);
     for (int i = 0; i < 5; i++) require(receive(&came), "a stall in the data");
     printf("%s: broken off after 5 packets\n", read_list.name);
+}
+
+/* The cable is pulled. */
+static void broken_off(void) {
+    break_off();
     control("Bulk-Only Reset", 0x21, 0xFF);
     reset_bus();
+    run(&test_unit_ready);
+}
+
+/* A packet of the read waits in IN and a command in OUT, which the disk does not take within a read. The peripheral keeps both
+   through the reset. What answers the next command must be neither. */
+static void packets_left_behind(void) {
+    bus_reset_keeps_packets();
+    break_off();
+    send_wrapper(&test_unit_ready);
+    turn();
+    require(bus_packets_wait(), "no packet left behind, so nothing is tried");
+    printf("%s: sent within the read\n", test_unit_ready.name);
+    reset_bus();
+    ask_name();
     run(&test_unit_ready);
 }
 
@@ -284,6 +309,8 @@ int main(void) {
     broken_off();
     disagreement();
     no_wrappers();
+    printf("-- a reset that leaves packets in the endpoints\n");
+    packets_left_behind();
     printf("-- the fault list again\n");
     read_again();
     return 0;

@@ -4,6 +4,7 @@
 
 /* What an interrupt handler and the hardware share with the main loop. A real one has them volatile. */
 static bool was_reset;
+static bool reset_keeps_packets;
 static bool setup_waits;
 static struct setup setup;
 static enum bus setup_result;
@@ -73,13 +74,25 @@ void usb_unstall_both(void) {
     stalled = false;
 }
 
+void usb_empty_both(void) {
+    out_full = 0;
+    in_full = false;
+}
+
 /* ---- for the host */
 
 void bus_reset(void) {
-    out_full = 0;
-    in_full = false;
+    if (!reset_keeps_packets) usb_empty_both();
     setup_waits = false;
     was_reset = true;
+}
+
+void bus_reset_keeps_packets(void) {
+    reset_keeps_packets = true;
+}
+
+bool bus_packets_wait(void) {
+    return in_full && out_full > 0;
 }
 
 void bus_setup(uint8_t request_type, uint8_t request) {
@@ -94,6 +107,7 @@ enum bus bus_setup_result(uint8_t *byte) {
 }
 
 enum bus bus_out(const uint8_t *bytes, size_t length) {
+    if (was_reset) return BUS_NOT_READY;
     if (stalled) return BUS_STALLED;
     if (out_full == 2) return BUS_NOT_READY;
     copy_packet(&out[out_full++], bytes, length);
@@ -101,6 +115,7 @@ enum bus bus_out(const uint8_t *bytes, size_t length) {
 }
 
 enum bus bus_in(struct packet *came) {
+    if (was_reset) return BUS_NOT_READY;
     if (stalled) return BUS_STALLED;
     if (!in_full) return BUS_NOT_READY;
     *came = in;

@@ -20,7 +20,7 @@ struct setup {
 
 /* ---- for the firmware */
 
-bool usb_bus_was_reset(void);            /* since it was asked last */
+bool usb_bus_was_reset(void);            /* since it was asked last; until then no bulk packet goes either way */
 bool usb_setup_came(struct setup *came); /* a control request; it waits for one of the two answers */
 void usb_setup_answer(uint8_t byte);
 void usb_setup_refuse(void);
@@ -35,12 +35,15 @@ void usb_in_send(const uint8_t *bytes, size_t length);
 
 void usb_stall_both(void);
 void usb_unstall_both(void);
+void usb_empty_both(void); /* what IN has not sent yet and what OUT holds is dropped; a bus reset need not do that */
 
 /* ---- for the host */
 
 enum bus { BUS_DONE, BUS_NOT_READY, BUS_STALLED };
 
 void bus_reset(void);
+void bus_reset_keeps_packets(void); /* from now on it leaves the packets in both endpoints: some peripherals do */
+bool bus_packets_wait(void);        /* in both endpoints */
 void bus_setup(uint8_t request_type, uint8_t request);
 enum bus bus_setup_result(uint8_t *byte); /* BUS_STALLED: refused */
 enum bus bus_out(const uint8_t *bytes, size_t length);
