@@ -15,7 +15,8 @@ use core::fmt;
 /// ```
 #[derive(Clone, Copy, PartialEq, Eq, Debug)]
 pub enum Error {
-    /// The IO buffer has no room for a packet, or not for all bytes of `try_write_data_all`.
+    /// The IO buffer has no room for a packet, or not for all bytes of `try_write_data_all`. From a poll that waits for a
+    /// command: bytes of one that was broken off are in the way; [`Device::renew`](crate::Device::renew).
     IoBufferOverflow,
     /// Nothing can be read or written in this state. Nothing has changed.
     InvalidState,
@@ -25,7 +26,8 @@ pub enum Error {
     WouldBlock,
     /// An endpoint failed. What the poll did before stays.
     Endpoint(EndpointError),
-    /// The record is none, or its buffer is another one. Nothing has changed.
+    /// The record is none, or its buffer is another one. Nothing has changed. The only way on is
+    /// [`Device::new`](crate::Device::new).
     Broken,
     /// An offered packet is longer than the packet size, or the packet buffer is shorter. Nothing has changed.
     PacketSize,

@@ -9,6 +9,8 @@ use crate::state::{CommandStatus, State};
 /// Bytes of a device record.
 pub const RECORD_LENGTH: usize = 52;
 
+const PACKET_SIZE: usize = 0;
+const MAX_LUN: usize = 1;
 const STATE: usize = 2;
 const READ_MARK: usize = 8;
 const WRITE_MARK: usize = 12;
@@ -32,6 +34,9 @@ pub struct Control {
 impl<'a> Device<'a> {
     /// A device that waits for a command. The buffer's bytes stay as they are.
     ///
+    /// It is for power-up, and for a record that is broken. Behind a bus reset [`Device::renew`] does the same with the buffer
+    /// that the device has.
+    ///
     /// ```
     /// use souklavanh::{CreateError, Device};
     ///
@@ -41,11 +46,52 @@ impl<'a> Device<'a> {
     /// assert_eq!(Device::new(64, 16, &mut buffer[..63]).unwrap_err(), CreateError::InvalidMaxLun);
     /// ```
     pub fn new(packet_size: u32, max_lun: u8, io: &'a mut [u8]) -> Result<Device<'a>, CreateError> {
-        let mut record = [0; RECORD_LENGTH];
-        // A longer buffer is too long all the same.
-        let size = u32::try_from(io.len()).unwrap_or(u32::MAX);
-        CreateError::from_number(ffi::create(&mut record, packet_size, max_lun, size))?;
+        let record = new_record(packet_size, max_lun, io.len())?;
         Ok(Device { record, io })
+    }
+
+    /// The bus was reset, or the plug was pulled: a new device over the same buffer, with the same packet size and max LUN. It
+    /// waits for a command, and nothing of the one that was broken off is left. Both endpoints are to be unstalled.
+    ///
+    /// Before this call the firmware empties both endpoints: [the crate's page](crate#a-bus-reset) says why.
+    ///
+    /// A broken record is refused with [`Error::Broken`], and the device stays as it was: where one number of a record is wrong
+    /// its packet size and max LUN cannot be believed, and a device that speaks in packets of another size is worse than none.
+    /// The way on is [`Device::new`], with numbers from the firmware itself.
+    ///
+    /// ```
+    /// use souklavanh::{CommandStatus, Device, Endpoints, Stalls, State};
+    ///
+    /// let (mut buffer, mut packet) = ([0; 512], [0; 64]);
+    /// let mut device = Device::new(64, 0, &mut buffer).unwrap();
+    ///
+    /// // The host reads a block of 512 bytes, and the firmware puts it in. One packet goes out.
+    /// let mut wrapper = [0; 31];
+    /// wrapper[..4].copy_from_slice(b"USBC");
+    /// wrapper[9] = 2;
+    /// wrapper[12] = 0x80;
+    /// wrapper[14..24].copy_from_slice(&[10, 0x28, 0, 0, 0, 0, 0, 0, 0, 1]);
+    /// assert_eq!(device.poll(Endpoints::offering(&wrapper), &mut packet).taken, 1);
+    /// assert_eq!(device.write_data(&[0x41; 512]), Ok(512));
+    /// device.set_status(CommandStatus::Passed, 512).unwrap();
+    /// assert_eq!(device.poll(Endpoints::silent(), &mut packet).sent, 64);
+    ///
+    /// // The plug is pulled. `reset` would leave these bytes in front of every later wrapper.
+    /// assert_eq!(device.unread(), 448);
+    /// assert_eq!(device.renew(), Ok(Stalls::Unstalled));
+    /// assert_eq!(device.unread(), 0);
+    ///
+    /// // The host reads again.
+    /// assert_eq!(device.poll(Endpoints::offering(&wrapper), &mut packet).taken, 1);
+    /// assert_eq!(device.state(), Some(State::DataTransferToHost));
+    /// ```
+    pub fn renew(&mut self) -> Result<Stalls, Error> {
+        // It refuses a broken record, and its stalls are those of a new start.
+        let stalls = self.reset()?;
+        let (packet_size, max_lun) = (self.record[PACKET_SIZE].into(), self.record[MAX_LUN]);
+        self.record = new_record(packet_size, max_lun, self.io.len())
+            .expect("a record that is not broken keeps the rules of a creation");
+        Ok(stalls)
     }
 
     /// A device from the bytes of its record, as [`Device::record`] shows them, and its buffer as it was then.
@@ -119,14 +165,33 @@ impl<'a> Device<'a> {
         counted(ffi::try_write_data_all(&mut self.record, self.io, source)).map(|_| ())
     }
 
-    /// The bus was reset: waits for a command. What stands unread in the IO buffer stays.
+    /// Breaks the command off and waits for the next: no status, nothing left, both endpoints to be unstalled. What stands
+    /// unread in the IO buffer stays, and the next wrapper is read behind it.
+    ///
+    /// Not for a bus reset, nor for a plug that was pulled: use [`Device::renew`]. With unread bytes in front, every later
+    /// wrapper is invalid, or its poll answers [`Error::IoBufferOverflow`], and no further reset brings the disk back. This
+    /// call is the reset of the Rust crate usbd-storage, for those who want exactly that.
+    ///
+    /// ```
+    /// use souklavanh::{Device, Endpoints, State};
+    ///
+    /// let (mut buffer, mut packet) = ([0; 64], [0; 64]);
+    /// let mut device = Device::new(64, 0, &mut buffer).unwrap();
+    /// // Half a wrapper came, then the bus was reset.
+    /// assert_eq!(device.poll(Endpoints::offering(&[0; 15]), &mut packet).taken, 1);
+    /// device.reset().unwrap();
+    /// assert_eq!((device.state(), device.unread()), (Some(State::CommandTransfer), 15));
+    /// device.renew().unwrap();
+    /// assert_eq!((device.state(), device.unread()), (Some(State::CommandTransfer), 0));
+    /// ```
     pub fn reset(&mut self) -> Result<Stalls, Error> {
         let word = ffi::reset(&mut self.record, self.io);
         answered(word)?;
         Ok(Stalls::from_number(word.stalls()))
     }
 
-    /// A control request: bmRequestType and bRequest. Only the class's own two do anything.
+    /// A control request: bmRequestType and bRequest. Only the class's own two do anything: A1h with FEh answers max LUN, A1h
+    /// with FFh is as [`Device::reset`].
     ///
     /// ```
     /// use souklavanh::{Device, Stalls};
@@ -168,6 +233,19 @@ impl<'a> Device<'a> {
         let bytes = [0, 1, 2, 3].map(|index| self.record[at + index]);
         u32::from_le_bytes(bytes)
     }
+}
+
+/// The record of a device that waits for a command.
+fn new_record(
+    packet_size: u32,
+    max_lun: u8,
+    io_length: usize,
+) -> Result<[u8; RECORD_LENGTH], CreateError> {
+    let mut record = [0; RECORD_LENGTH];
+    // A longer buffer is too long all the same.
+    let size = u32::try_from(io_length).unwrap_or(u32::MAX);
+    CreateError::from_number(ffi::create(&mut record, packet_size, max_lun, size))?;
+    Ok(record)
 }
 
 /// The answer of a call that no endpoint takes part in.

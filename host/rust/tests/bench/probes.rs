@@ -109,6 +109,7 @@ fn of_broken_wrapped(replica: &mut Replica, rule: &Rule) -> Checked {
         && device.write_data(&replica.source).map(|_| ()) == broken
         && device.try_write_data_all(&replica.source) == broken
         && device.reset().map(|_| ()) == broken
+        && device.renew().map(|_| ()) == broken
         && device.control(0xA1, 0xFE).map(|_| ()) == broken
         && device.command().map(|_| ()) == broken
         && device.command_step().map(|_| ()) == broken;
