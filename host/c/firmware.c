@@ -28,8 +28,8 @@ bool firmware_start(void) {
 }
 
 /* A broken-off command may have left bytes in the buffer, and a reset alone keeps them: they would stand in front of the next
-   command. It may also have left packets in the endpoints: one in IN would go out as the next command's answer, one in OUT would
-   be taken for a command. So the firmware starts afresh, at a bus reset and wherever an answer comes that cannot be. */
+   command. It may have left packets in the endpoints too: one in IN would go out as the answer to the next command, one in OUT
+   would be taken for a command. So the firmware starts afresh, at a bus reset and wherever an answer comes that cannot be. */
 static void start_afresh(void) {
     (void)firmware_start();
 }

@@ -16,7 +16,8 @@
  * them all from the main loop, and let interrupt handlers set flags only.
  *
  * A TURN OF THE MAIN LOOP
- *   1. Was there a bus reset? souk_create again (see there). A control request? souk_control.
+ *   1. Was there a bus reset? Empty both bulk endpoints, unstall them, souk_create again: A BUS RESET, below. A control
+ *      request? souk_control.
  *   2. souk_command_step. Is a command offered? Put data in with souk_write_data, or take it with souk_read_data. When the
  *      last byte is in, set the status with souk_set_status, in the same turn.
  *   3. Ask the endpoints, then souk_poll:
@@ -32,6 +33,18 @@
  *      Do all three whatever the answer is: a poll that ends with 4 or 6 may have moved on before.
  *   The answer 6 (busy) is no fault. Call again later, with nothing undone and nothing repeated by the firmware. 4 and, in
  *   state 7, 1 say that the firmware has to write or read data first.
+ *
+ * A BUS RESET, or a plug that was pulled, breaks the present command off, and the host knows nothing of it any more. Before the
+ * next poll, in this order:
+ *   1. Empty both bulk endpoints. A packet that was handed to IN and not yet fetched must not go out behind the reset. OUT
+ *      packets that came before the reset must not be offered behind it. Not every peripheral does this by itself. Do it before
+ *      the host can send again, for a packet that comes behind the reset is its next command: drop none of those.
+ *   2. Unstall both.
+ *   3. souk_create, with the same numbers. Not souk_reset, which keeps unread bytes in io.
+ *   4. Forget the command that the firmware was at work on.
+ * Seen where IN kept its packet: 64 bytes of the list went out as the answer to INQUIRY, statuses came one command late, and
+ * the disk was gone. Seen with souk_reset in the place of souk_create: what was left of a read stood in front of every later
+ * wrapper, and neither replugging nor further resets brought the disk back.
  *
  * WHAT GOES TO THE HOST is what was put in, then filler FFh up to the length that the host asked for, then the status. So
  *   - offer commands of exactly 31 bytes only. The polls also take longer messages, and bytes behind a wrapper go back to the
@@ -248,8 +261,8 @@ static inline uint32_t souk_number(const uint8_t *record, size_t at) {
    packet_size  P: 8, 16, 32 or 64
    max_lun      the highest unit number, 0 to 15: 0 for one disk
    size         the length of io
-   Call it at power-up and at every bus reset, and unstall both endpoints then. A reset alone (souk_reset) keeps unread bytes:
-   what was left of a read that was broken off would stand in front of every later wrapper. */
+   Call it at power-up and at every bus reset. Empty both endpoints before it and unstall them: A BUS RESET, above, has the
+   order and the reasons. */
 uint32_t souk_create(uint8_t *record, size_t record_len, uint32_t packet_size, uint8_t max_lun, uint32_t size);
 
 /* One turn of the device, as told above. Answers 0, 1, 4, 6, 7, 10, 11. */
@@ -278,14 +291,16 @@ uint64_t souk_write_data(uint8_t *record, size_t record_len, uint8_t *io, size_t
 uint64_t souk_try_write_data_all(uint8_t *record, size_t record_len, uint8_t *io, size_t io_len, const uint8_t *src,
                                  size_t src_len);
 
-/* Breaks the present command off: state 0, no status, nothing left, both endpoints to be unstalled. Unread bytes stay in io
-   (see souk_create). Answers 0, 10. */
+/* NOT for a bus reset: see A BUS RESET, above. Breaks the present command off: state 0, no status, nothing left, both endpoints
+   to be unstalled. Unread bytes stay in io, and the next wrapper is read behind them. It is the reset of the Rust crate
+   usbd-storage, for those who want exactly that. Answers 0, 10. */
 uint64_t souk_reset(uint8_t *record, size_t record_len, const uint8_t *io, size_t io_len);
 
 /* A control request's first two bytes. Hand over only requests for the disk's own interface (wIndex): the other bytes are not
    looked at. Answers 0, 10; 0 also where the request does not count and nothing was done.
    A1h, FEh (Get Max LUN): souk_flag is 1 and souk_count the byte to answer.
-   A1h, FFh: as souk_reset; souk_stalls says to unstall. BOT's own reset request is 21h, FFh and does not count here. */
+   A1h, FFh: as souk_reset, unread bytes stay; souk_stalls says to unstall. BOT's own reset request is 21h, FFh and does not
+   count here. */
 uint64_t souk_control(uint8_t *record, size_t record_len, const uint8_t *io, size_t io_len, uint8_t request_type,
                       uint8_t request);
 

@@ -36,7 +36,7 @@
 //!
 //! 1. It empties both endpoints. A packet that was handed to IN and not yet fetched must not go out behind the reset: the host
 //!    would take it for the answer to its next command, and every status would come one command late. An OUT packet that came
-//!    before the reset must not be offered behind it. Not every peripheral does this of itself. A packet that comes behind the
+//!    before the reset must not be offered behind it. Not every peripheral does this by itself. A packet that comes behind the
 //!    reset is the host's next command and stays.
 //! 2. It calls [`Device::renew`] and unstalls both endpoints, as that reports.
 //! 3. It forgets the command that it was at work on.
@@ -45,7 +45,7 @@
 //! |---|---|
 //! | [`Device::new`] | power-up, and a record that is broken |
 //! | [`Device::renew`] | a bus reset, or a plug that was pulled: a new device over the same buffer |
-//! | [`Device::reset`] | the reset of the Rust crate usbd-storage and no more: it keeps unread bytes, behind which every later wrapper can be lost |
+//! | [`Device::reset`] | what the Rust crate usbd-storage does at a reset: unread bytes stay. Not for a bus reset |
 //!
 //! # The build
 //!

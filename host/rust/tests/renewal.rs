@@ -1,5 +1,5 @@
-//! A bus reset breaks a command off. Behind `renew` the next command gets its own data and its own status; behind `reset`, which
-//! keeps unread bytes, it gets neither.
+//! A bus reset breaks a command off. Behind `renew` the next command gets its own data and its own status; behind `reset`,
+//! which keeps unread bytes, it gets neither.
 
 use souklavanh::{
     CommandStatus, Device, Endpoints, Error, In, Out, Poll, RECORD_LENGTH, ScsiCommand, Stalls,
