@@ -20,7 +20,10 @@ struct setup {
 
 /* ---- for the firmware */
 
-bool usb_bus_was_reset(void);            /* since it was asked last; until then no bulk packet goes either way */
+/* Since it was asked last. Behind a reset no bulk packet comes or goes before it is asked: the host has to set the device up
+   first. So what the endpoints hold then is from before the reset. */
+bool usb_bus_was_reset(void);
+
 bool usb_setup_came(struct setup *came); /* a control request; it waits for one of the two answers */
 void usb_setup_answer(uint8_t byte);
 void usb_setup_refuse(void);
@@ -35,7 +38,7 @@ void usb_in_send(const uint8_t *bytes, size_t length);
 
 void usb_stall_both(void);
 void usb_unstall_both(void);
-void usb_empty_both(void); /* what IN has not sent yet and what OUT holds is dropped; a bus reset need not do that */
+void usb_empty_both(void); /* drops what IN has not sent yet and what OUT holds: a bus reset may leave both */
 
 /* ---- for the host */
 

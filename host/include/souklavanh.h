@@ -37,8 +37,9 @@
  * A BUS RESET, or a plug that was pulled, breaks the present command off, and the host knows nothing of it any more. Before the
  * next poll, in this order:
  *   1. Empty both bulk endpoints. A packet that was handed to IN and not yet fetched must not go out behind the reset. OUT
- *      packets that came before the reset must not be offered behind it. Not every peripheral does this by itself. Do it before
- *      the host can send again, for a packet that comes behind the reset is its next command: drop none of those.
+ *      packets that came before the reset must not be offered behind it. Not every peripheral does this by itself, and the main
+ *      loop may hand one more packet over before it sees the reset. Do it before the host can send again, for a packet that
+ *      comes behind the reset is its next command: drop none of those.
  *   2. Unstall both.
  *   3. souk_create, with the same numbers. Not souk_reset, which keeps unread bytes in io.
  *   4. Forget the command that the firmware was at work on.

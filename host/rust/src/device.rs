@@ -168,9 +168,9 @@ impl<'a> Device<'a> {
     /// Breaks the command off and waits for the next: no status, nothing left, both endpoints to be unstalled. What stands
     /// unread in the IO buffer stays, and the next wrapper is read behind it.
     ///
-    /// Not for a bus reset, nor for a plug that was pulled: use [`Device::renew`]. With unread bytes in front, every later
-    /// wrapper is invalid, or its poll answers [`Error::IoBufferOverflow`], and no further reset brings the disk back. This
-    /// call is the reset of the Rust crate usbd-storage, for those who want exactly that.
+    /// Not for a bus reset, nor for a plug that was pulled: use [`Device::renew`]. Behind unread bytes later wrappers are
+    /// invalid or taken late, or their polls answer [`Error::IoBufferOverflow`], and no further reset mends that. This call is
+    /// the reset of the Rust crate usbd-storage, for those who want exactly that.
     ///
     /// ```
     /// use souklavanh::{Device, Endpoints, State};

@@ -36,8 +36,8 @@
 //!
 //! 1. It empties both endpoints. A packet that was handed to IN and not yet fetched must not go out behind the reset: the host
 //!    would take it for the answer to its next command, and every status would come one command late. An OUT packet that came
-//!    before the reset must not be offered behind it. Not every peripheral does this by itself. A packet that comes behind the
-//!    reset is the host's next command and stays.
+//!    before the reset must not be offered behind it. Not every peripheral does this by itself, and the firmware may hand one
+//!    more packet over before it sees the reset. A packet that comes behind the reset is the host's next command and stays.
 //! 2. It calls [`Device::renew`] and unstalls both endpoints, as that reports.
 //! 3. It forgets the command that it was at work on.
 //!

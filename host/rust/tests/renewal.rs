@@ -67,24 +67,23 @@ impl<'a> Recorder<'a> {
 
     /// The data as it fits, and the status with its last byte.
     fn serve(&mut self) {
-        let list = list();
-        let data = match self.device.command_step() {
-            Ok(Some(offer)) => match offer.command {
-                ScsiCommand::Inquiry { .. } => &NAME[..],
-                ScsiCommand::Read { .. } => &list[..],
-                _ => return,
-            },
-            _ => return,
-        };
-        if self.device.state() != Some(State::DataTransferToHost) {
+        let device = &mut self.device;
+        // Behind an invalid wrapper an old command is shown.
+        if device.state() != Some(State::DataTransferToHost) {
             return;
         }
-        self.put_in += self.device.write_data(&data[self.put_in..]).unwrap();
+        let Some(offer) = device.command_step().unwrap() else {
+            return;
+        };
+        let data = match offer.command {
+            ScsiCommand::Inquiry { .. } => NAME.to_vec(),
+            ScsiCommand::Read { .. } => list().to_vec(),
+            other => panic!("the host did not send {other:?}"),
+        };
+        self.put_in += device.write_data(&data[self.put_in..]).unwrap();
         if self.put_in == data.len() {
-            let status = self
-                .device
-                .set_status(CommandStatus::Passed, data.len() as u32);
-            status.unwrap();
+            let figure = data.len() as u32;
+            device.set_status(CommandStatus::Passed, figure).unwrap();
             self.put_in = 0;
         }
     }
