@@ -12,9 +12,9 @@ computing-twice (c ∷ cs) = case (c .computed) (c .computed) ∷ computing-twic
 pub by-computing : (table : List Case) → AllHold (computing-twice table)
 unfolding AllHold computing-twice
 by-computing [] = tt
-by-computing (c ∷ cs) = (refl , by-computing cs)
+by-computing (c ∷ cs) = (refl, by-computing cs)
 
 pub joined : (a b : List Case) → AllHold a → AllHold b → AllHold (a ++ b)
 unfolding AllHold
 joined [] b p q = q
-joined (c ∷ cs) b (holds , p) q = (holds , joined cs b p q)
+joined (c ∷ cs) b (holds, p) q = (holds, joined cs b p q)

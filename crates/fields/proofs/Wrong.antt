@@ -12,8 +12,8 @@ use Rattle.fields.proofs.Bools.{clash}
 -- what a table says of each of its cases
 pub holds-there : (before : List Case) (c : Case) (behind : List Case) → AllHold (before ++ c ∷ behind) → c .computed ≡ c .expected
 unfolding AllHold
-holds-there [] c behind (holds , _) = holds
-holds-there (_ ∷ before) c behind (_ , rest) = holds-there before c behind rest
+holds-there [] c behind (holds, _) = holds
+holds-there (_ ∷ before) c behind (_, rest) = holds-there before c behind rest
 
 pub bites : {A : Type 0} (before : List Case) (x y : A) (behind : List Case) → (x ≡ y → ⊥) → AllHold (before ++ case x y ∷ behind) → ⊥
 bites before x y behind differ holds = differ (holds-there before (case x y) behind holds)
