@@ -19,7 +19,7 @@ use Rattle.benchline.specs.Line.{roomFor}
 use Rattle.benchline.proofs.Text.{line-fits}
 use Rattle.benchact.specs.Act.{Acting, actBy}
 use Rattle.benchrun.specs.declared.step.Run.{Run}
-use Rattle.benchrun.specs.Run.{fieldsOf, lineText, toldLine, Beginning, begunOf, creationOf, created, beginBy, Running, runningOf, wentOn, eventBy, stepBy, Roomy}
+use Rattle.benchrun.specs.Run.{fieldsOf, lineText, toldLine, Beginning, begunOf, creationOf, created, beginBy, eventsOf, refusedBy, openBy, Opens, Running, runningOf, wentOn, eventBy, stepBy, Roomy}
 
 -- no line is longer than the room for its bytes
 room-less : (n m : ℕ) → n ≤ m → roomFor n ≤ roomFor m
@@ -103,24 +103,31 @@ begins events text =
     (λ w. record { index = omega arith; line = line-room 0 _ _ 0 Kept 0 []; size = size-most _ _ _ })
     (λ w. record { index = zero-le; line = zero-le; size = zero-le })
 
-module _ (events text : List ℕ) {r : Run} {after : List ℕ} (h : begunOf r after ≡ beginBy events text) where
-  begun : Begins (begunOf r after)
-  begun = subst Begins (sym h) (begins events text)
+-- ---- a file, before anything is written
 
-  pub begun-index : r .index ≤ r .at
-  begun-index = begun .index
+refuses : (text : List ℕ) → Begins (refusedBy text)
+unfolding refusedBy roomFor
+refuses text = record { index = zero-le; line = omega arith; size = zero-le }
 
-  pub begun-line : roomFor 0 ≤ length after → r .line ≤ length after
-  begun-line room = le-trans (begun .line) room
+module _ (file text : List ℕ) {r : Run} {after : List ℕ} (h : Opens file text (begunOf r after)) where
+  opened : Begins (begunOf r after)
+  unfolding openBy
+  opened =
+      subst Begins (sym (h .opened)) (of-picked Begins (h .verdict) (λ v. begins (eventsOf file) text) (λ v. refuses text))
 
-  pub begun-size : r .device .size ≤ 65536
-  begun-size = begun .size
+  pub opened-index : r .index ≤ r .at
+  opened-index = opened .index
+
+  pub opened-line : roomFor 0 ≤ length text → length after ≡ length text → r .line ≤ length after
+  opened-line room e = rw e (le-trans (opened .line) room)
+
+  pub opened-size : r .device .size ≤ 65536
+  opened-size = opened .size
 
 -- ---- the arrays that are lent
 
-pub text-roomy : (n : ℕ) → 131201 ≡ n → roomFor 0 ≤ n
-unfolding roomFor
-text-roomy n e = omega (arith, e)
+pub none-roomy : (lent text : List ℕ) → Roomy lent text → roomFor 0 ≤ length text
+none-roomy lent text room = le-trans (room-less 0 (length lent) zero-le) (room .tells)
 
 pub both-roomy : (lent text : List ℕ) → 65535 ≡ length lent → 131201 ≡ length text → Roomy lent text
 unfolding roomFor

@@ -1,12 +1,12 @@
 -- Laws of a run: what each way through a function owes (`ways`), and what is so behind an event. Assumes nothing.
 use mathlib.Core.Path.{_≡_, sym, ap, _∙_, subst}
-use mathlib.Core.Bool.{true, false, not}
+use mathlib.Core.Bool.{Bool, true, false, not}
 use mathlib.Core.List.{List, []}
-use Prim.Native.Nat.{ℕ, _+_, _-_, _≤_, min}
+use Prim.Native.Nat.{ℕ, _+_, _-_, _≤_, _<_, min}
 use native.Mathlib.Nat.{min-le-right, zero-add}
 use native.Mathlib.Omega.{arith}
 use lib.Dec.{eqb}
-use lib.ListN.{length, take, drop, length-take, take-append-drop}
+use lib.ListN.{length, take, drop, set, length-take, length-set, take-append-drop}
 use lib.Seq.{take-append-seam, length-take-le}
 use Rattle.fields.specs.Field.{get}
 use Rattle.fields.proofs.Bools.{not-true, not-false}
@@ -19,13 +19,15 @@ use Rattle.device.specs.declared.create.Created.{Created}
 use Rattle.device.specs.Create.{isPacketSize, creation, Creation, createdOf, createCall}
 use Rattle.benchfile.specs.declared.event.Head.{Head}
 use Rattle.benchfile.specs.Event.{packetSize, maxLun, bufferSize, suits, eventAt}
+use Rattle.benchfile.specs.File.{Judges}
 use Rattle.benchfile.proofs.Front.{whole-fits, whole-suits, first-long}
 use Rattle.benchline.specs.declared.Line.{Line}
 use Rattle.benchline.specs.Line.{lineOf, roomFor, Puts}
+use Rattle.benchline.proofs.Text.{then-store, store}
 use Rattle.benchact.specs.declared.Acted.{Acted}
 use Rattle.benchact.specs.Act.{actingOf, actBy}
 use Rattle.benchrun.specs.declared.step.Run.{Run}
-use Rattle.benchrun.specs.Run.{fieldsOf, lineText, toldLine, begunOf, stoppedAt, creationOf, created, beginBy, runningOf, wentOn, eventBy, stepBy, Roomy}
+use Rattle.benchrun.specs.Run.{fieldsOf, lineText, toldLine, begunOf, stoppedAt, creationOf, created, beginBy, eventsOf, refusedBy, openBy, Opens, runningOf, wentOn, eventBy, stepBy, Roomy}
 
 -- ---- the line
 
@@ -77,6 +79,42 @@ module _ (events text : List ℕ) {e : Head} (he : e ≡ eventAt events 0) where
     unfolding beginBy created creationOf
     begins-made hp hm hs c hc hk t =
         rw (← he, not-false (e .whole) q, ← hp, ← hm, ← hs, ← hc, hk, ended t, t .text)
+
+-- ---- a file, before anything is written
+
+-- `14`, byte by byte: there is room for it
+module _ (text : List ℕ) (room : roomFor 0 ≤ length text) where
+  pub refuses-first : 0 < length text
+  unfolding roomFor
+  refuses-first = omega arith
+
+  pub refuses-second : 1 < length (set text 0 0x31)
+  unfolding roomFor
+  refuses-second = simp length-set (omega arith)
+
+  pub refuses-third : 2 < length (set (set text 0 0x31) 1 0x34)
+  unfolding roomFor
+  refuses-third = simp length-set (omega arith)
+
+  pub refuses : (c : Created) → createdOf c ≡ createCall 0 0 0
+      → begunOf (record { device = c .device; at = 0; index = 0; line = 3; going = false }) (set (set (set text 0 0x31) 1 0x34) 2 0x0A) ≡ refusedBy text
+  unfolding refusedBy createCall creation isPacketSize roomFor
+  refuses c hc =
+      let put = then-store 0x0A (omega arith) (then-store 0x34 (omega arith) (store text 0 0x31 (omega arith))) in
+      rw (put .text, ap (λ (x : Creation). x .device) hc)
+
+-- the events are a front of the file
+pub cut-fits : (file : List ℕ) {n : ℕ} → n ≡ length file - 12 → n ≡ length (take n file)
+cut-fits file {n} e = sym (length-take-le n file (omega (arith, e)))
+
+module _ (file text : List ℕ) {verdict : Bool} (j : Judges verdict file) where
+  pub opens-refused : not verdict ≡ true → {r : Run} {after : List ℕ} → begunOf r after ≡ refusedBy text → Opens file text (begunOf r after)
+  unfolding openBy
+  opens-refused q h = record { verdict = verdict; judges = j; opened = rw (not-true verdict q) h }
+
+  pub opens-begun : not verdict ≡ false → {n : ℕ} → n ≡ length file - 12 → {r : Run} {after : List ℕ} → begunOf r after ≡ beginBy (take n file) text → Opens file text (begunOf r after)
+  unfolding openBy eventsOf
+  opens-begun q e h = record { verdict = verdict; judges = j; opened = rw (not-false verdict q, ← e) h }
 
 -- ---- a later event
 

@@ -1,10 +1,15 @@
--- What `play` writes behind the first line is, for the events of a good file, one line for each: `prints`. Assumes nothing.
+-- What the turns of `play_file` hand over is one line for each event of a good file, in order, and `14` for any other: `prints`.
+-- Assumes nothing.
 use mathlib.Core.Path.{_≡_, refl, sym, ap, _∙_, subst}
 use mathlib.Core.Bool.{Bool, true, false, cond}
 use mathlib.Core.List.{List, [], _∷_, _++_, append-nil, append-assoc}
-use Prim.Native.Nat.{ℕ, _+_, _-_, _≤_, zero-le}
+use Prim.Native.Nat.{ℕ, _+_, _≤_, zero-le}
 use native.Mathlib.Nat.{le-refl}
 use native.Mathlib.Omega.{arith}
+use contract.Lifetimes.{Lfts}
+use denote.Ref.{now}
+use denote.Triple.Clauses.{AtExit}
+use borrow.Fn.Kinds.{Dens, resT, endedOf}
 use lib.Dec.{eqb, lit<}
 use lib.ListN.{length, take, drop, length-append, length-drop, drop-of-length-le}
 use lib.Seq.{take-append-seam}
@@ -15,15 +20,18 @@ use Rattle.answers.specs.declared.Stalls.the-variants.{Kept}
 use Rattle.device.specs.Create.{newDevice, Creation}
 use Rattle.benchfile.specs.declared.event.Head.{Head}
 use Rattle.benchfile.specs.Event.{kindByte, bodyOf, isEvent, eventAt}
-use Rattle.benchfile.specs.File.{joined, areEvents, Good, ReadAt}
+use Rattle.benchfile.specs.File.{joined, areEvents, Good, ReadAt, Judges}
 use Rattle.benchfile.proofs.Front.{front-short, creation-long}
 use Rattle.benchfile.proofs.Lists.{joined-snoc}
 use Rattle.benchfile.proofs.Judged.{events-part}
 use Rattle.benchfile.proofs.Yields.{read-there}
 use Rattle.benchact.specs.Act.{Acting, actBy}
 use Rattle.benchrun.specs.declared.step.Run.{Run}
-use Rattle.benchrun.specs.Run.{lineText, toldLine, Beginning, begunOf, stoppedAt, creationOf, created, beginBy, Running, runningOf, wentOn, eventBy, stepBy}
-use Rattle.benchrun.specs.Output.{laterLines, creationLines, fileLines, Writes, ended, turn, Prints}
+use Rattle.benchrun.specs.Run.{lineText, toldLine, Beginning, begunOf, stoppedAt, creationOf, created, beginBy, eventsOf, breach, refusedBy, openBy, Running, runningOf, wentOn, eventBy, stepBy}
+use Rattle.benchrun.specs.Turns.{handed, nextOf, Turns, last, turn, startOf, PlayedFile}
+use Rattle.benchrun.proofs.play.play_file.Kinds as kinds
+use Rattle.benchrun.proofs.play.play_file.Reads as play-file
+use Rattle.benchrun.specs.Output.{laterLines, creationLines, fileLines, Prints}
 
 -- what is put at the front of a text is its front
 front-put : (text ys : List ℕ) → take (length ys) (overlay text 0 ys) ≡ ys
@@ -46,51 +54,47 @@ step-none : (run : Run) (xs io lent text : List ℕ) → length xs ≤ run .at �
 unfolding stepBy
 step-none run xs io lent text h = rw (ends-there xs (run .at) h)
 
--- a run that has ended writes nothing more
-silent : (xs : List ℕ) (run : Run) (io lent text out : List ℕ) → run .going ≡ false → Writes xs run io lent text out → out ≡ []
-silent xs run io lent text out q (ended _ _ _ _ _ g e) = e
-silent xs run io lent text out q (turn _ _ _ _ _ rest g w e) = absurd (clash (sym g ∙ q))
+-- a run that has ended has this turn alone
+ended : (xs : List ℕ) (o to : Running) (out : List ℕ) → o .run .going ≡ false → Turns xs o to out → out ≡ handed o
+ended xs o to out q (last _ _ _ g t e) = e
+ended xs o to out q (turn _ _ _ rest g t e) = absurd (clash (sym g ∙ q))
 
--- the loop's next turn, where the step's outcome is known
-module _ (xs : List ℕ) (run : Run) (io lent text out : List ℕ) (o : Running) (h : stepBy run xs io lent text ≡ o) where
+-- what is handed over behind this turn, where the step's outcome is known
+module _ (xs : List ℕ) (o to next : Running) (out : List ℕ) (h : nextOf xs o ≡ next) where
   pub record Turned : Type 0 where
     pub rest : List ℕ
-    pub writes : Writes xs (o .run) (o .io) (o .lent) (o .text) rest
-    pub front : out ≡ take (o .run .line) (o .text) ++ rest
+    pub turns : Turns xs next to rest
+    pub front : out ≡ handed o ++ rest
 
-  turned : run .going ≡ true → Writes xs run io lent text out → Turned
-  turned q (ended _ _ _ _ _ g e) = absurd (clash (sym q ∙ g))
-  turned q (turn _ _ _ _ _ rest g w e) = record {
-    rest = rest;
-    writes = subst (λ (x : Running). Writes xs (x .run) (x .io) (x .lent) (x .text) rest) h w;
-    front = e ∙ ap (λ (x : Running). take (x .run .line) (x .text) ++ rest) h;
-  }
+  turned : o .run .going ≡ true → Turns xs o to out → Turned
+  turned q (last _ _ _ g t e) = absurd (clash (sym q ∙ g))
+  turned q (turn _ _ _ rest g t e) = record { rest = rest; turns = subst (λ (x : Running). Turns xs x to rest) h t; front = e }
 
-later-printed : (es before : List (List ℕ)) (run : Run) (io lent text out : List ℕ) → areEvents true (before ++ es) ≡ true → run .at ≡ length (joined before) → run .going ≡ true
-    → Writes (joined (before ++ es)) run io lent text out → out ≡ laterLines (run .index) es (run .device) io lent
+later-printed : (es before : List (List ℕ)) (o to : Running) (out : List ℕ) → areEvents true (before ++ es) ≡ true → o .run .at ≡ length (joined before) → o .run .going ≡ true
+    → Turns (joined (before ++ es)) o to out → out ≡ handed o ++ laterLines (o .run .index) es (o .run .device) (o .io) (o .lent)
 unfolding laterLines wentOn
-later-printed [] before run io lent text out are at going w =
+later-printed [] before o to out are at going w =
     let xs = joined (before ++ []) in
-    let none = step-none run xs io lent text (rw (append-nil before, at) (le-refl (length (joined before)))) in
-    let t = turned xs run io lent text out _ none going w in
-    t .front ∙ silent xs _ io lent text (t .rest) refl (t .writes)
-later-printed (e ∷ es) before run io lent text out are at going w =
+    let none = step-none (o .run) xs (o .io) (o .lent) (o .text) (rw (append-nil before, at) (le-refl (length (joined before)))) in
+    let t = turned xs o to _ out none going w in
+    t .front ∙ ap (λ (x : List ℕ). handed o ++ x) (ended xs _ to (t .rest) refl (t .turns))
+later-printed (e ∷ es) before o to out are at going w =
     let xs = joined (before ++ e ∷ es) in
-    let read : ReadAt xs (run .at) e = rw at (read-there before e es are) in
-    let a : Acting = actBy (get kindByte e) (bodyOf e) (run .device) io lent in
-    let next = wentOn (run .index) (run .at + length e) a text in
-    let t = turned xs run io lent text out next (step-read run xs io lent text e read) going w in
+    let read : ReadAt xs (o .run .at) e = rw at (read-there before e es are) in
+    let a : Acting = actBy (get kindByte e) (bodyOf e) (o .run .device) (o .io) (o .lent) in
+    let next = wentOn (o .run .index) (o .run .at + length e) a (o .text) in
+    let t = turned xs o to next out (step-read (o .run) xs (o .io) (o .lent) (o .text) e read) going w in
     let same : (before ++ e ∷ []) ++ es ≡ before ++ e ∷ es = append-assoc before (e ∷ []) es in
-    let behind : t .rest ≡ laterLines (run .index + 1) es (a .device) (a .io) (a .lent) =
-    later-printed es (before ++ e ∷ []) (next .run) (a .io) (a .lent) (next .text) (t .rest)
+    let behind : t .rest ≡ handed next ++ laterLines (o .run .index + 1) es (a .device) (a .io) (a .lent) =
+    later-printed es (before ++ e ∷ []) next to (t .rest)
     (rw same are)
     (rw (joined-snoc before e, length-append (joined before) e, at))
     refl
-    (subst (λ (l : List (List ℕ)). Writes (joined l) (next .run) (a .io) (a .lent) (next .text) (t .rest)) (sym same) (t .writes))
+    (subst (λ (l : List (List ℕ)). Turns (joined l) next to (t .rest)) (sym same) (t .turns))
     in
     t .front
-    ∙ ap (λ (x : List ℕ). x ++ t .rest) (front-put text (toldLine (run .index) a))
-    ∙ ap (λ (x : List ℕ). toldLine (run .index) a ++ x) behind
+    ∙ ap (λ (x : List ℕ). handed o ++ x)
+    (behind ∙ ap (λ (x : List ℕ). x ++ laterLines (o .run .index + 1) es (a .device) (a .io) (a .lent)) (front-put (o .text) (toldLine (o .run .index) a)))
 
 -- ---- the first event
 
@@ -105,20 +109,22 @@ begin-read e es text are =
     let seven : length (bodyOf e) ≡ 7 = body-seven e (and-left (isEvent true e) (areEvents false es) are) in
     rw (read .head, ← read .body, seven)
 
-created-printed : (c : Creation) (e : List ℕ) (es : List (List ℕ)) (io lent text out : List ℕ) → areEvents true (e ∷ es) ≡ true
-    → Writes (joined (e ∷ es)) (created c text .run) io lent (created c text .text) out
-    → take (created c text .run .line) (created c text .text) ++ out ≡ creationLines c es io lent
+created-printed : (c : Creation) (e : List ℕ) (es : List (List ℕ)) (space lent text : List ℕ) (to : Running) (out : List ℕ) → areEvents true (e ∷ es) ≡ true
+    → Turns (joined (e ∷ es)) (startOf (created c text) space lent) to out → out ≡ creationLines c es space lent
 unfolding created creationLines joined areEvents
-created-printed c e es io lent text out are w =
-    ap (λ (x : List ℕ). x ++ out) (front-put text line) ∙ ap (λ (x : List ℕ). line ++ x) (behind (eqb (c .number) 0) refl)
+created-printed c e es space lent text to out are w =
+    behind (eqb (c .number) 0) refl ∙ ap (λ (x : List ℕ). x ++ rest (eqb (c .number) 0)) (front-put text (lineText 0 (c .device) (c .number) 0 Kept []))
   where
-    line : List ℕ
-    line = lineText 0 (c .device) (c .number) 0 Kept []
+    start : Running
+    start = startOf (created c text) space lent
 
-    behind : (b : Bool) → eqb (c .number) 0 ≡ b → out ≡ cond b (laterLines 1 es (c .device) io lent) []
+    rest : Bool → List ℕ
+    rest b = cond b (laterLines 1 es (c .device) (take (c .device .size) space) lent) []
+
+    behind : (b : Bool) → eqb (c .number) 0 ≡ b → out ≡ handed start ++ rest b
     behind true q =
-        later-printed es (e ∷ []) (created c text .run) io lent (created c text .text) out are (rw (append-nil e) (sym (creation-long e (and-left (isEvent true e) (areEvents false es) are)))) q w
-    behind false q = silent (joined (e ∷ es)) (created c text .run) io lent (created c text .text) out q w
+        later-printed es (e ∷ []) start to out are (rw (append-nil e) (sym (creation-long e (and-left (isEvent true e) (areEvents false es) are)))) q w
+    behind false q = ended (joined (e ∷ es)) start to out q w ∙ sym (append-nil (handed start))
 
 -- ---- a good file
 
@@ -126,25 +132,50 @@ begin-none : (text : List ℕ) → beginBy (joined []) text ≡ begunOf (stopped
 unfolding beginBy joined
 begin-none text = rw (ends-there [] 0 zero-le)
 
--- what is written where the beginning is known
-from-begin : (xs io lent text out due : List ℕ) (b : Beginning) → beginBy xs text ≡ b
-    → (Writes xs (b .run) io lent (b .text) out → take (b .run .line) (b .text) ++ out ≡ due)
-    → Writes xs (beginBy xs text .run) io lent (beginBy xs text .text) out
-    → take (beginBy xs text .run .line) (beginBy xs text .text) ++ out ≡ due
-from-begin xs io lent text out due b h f =
-    subst (λ (x : Beginning). Writes xs (x .run) io lent (x .text) out → take (x .run .line) (x .text) ++ out ≡ due) (sym h) f
+-- the turns, where the beginning is known
+from-begin : (xs space lent : List ℕ) (to : Running) (out : List ℕ) {b d : Beginning} → b ≡ d → Turns xs (startOf b space lent) to out → Turns xs (startOf d space lent) to out
+from-begin xs space lent to out h = subst (λ (x : Beginning). Turns xs (startOf x space lent) to out) h
 
-events-printed : (events : List (List ℕ)) (io lent text out : List ℕ) → areEvents true events ≡ true
-    → Writes (joined events) (beginBy (joined events) text .run) io lent (beginBy (joined events) text .text) out
-    → take (beginBy (joined events) text .run .line) (beginBy (joined events) text .text) ++ out ≡ fileLines events io lent
+events-printed : (events : List (List ℕ)) (space lent text : List ℕ) (to : Running) (out : List ℕ) → areEvents true events ≡ true
+    → Turns (joined events) (startOf (beginBy (joined events) text) space lent) to out → out ≡ fileLines events space lent
 unfolding fileLines
-events-printed [] io lent text out are w =
-    from-begin (joined []) io lent text out [] _ (begin-none text) (silent (joined []) _ io lent text out refl) w
-events-printed (e ∷ es) io lent text out are w =
-    from-begin (joined (e ∷ es)) io lent text out _ _ (begin-read e es text are) (created-printed (creationOf (bodyOf e)) e es io lent text out are) w
+events-printed [] space lent text to out are w =
+    ended (joined []) _ to out refl (from-begin (joined []) space lent to out (begin-none text) w)
+events-printed (e ∷ es) space lent text to out are w =
+    created-printed (creationOf (bodyOf e)) e es space lent text to out are (from-begin (joined (e ∷ es)) space lent to out (begin-read e es text are) w)
 
--- The text that `begin` leaves, as long as its line, and what `play` writes behind it are one line for each event, in order.
-pub prints : (file : List ℕ) (events : List (List ℕ)) (io lent text out : List ℕ) → Good file events → Prints (take (length file - 12) file) io lent text out → out ≡ fileLines events io lent
-prints file events io lent text out g p =
-    let q : Prints (joined events) io lent text out = subst (λ (xs : List ℕ). Prints xs io lent text out) (events-part file events g) p in
-    q .front ∙ events-printed events io lent text (q .rest) (g .are) (q .writes)
+-- ---- any file
+
+module _ (file space lent text : List ℕ) (begun : Beginning) (to : Running) (out : List ℕ) (w : Turns (eventsOf file) (startOf begun space lent) to out) where
+  good-printed : (events : List (List ℕ)) → Good file events → begun ≡ beginBy (eventsOf file) text → out ≡ fileLines events space lent
+  unfolding eventsOf
+  good-printed events g h =
+      events-printed events space lent text to out (g .are)
+      (subst (λ (xs : List ℕ). Turns xs (startOf (beginBy xs text) space lent) to out) (events-part file events g) (from-begin (eventsOf file) space lent to out h w))
+
+  bad-printed : begun ≡ refusedBy text → out ≡ breach
+  unfolding refusedBy
+  bad-printed h =
+      ended (eventsOf file) (startOf (refusedBy text) space lent) to out refl (from-begin (eventsOf file) space lent to out h w) ∙ front-put text breach
+
+  opened-printed : (verdict : Bool) → Judges verdict file → begun ≡ openBy verdict file text → Prints file space lent out
+  unfolding openBy
+  opened-printed true j h = record {
+    good = λ events g. good-printed events g h;
+    bad = λ none. absurd (none (j .accepted refl .0) (j .accepted refl .1));
+  }
+  opened-printed false j h = record {
+    good = λ events g. absurd (clash (sym (j .accepts events g)));
+    bad = λ none. bad-printed h;
+  }
+
+-- All that the turns of `play_file` hand over, by its contract: a line for each event of a good file, `14` for any other.
+pub prints : {file space lent text space′ lent′ text′ : List ℕ} (p : PlayedFile file space lent text space′ lent′ text′) → Prints file space lent (p .played .out)
+prints {file} {space} {lent} {text} p =
+    let o = p .opens in
+    opened-printed file space lent text (p .begun) _ (p .played .out) (p .played .turns) (o .verdict) (o .judges) (o .opened)
+
+-- The same of the contract itself, as the check reads it.
+pub play-file-prints : (κs : Lfts 4) (a : Dens κs kinds.ps) (x : resT kinds.r κs .Denot) (s : AtExit (endedOf 4 kinds.ps kinds.r) κs) (p : play-file.Post κs a x s)
+    → Prints (now (a .0)) (now (a .1 .0)) (now (a .1 .1 .0)) (p .played .out)
+play-file-prints κs a x s p = prints p

@@ -1,7 +1,7 @@
--- What `bench` prints for a good file: "one line for each event". Assumes nothing: these are definitions.
+-- What `bench` prints for a file: for a good one a line for each event, else `14`. Assumes nothing: these are definitions.
 use Prim.Native.Nat.{ℕ, _+_}
 use mathlib.Core.Path.{_≡_}
-use mathlib.Core.Bool.{true, false, cond}
+use mathlib.Core.Bool.{cond}
 use mathlib.Core.List.{List, [], _∷_, _++_}
 use lib.Dec.{eqb}
 use lib.ListN.{take}
@@ -10,9 +10,9 @@ use Rattle.answers.specs.declared.Stalls.the-variants.{Kept}
 use Rattle.device.specs.declared.Device.{Device}
 use Rattle.device.specs.Create.{Creation}
 use Rattle.benchfile.specs.Event.{kindByte, bodyOf}
+use Rattle.benchfile.specs.File.{Good}
 use Rattle.benchact.specs.Act.{Acting, actBy}
-use Rattle.benchrun.specs.declared.step.Run.{Run}
-use Rattle.benchrun.specs.Run.{lineText, toldLine, creationOf, beginBy, stepBy}
+use Rattle.benchrun.specs.Run.{lineText, toldLine, creationOf, breach}
 
 -- ---- the lines of a file's events
 
@@ -23,26 +23,21 @@ laterLines index (e ∷ es) d io lent =
     let a : Acting = actBy (get kindByte e) (bodyOf e) d io lent in
     toldLine index a ++ laterLines (index + 1) es (a .device) (a .io) (a .lent)
 
--- "A refused creation prints its answer, zeros and two dashes, and the run ends."
+-- "A refused creation prints its answer, zeros and two dashes, and the run ends." The IO buffer is the front of a space, as long as the
+-- creation asks for.
 unfoldable pub creationLines : Creation → List (List ℕ) → List ℕ → List ℕ → List ℕ
-creationLines c es io lent = lineText 0 (c .device) (c .number) 0 Kept [] ++ cond (eqb (c .number) 0) (laterLines 1 es (c .device) io lent) []
+creationLines c es space lent =
+    lineText 0 (c .device) (c .number) 0 Kept []
+    ++ cond (eqb (c .number) 0) (laterLines 1 es (c .device) (take (c .device .size) space) lent) []
 
 -- "a file of none is good and prints nothing"
 unfoldable pub fileLines : List (List ℕ) → List ℕ → List ℕ → List ℕ
-fileLines [] io lent = []
-fileLines (e ∷ es) io lent = creationLines (creationOf (bodyOf e)) es io lent
+fileLines [] space lent = []
+fileLines (e ∷ es) space lent = creationLines (creationOf (bodyOf e)) es space lent
 
--- ---- what the loop of `play` hands to C's write, turn by turn: the front of the text, as long as the line
+-- ---- any file
 
-pub data Writes (events : List ℕ) : Run → List ℕ → List ℕ → List ℕ → List ℕ → Type 0 where
-  ended : (run : Run) (io lent text out : List ℕ) → run .going ≡ false → out ≡ [] → Writes events run io lent text out
-  turn : (run : Run) (io lent text out rest : List ℕ) → run .going ≡ true
-      → Writes events (stepBy run events io lent text .run) (stepBy run events io lent text .io) (stepBy run events io lent text .lent) (stepBy run events io lent text .text) rest
-      → out ≡ take (stepBy run events io lent text .run .line) (stepBy run events io lent text .text) ++ rest
-      → Writes events run io lent text out
-
--- All that is handed over for these events: the line of the first, then what `play` hands over.
-pub record Prints (events io lent text out : List ℕ) : Type 0 where
-  pub rest : List ℕ
-  pub writes : Writes events (beginBy events text .run) io lent (beginBy events text .text) rest
-  pub front : out ≡ take (beginBy events text .run .line) (beginBy events text .text) ++ rest
+-- "Any breach is 14: `bench` prints `14` alone."
+pub record Prints (file space lent out : List ℕ) : Type 0 where
+  pub good : (events : List (List ℕ)) → Good file events → out ≡ fileLines events space lent
+  pub bad : ((events : List (List ℕ)) → Good file events → ⊥) → out ≡ breach

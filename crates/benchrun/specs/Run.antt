@@ -1,7 +1,8 @@
 -- A run of a bench file, event by event: each is a call and gives a line. Assumes nothing: these are definitions.
 use Prim.Native.Nat.{ℕ, _+_, _-_, _≤_}
-use mathlib.Core.Bool.{true, false, cond}
-use mathlib.Core.List.{List, []}
+use mathlib.Core.Path.{_≡_}
+use mathlib.Core.Bool.{Bool, true, false, cond}
+use mathlib.Core.List.{List, [], _∷_}
 use lib.Dec.{eqb}
 use lib.ListN.{length, take, drop}
 use Rattle.fields.specs.Overlay.{overlay}
@@ -13,6 +14,7 @@ use Rattle.device.specs.declared.Device.{Device}
 use Rattle.device.specs.Create.{Creation, newDevice, createCall}
 use Rattle.benchfile.specs.declared.event.Head.{Head}
 use Rattle.benchfile.specs.Event.{packetSize, maxLun, bufferSize, eventAt}
+use Rattle.benchfile.specs.File.{Judges}
 use Rattle.benchline.specs.declared.Line.{Line}
 use Rattle.benchline.specs.Line.{lineOf, roomFor}
 use Rattle.benchact.specs.Act.{Acting, actBy}
@@ -60,6 +62,29 @@ beginBy events text =
     cond (eventAt events 0 .whole)
     (created (creationOf (take 7 (drop 3 events))) text)
     (begunOf (stoppedAt (newDevice 0 0 0) 0 0) text)
+
+-- ---- a file, before anything is written
+
+-- "events, then 12 bytes"
+unfoldable pub eventsOf : List ℕ → List ℕ
+eventsOf file = take (length file - 12) file
+
+-- `14` and the end of the line
+abbrev pub breach : List ℕ
+breach = 0x31 ∷ 0x34 ∷ 0x0A ∷ []
+
+-- "Any breach is 14: `bench` prints `14` alone."
+unfoldable pub refusedBy : List ℕ → Beginning
+refusedBy text = begunOf (record { device = newDevice 0 0 0; at = 0; index = 0; line = length breach; going = false }) (overlay text 0 breach)
+
+unfoldable pub openBy : Bool → List ℕ → List ℕ → Beginning
+openBy good file text = cond good (beginBy (eventsOf file) text) (refusedBy text)
+
+-- The verdict on the file, and what the run and the text are then.
+pub record Opens (file text : List ℕ) (o : Beginning) : Type 0 where
+  pub verdict : Bool
+  pub judges : Judges verdict file
+  pub opened : o ≡ openBy verdict file text
 
 -- ---- a later event
 

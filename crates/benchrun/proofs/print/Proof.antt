@@ -1,42 +1,43 @@
--- `benchrun::print` is safe and ends: a good file has a trailer of 12 bytes. Assumes nothing.
-use Rattle.benchfile.proofs.Judged.{accepted-long, cut-before}
+-- `benchrun::print` is safe and ends: each array is as long as it has to be. Assumes nothing.
+use native.Mathlib.Omega.{arith}
+use Rattle.benchrun.proofs.After.{both-roomy}
 use borrow.Author.Needs.{needs}
 use Rattle.benchrun.proofs.print.Statement.{statement}
 use Rattle.benchrun.proofs.print.Tie as tie
 
-good-requires : tie.Need-good-requires
-good-requires c κs = search needs
+large-buffer-requires : tie.Need-large-buffer-requires
+large-buffer-requires c κs = search needs
 
-sub-end : tie.Need-sub-end
-sub-end c = accepted-long _ (c .before .good2 .ensures) (c .if1 .taken)
+most-shown-requires : tie.Need-most-shown-requires
+most-shown-requires c κs = search needs
 
-slice-aggregate-print-events : tie.Need-slice-aggregate-print-events
-slice-aggregate-print-events c = cut-before (c .before .before .before .before .args .file .now)
+longest-line-requires : tie.Need-longest-line-requires
+longest-line-requires c κs = search needs
 
-print-events-requires : tie.Need-print-events-requires
-print-events-requires c κs = search needs
+slice-aggregate-play-file : tie.Need-slice-aggregate-play-file
+slice-aggregate-play-file c = search needs
+
+slice-aggregate-play-file-2 : tie.Need-slice-aggregate-play-file-2
+slice-aggregate-play-file-2 c = search needs
+
+slice-aggregate-play-file-3 : tie.Need-slice-aggregate-play-file-3
+slice-aggregate-play-file-3 c = search needs
+
+play-file-requires : tie.Need-play-file-requires
+play-file-requires c κs = (both-roomy _ _ (slice-aggregate-play-file-2 (c .before)) (slice-aggregate-play-file-3 c), omega (arith, slice-aggregate-play-file (c .before .before)))
 
 returns : tie.Need-returns
 returns c = search needs
-
-slice-aggregate-write-all : tie.Need-slice-aggregate-write-all
-slice-aggregate-write-all c = search needs
-
-write-all-requires : tie.Need-write-all-requires
-write-all-requires c κs = search needs
-
-returns-2 : tie.Need-returns-2
-returns-2 c = search needs
 
 pub print-spec : {M : Type 1} → statement M
 print-spec =
     tie.close
     (tie.spec
-    good-requires
-    sub-end
-    slice-aggregate-print-events
-    print-events-requires
-    returns
-    slice-aggregate-write-all
-    write-all-requires
-    returns-2)
+    large-buffer-requires
+    most-shown-requires
+    longest-line-requires
+    slice-aggregate-play-file
+    slice-aggregate-play-file-2
+    slice-aggregate-play-file-3
+    play-file-requires
+    returns)

@@ -1,0 +1,51 @@
+// A file's verdict, and its first event: what stands in the text before anything is written.
+use crate::step::Run;
+use crate::step::begin;
+use benchfile::TRAILER;
+use device::create::create;
+ghost use mathlib.Core.Path.{_≡_};
+ghost use Prim.Native.Nat.{_-_, _≤_};
+ghost use lib.ListN.{length};
+ghost use Rattle.benchline.specs.Line.{roomFor};
+ghost use Rattle.benchrun.specs.Run.{begunOf, refusedBy, Opens};
+
+// Where the events end: in front of the trailer.
+pub fn events_end(file: &[u8]) -> usize
+    ensures { λ r. ⌜ r ≡ length (now (file .entry)) - 12 ⌝ }
+{
+    if file.len() < TRAILER {
+        return 0;
+    }
+    file.len() - TRAILER
+}
+
+// `14`, and no run.
+fn refuse(text: &mut [u8]) -> Run
+    requires { ⌜ roomFor 0 ≤ length (now text) ⌝ }
+    ensures { λ r. ⌜ begunOf r (now (text .exit)) ≡ refusedBy (now (text .entry)) ⌝ }
+{
+    text[0] = b'1';
+    text[1] = b'4';
+    text[2] = b'\n';
+    let none = create(0, 0, 0);
+    let blank = none.device;
+    Run {
+        device: blank,
+        at: 0,
+        index: 0,
+        line: 3,
+        going: false,
+    }
+}
+
+// The first event of a good file; `14` for any other.
+pub fn open(file: &[u8], text: &mut [u8]) -> Run
+    requires { ⌜ roomFor 0 ≤ length (now text) ⌝ }
+    ensures { λ r. ⌜ Opens (now (file .entry)) (now (text .entry)) (begunOf r (now (text .exit))) ⌝ }
+{
+    if !benchfile::good(file) {
+        return refuse(text);
+    }
+    let end = events_end(file);
+    begin(&file[..end], text)
+}
