@@ -1,14 +1,14 @@
 -- No second answer satisfies a promise: what a function ensures is true of one run, and of one content of what it may write to; and what
 -- the turns of a run hand over is one list (`turns-once`). `Post` is the contract itself, as the check reads it. Assumes nothing.
 use mathlib.Core.Path.{_≡_, refl, sym, ap, _∙_, subst}
-use mathlib.Core.Bool.{Bool, true, false}
+use mathlib.Core.Bool.{Bool}
 use mathlib.Core.List.{List, _++_}
 use Prim.Native.Nat.{ℕ}
 use lib.ListN.{drop}
 use denote.Ref.{now}
 use Rattle.fields.proofs.Bools.{clash}
 use Rattle.fields.proofs.Only.{Only}
-use Rattle.benchfile.specs.File.{Judges}
+use Rattle.benchfile.proofs.Unique.{judged-once}
 use Rattle.benchrun.specs.Run.{Beginning, eventsOf, openBy, Opens, Running, runningOf}
 use Rattle.benchrun.specs.Turns.{handed, Turns, last, turn, startOf, PlayedFile}
 use Rattle.benchrun.proofs.open.open.Kinds as open-kinds
@@ -34,12 +34,6 @@ step-only κs a x y s t p q =
     (ap (λ (o : Running). o .run) same, ap {B = List ℕ × List ℕ × List ℕ} (λ (o : Running). (o .io, o .lent, o .text)) same)
 
 -- ---- a file, before anything is written
-
--- a file has one verdict
-judged-once : (file : List ℕ) (x y : Bool) → Judges x file → Judges y file → x ≡ y
-judged-once file true y p q = let g = p .accepted refl in sym (q .accepts (g .0) (g .1))
-judged-once file false true p q = let g = q .accepted refl in p .accepts (g .0) (g .1)
-judged-once file false false p q = refl
 
 opens-once : (file text : List ℕ) (a b : Beginning) → Opens file text a → Opens file text b → a ≡ b
 opens-once file text a b p q =
