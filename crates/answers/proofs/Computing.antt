@@ -1,6 +1,6 @@
 -- To unfold this is to unfold all that cases over this crate's definitions compute with. Assumes nothing.
-use Rattle.answers.specs.Answers.{told, endpointOf}
+use Rattle.answers.specs.Answers.{endpointOf}
 
 unfoldable pub computing : Unit {0}
-unfolding told endpointOf
+unfolding endpointOf
 computing = tt

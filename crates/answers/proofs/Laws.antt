@@ -4,10 +4,8 @@ use Prim.Native.Nat.{ℕ}
 use borrow.Author.Tests.{eq-eqb, ne-eqb}
 use Rattle.answers.specs.declared.Endpoint.{Endpoint}
 use Rattle.answers.specs.declared.Endpoint.the-variants.{Served, Busy, Failed}
-use Rattle.answers.specs.declared.Answer.{Answer}
-use Rattle.answers.specs.declared.Answer.the-variants.{Done, WouldBlock, EndpointError}
-use Rattle.answers.specs.declared.Outcome.{Outcome}
-use Rattle.answers.specs.Answers.{number, told, plainly, no, endpointOf, answeredBy}
+use Rattle.answers.specs.declared.Answer.the-variants.{EndpointError}
+use Rattle.answers.specs.Answers.{answerOf, endpointOf, answeredBy}
 
 module _ (byte : ℕ) where
   pub byte-serves : byte ≡ 0 → Served ≡ endpointOf byte
@@ -22,20 +20,7 @@ module _ (byte : ℕ) where
   unfolding endpointOf
   byte-fails n k = rw (ne-eqb _ _ n, ne-eqb _ _ k)
 
--- what a plain answer tells
-pub tells : (a : Answer) {r : Outcome} → r ≡ plainly a → told r ≡ no (number a)
-unfolding told
-tells a p = rw p
+pub answers-failed : (e : Endpoint) (n : ℕ) → e ≡ Failed n → answerOf (EndpointError n) ≡ answeredBy e
+answers-failed e n p = rw p
 
-module _ (e : Endpoint) where
-  pub answers-done : {r : Outcome} → r ≡ plainly Done → e ≡ Served → told r ≡ answeredBy e
-  answers-done k p = rw p (tells Done k)
-
-  pub answers-busy : {r : Outcome} → r ≡ plainly WouldBlock → e ≡ Busy → told r ≡ answeredBy e
-  answers-busy k p = rw p (tells WouldBlock k)
-
-  pub answers-failed : (n : ℕ) → e ≡ Failed n → told (record { answer = EndpointError; carried = n }) ≡ answeredBy e
-  unfolding told
-  answers-failed n p = rw p
-
-pub ruleset ways = (byte-serves, byte-busy, byte-fails, answers-done, answers-busy, answers-failed)
+pub ruleset ways = (byte-serves, byte-busy, byte-fails, answers-failed)

@@ -6,41 +6,34 @@ use Rattle.answers.specs.declared.Endpoint.{Endpoint}
 use Rattle.answers.specs.declared.Endpoint.the-variants.{Served, Busy, Failed}
 use Rattle.answers.specs.declared.Answer.{Answer}
 use Rattle.answers.specs.declared.Answer.the-variants.{Done, IoBufferOverflow, InvalidMaxLun, InvalidState, FullPacketExpected, BufferTooSmall, WouldBlock, EndpointError, PacketSizeRefused, BufferTooLarge, BrokenRecord, PacketRefused, StatusRefused, EmptyBlock}
-use Rattle.answers.specs.declared.Outcome.{Outcome}
 use Rattle.answers.specs.declared.Stalls.{Stalls}
 use Rattle.answers.specs.declared.Stalls.the-variants.{Kept, Stalled, Unstalled, UnstalledStalled}
 
--- The table's numbers.
-abbrev pub number : Answer → ℕ
-number Done = 0
-number IoBufferOverflow = 1
-number InvalidMaxLun = 2
-number InvalidState = 3
-number FullPacketExpected = 4
-number BufferTooSmall = 5
-number WouldBlock = 6
-number EndpointError = 7
-number PacketSizeRefused = 8
-number BufferTooLarge = 9
-number BrokenRecord = 10
-number PacketRefused = 11
-number StatusRefused = 12
-number EmptyBlock = 13
-
--- An answer by its number, with the number that it carries.
-pub record Told : Type 0 where
+-- An answer as the table has it: its number, and the number that it carries.
+pub record Answering : Type 0 where
   pub number : ℕ
   pub carried : ℕ
 
-unfoldable pub told : Outcome → Told
-told o = record { number = number (o .answer); carried = o .carried }
+-- one that carries nothing
+abbrev pub answer : ℕ → Answering
+answer n = record { number = n; carried = 0 }
 
--- An answer that carries nothing, and its number.
-abbrev pub plainly : Answer → Outcome
-plainly a = record { answer = a; carried = 0 }
-
-abbrev pub no : ℕ → Told
-no n = record { number = n; carried = 0 }
+-- The table's numbers. "7 other endpoint error, its number carried": no other answer carries one.
+abbrev pub answerOf : Answer → Answering
+answerOf Done = answer 0
+answerOf IoBufferOverflow = answer 1
+answerOf InvalidMaxLun = answer 2
+answerOf InvalidState = answer 3
+answerOf FullPacketExpected = answer 4
+answerOf BufferTooSmall = answer 5
+answerOf WouldBlock = answer 6
+answerOf (EndpointError n) = record { number = 7; carried = n }
+answerOf PacketSizeRefused = answer 8
+answerOf BufferTooLarge = answer 9
+answerOf BrokenRecord = answer 10
+answerOf PacketRefused = answer 11
+answerOf StatusRefused = answer 12
+answerOf EmptyBlock = answer 13
 
 -- "Endpoint answers: 0 does its part, 1 busy, others errors"
 unfoldable pub endpointOf : ℕ → Endpoint
@@ -53,9 +46,9 @@ serves Busy = false
 serves (Failed n) = false
 
 -- 6: "the endpoint asked is busy". 7: "other endpoint error, its number carried".
-abbrev pub answeredBy : Endpoint → Told
-answeredBy Served = no 0
-answeredBy Busy = no 6
+abbrev pub answeredBy : Endpoint → Answering
+answeredBy Served = answer 0
+answeredBy Busy = answer 6
 answeredBy (Failed n) = record { number = 7; carried = n }
 
 -- Stalls, as `bench` has them: `-`, `S`, `U`, `US`.

@@ -1,6 +1,6 @@
 // What endpoints and calls answer: document 01's numbers, by name.
 ghost use mathlib.Core.Path.{_≡_};
-ghost use Rattle.answers.specs.Answers.{number, told, plainly, endpointOf, serves, answeredBy, stallsOf};
+ghost use Rattle.answers.specs.Answers.{answerOf, endpointOf, serves, answeredBy, stallsOf};
 
 // What an endpoint does when it is asked: its part, nothing since it is busy, or it fails with a number of its own.
 pub enum Endpoint {
@@ -9,7 +9,7 @@ pub enum Endpoint {
     Failed(u8),
 }
 
-// Document 01's answers 0 to 13, in its order.
+// Document 01's answers 0 to 13, in its order, each with the number that it carries: the failed endpoint's with EndpointError.
 pub enum Answer {
     Done,
     IoBufferOverflow,
@@ -18,19 +18,13 @@ pub enum Answer {
     FullPacketExpected,
     BufferTooSmall,
     WouldBlock,
-    EndpointError,
+    EndpointError(u8),
     PacketSizeRefused,
     BufferTooLarge,
     BrokenRecord,
     PacketRefused,
     StatusRefused,
     EmptyBlock,
-}
-
-// An answer and the number that it carries: the failed endpoint's with EndpointError, else 0.
-pub struct Outcome {
-    pub answer: Answer,
-    pub carried: u8,
 }
 
 // What is asked of both endpoints at once, in this order: to unstall, to stall.
@@ -43,7 +37,7 @@ pub enum Stalls {
 
 // Document 01's number of an answer.
 pub fn answer_number(answer: Answer) -> u8
-    ensures { λ r. ⌜ r ≡ number answer ⌝ }
+    ensures { λ r. ⌜ r ≡ answerOf answer .number ⌝ }
 {
     match answer {
         Answer::Done => 0,
@@ -53,13 +47,35 @@ pub fn answer_number(answer: Answer) -> u8
         Answer::FullPacketExpected => 4,
         Answer::BufferTooSmall => 5,
         Answer::WouldBlock => 6,
-        Answer::EndpointError => 7,
+        Answer::EndpointError(_) => 7,
         Answer::PacketSizeRefused => 8,
         Answer::BufferTooLarge => 9,
         Answer::BrokenRecord => 10,
         Answer::PacketRefused => 11,
         Answer::StatusRefused => 12,
         Answer::EmptyBlock => 13,
+    }
+}
+
+// The number that an answer carries, 0 where it carries none.
+pub fn carried(answer: Answer) -> u8
+    ensures { λ r. ⌜ r ≡ answerOf answer .carried ⌝ }
+{
+    match answer {
+        Answer::Done => 0,
+        Answer::IoBufferOverflow => 0,
+        Answer::InvalidMaxLun => 0,
+        Answer::InvalidState => 0,
+        Answer::FullPacketExpected => 0,
+        Answer::BufferTooSmall => 0,
+        Answer::WouldBlock => 0,
+        Answer::EndpointError(number) => number,
+        Answer::PacketSizeRefused => 0,
+        Answer::BufferTooLarge => 0,
+        Answer::BrokenRecord => 0,
+        Answer::PacketRefused => 0,
+        Answer::StatusRefused => 0,
+        Answer::EmptyBlock => 0,
     }
 }
 
@@ -87,27 +103,14 @@ pub fn served(e: Endpoint) -> bool
     }
 }
 
-// An answer that carries nothing.
-pub fn plain(answer: Answer) -> Outcome
-    ensures { λ r. ⌜ r ≡ plainly answer ⌝ }
-{
-    Outcome {
-        answer: answer,
-        carried: 0,
-    }
-}
-
 // What a call answers that asks this endpoint.
-pub fn answered(e: Endpoint) -> Outcome
-    ensures { λ r. ⌜ told r ≡ answeredBy e ⌝ }
+pub fn answered(e: Endpoint) -> Answer
+    ensures { λ r. ⌜ answerOf r ≡ answeredBy e ⌝ }
 {
     match e {
-        Endpoint::Served => plain(Answer::Done),
-        Endpoint::Busy => plain(Answer::WouldBlock),
-        Endpoint::Failed(number) => Outcome {
-            answer: Answer::EndpointError,
-            carried: number,
-        },
+        Endpoint::Served => Answer::Done,
+        Endpoint::Busy => Answer::WouldBlock,
+        Endpoint::Failed(number) => Answer::EndpointError(number),
     }
 }
 

@@ -2,8 +2,8 @@
 use Rattle.buffer.proofs.Computing as buffer
 use Rattle.wrapper.proofs.Computing as wrapper
 use Rattle.answers.proofs.Computing as answers
-use Rattle.packets.specs.Packets.{handed, readTold, takesOne, brought, received, accepted, sendTold, sentCount, sentOff, sentInto, filledUp, withStatus}
+use Rattle.packets.specs.Packets.{handed, readAnswer, takesOne, brought, received, accepted, sendAnswer, sentCount, sentOff, sentInto, filledUp, withStatus}
 
 unfoldable pub computing : Unit {0}
-unfolding handed readTold takesOne brought received accepted sendTold sentCount sentOff sentInto filledUp withStatus buffer.computing wrapper.computing answers.computing
+unfolding handed readAnswer takesOne brought received accepted sendAnswer sentCount sentOff sentInto filledUp withStatus buffer.computing wrapper.computing answers.computing
 computing = tt

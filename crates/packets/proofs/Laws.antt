@@ -18,14 +18,13 @@ use Rattle.buffer.proofs.Unread.{filled-none}
 use Rattle.answers.specs.declared.Answer.the-variants.{Done, IoBufferOverflow}
 use Rattle.answers.specs.declared.Endpoint.{Endpoint}
 use Rattle.answers.specs.declared.Endpoint.the-variants.{Served, Busy, Failed}
-use Rattle.answers.specs.declared.Outcome.{Outcome}
-use Rattle.answers.specs.Answers.{Told, told, plainly, no, serves, answeredBy}
-use Rattle.answers.proofs.Laws.{tells}
+use Rattle.answers.specs.declared.Answer.{Answer}
+use Rattle.answers.specs.Answers.{Answering, answerOf, answer, serves, answeredBy}
 use Rattle.wrapper.specs.declared.counters.Left.{Left}
 use Rattle.wrapper.specs.declared.counters.Residue.{Residue}
 use Rattle.wrapper.specs.Status.{statusBytes}
 use Rattle.packets.specs.declared.Received.{Received}
-use Rattle.packets.specs.Packets.{handed, readTold, takesOne, brought, received, Reports, Reads, accepted, sendTold, sentCount, sentOff, sentInto, Sends, filledUp, withStatus}
+use Rattle.packets.specs.Packets.{handed, readAnswer, takesOne, brought, received, Reports, Reads, accepted, sendAnswer, sentCount, sentOff, sentInto, Sends, filledUp, withStatus}
 
 -- ---- how much moves
 
@@ -58,13 +57,12 @@ handed-most e packet p h = by (serves e)
 -- ---- a read
 
 module _ (t : Put) (e : Endpoint) (n : ℕ) where
-  pub reports-room : t .done ≡ true → {o : Outcome} → told o ≡ answeredBy e → {v : Bool} → v ≡ serves e
-      → Reports t e n (record { outcome = o; taken = v; count = n; marks = t .marks })
-  reports-room q ho hv = record { outcome = rw q ho; taken = rw q hv; count = rw q; marks = refl }
+  pub reports-room : t .done ≡ true → {o : Answer} → answerOf o ≡ answeredBy e → {v : Bool} → v ≡ serves e
+      → Reports t e n (record { answer = o; taken = v; count = n; marks = t .marks })
+  reports-room q ho hv = record { answer = rw q ho; taken = rw q hv; count = rw q; marks = refl }
 
-  pub reports-none : t .done ≡ false → {o : Outcome} → o ≡ plainly IoBufferOverflow
-      → Reports t e n (record { outcome = o; taken = false; count = 0; marks = t .marks })
-  reports-none q ho = record { outcome = rw q (tells IoBufferOverflow ho); taken = rw q; count = rw q; marks = refl }
+  pub reports-none : t .done ≡ false → Reports t e n (record { answer = IoBufferOverflow; taken = false; count = 0; marks = t .marks })
+  reports-none q = record { answer = rw q; taken = rw q; count = rw q; marks = refl }
 
 -- a test that was taken the other way round
 unless : {A : Type 0} (b : Bool) (x y : A) → cond (not b) x y ≡ cond b y x
@@ -73,12 +71,12 @@ unless false x y = refl
 
 pub reads : (p : ℕ) (e : Endpoint) (packet : List ℕ) (s : Buffer) → length packet ≤ p → {ys : List ℕ} → ys ≡ handed e packet → {t : Put} {io : List ℕ} → t .done ≡ not (lacksRoom (max p (length ys)) s)
     → Leaves (buffer io (t .marks)) (writtenAll p ys s) → {r : Received} → Reports t e (length ys) r → Reads p e packet s r io
-unfolding readTold takesOne brought received
+unfolding readAnswer takesOne brought received
 reads p e packet s fits hy {t} hd hl x =
     let most : max p (length (handed e packet)) ≡ p = max-eq-left (handed-most e packet p fits) in
     let room : t .done ≡ not (lacksRoom p s) = rw (hy, most) at hd in
     record {
-      outcome = x .outcome ∙ rw room (unless (lacksRoom p s) _ _);
+      answer = x .answer ∙ rw room (unless (lacksRoom p s) _ _);
       taken = x .taken ∙ rw room (unless (lacksRoom p s) _ _);
       count = x .count ∙ rw (room, hy) (unless (lacksRoom p s) _ _);
       leaves = rw (x .marks, ← hy) hl;
@@ -86,24 +84,24 @@ reads p e packet s fits hy {t} hd hl x =
 
 -- ---- a send
 
-module _ (e : Endpoint) (n : ℕ) (o : Outcome) where
-  pub sends-nothing : n ≡ 0 → o ≡ plainly Done → told o ≡ sendTold e n
-  unfolding sendTold
-  sends-nothing q h = rw (eq-eqb _ _ q) (tells Done h)
+module _ (e : Endpoint) (n : ℕ) where
+  pub sends-nothing : n ≡ 0 → answerOf Done ≡ sendAnswer e n
+  unfolding sendAnswer
+  sends-nothing q = rw (eq-eqb _ _ q)
 
-  pub sends-something : (n ≡ 0 → ⊥) → told o ≡ answeredBy e → told o ≡ sendTold e n
-  unfolding sendTold
-  sends-something q h = rw (ne-eqb _ _ q) h
+  pub sends-something : (o : Answer) → (n ≡ 0 → ⊥) → answerOf o ≡ answeredBy e → answerOf o ≡ sendAnswer e n
+  unfolding sendAnswer
+  sends-something o q h = rw (ne-eqb _ _ q) h
 
 -- an endpoint that does its part answers 0, with nothing unread too
-pub answers-0 : (e : Endpoint) → serves e ≡ true → answeredBy e ≡ no 0
+pub answers-0 : (e : Endpoint) → serves e ≡ true → answeredBy e ≡ answer 0
 answers-0 Served h = refl
-answers-0 Busy h = ap (λ (b : Bool). cond b (no 0) (no 6)) h
-answers-0 (Failed n) h = ap (λ (b : Bool). cond b (no 0) (answeredBy (Failed n))) h
+answers-0 Busy h = ap (λ (b : Bool). cond b (answer 0) (answer 6)) h
+answers-0 (Failed n) h = ap (λ (b : Bool). cond b (answer 0) (answeredBy (Failed n))) h
 
-pub told-served : (e : Endpoint) (n : ℕ) → serves e ≡ true → sendTold e n ≡ no 0
-unfolding sendTold
-told-served e n serving = of-picked (λ (t : Told). t ≡ no 0) (eqb n 0) (λ _. refl) (λ _. answers-0 e serving)
+pub answer-served : (e : Endpoint) (n : ℕ) → serves e ≡ true → sendAnswer e n ≡ answer 0
+unfolding sendAnswer
+answer-served e n serving = of-picked (λ (t : Answering). t ≡ answer 0) (eqb n 0) (λ _. refl) (λ _. answers-0 e serving)
 
 module _ (p : ℕ) (e : Endpoint) (s : Buffer) where
   -- nothing is sent where the endpoint does not do its part
@@ -121,18 +119,18 @@ module _ (p : ℕ) (e : Endpoint) (s : Buffer) where
     unfolding sentCount sentInto given
     into-nothing packet = rw k (overlay-nothing packet 0)
 
-  module _ (packet : List ℕ) {o : Outcome} {b : Bool} (h : b ≡ serves e) where
-    pub sends-served : b ≡ true → o ≡ plainly Done → {k : ℕ} {m : Marks} {l : List ℕ} → k ≡ ready p s → Leaves (buffer (s .bytes) m) (readOff p s) → l ≡ overlay packet 0 (given p s)
-        → Sends p e s packet (record { outcome = o; count = k; marks = m }) l
+  module _ (packet : List ℕ) {b : Bool} (h : b ≡ serves e) where
+    pub sends-served : b ≡ true → {k : ℕ} {m : Marks} {l : List ℕ} → k ≡ ready p s → Leaves (buffer (s .bytes) m) (readOff p s) → l ≡ overlay packet 0 (given p s)
+        → Sends p e s packet (record { answer = Done; count = k; marks = m }) l
     unfolding sentCount sentOff sentInto accepted
-    sends-served q ho hk hl hp =
+    sends-served q hk hl hp =
         let serving : serves e ≡ true = sym h ∙ q in
-        record { outcome = tells Done ho ∙ sym (told-served e (unread s) serving); count = rw serving hk; leaves = rw serving hl; into = rw serving hp }
+        record { answer = sym (answer-served e (unread s) serving); count = rw serving hk; leaves = rw serving hl; into = rw serving hp }
 
-    pub sends-unserved : b ≡ false → Sound s → told o ≡ sendTold e (unread s) → Sends p e s packet (record { outcome = o; count = 0; marks = s .marks }) packet
+    pub sends-unserved : {o : Answer} → b ≡ false → Sound s → answerOf o ≡ sendAnswer e (unread s) → Sends p e s packet (record { answer = o; count = 0; marks = s .marks }) packet
     sends-unserved q g ho =
         let none = sent-unserved (sym h ∙ q) in
-        record { outcome = ho; count = sym none; leaves = record { same = sym (off-nothing none); sound = g }; into = sym (into-nothing none packet) }
+        record { answer = ho; count = sym none; leaves = record { same = sym (off-nothing none); sound = g }; into = sym (into-nothing none packet) }
 
 -- ---- what is written before
 

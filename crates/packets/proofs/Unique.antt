@@ -10,8 +10,8 @@ use Rattle.buffer.specs.declared.Marks.{Marks}
 use Rattle.buffer.specs.Buffer.{Buffer}
 use Rattle.buffer.proofs.Unique.{left-once}
 use Rattle.answers.specs.declared.Endpoint.{Endpoint}
-use Rattle.answers.specs.declared.Outcome.{Outcome}
-use Rattle.answers.proofs.Unique.{told-once}
+use Rattle.answers.specs.declared.Answer.{Answer}
+use Rattle.answers.proofs.Unique.{answer-once}
 use Rattle.packets.specs.declared.Received.{Received}
 use Rattle.packets.specs.declared.Sent.{Sent}
 use Rattle.packets.specs.Packets.{Reads, Sends}
@@ -25,28 +25,28 @@ use Rattle.packets.proofs.put_status.Kinds as put-status-kinds
 use Rattle.packets.proofs.put_status.Reads as put-status
 
 -- a record is told by its parts
-abbrev received : Outcome → Bool → ℕ → Marks → Received
-received o t n m = record { outcome = o; taken = t; count = n; marks = m }
+abbrev received : Answer → Bool → ℕ → Marks → Received
+received o t n m = record { answer = o; taken = t; count = n; marks = m }
 
-abbrev sent : Outcome → ℕ → Marks → Sent
-sent o n m = record { outcome = o; count = n; marks = m }
+abbrev sent : Answer → ℕ → Marks → Sent
+sent o n m = record { answer = o; count = n; marks = m }
 
 read-once : (p : ℕ) (e : Endpoint) (packet : List ℕ) (s : Buffer) (x y : Received) {b c : List ℕ} → Reads p e packet s x b → Reads p e packet s y c → (x ≡ y) × (b ≡ c)
 read-once p e packet s x y k l =
     let m = left-once (k .leaves) (l .leaves) in (
-      ap (λ (z : Outcome). received z (x .taken) (x .count) (x .marks)) (told-once (x .outcome) (y .outcome) (k .outcome) (l .outcome))
-          ∙ ap (λ (z : Bool). received (y .outcome) z (x .count) (x .marks)) (k .taken ∙ sym (l .taken))
-          ∙ ap (λ (z : ℕ). received (y .outcome) (y .taken) z (x .marks)) (k .count ∙ sym (l .count))
-          ∙ ap (received (y .outcome) (y .taken) (y .count)) (m .0),
+      ap (λ (z : Answer). received z (x .taken) (x .count) (x .marks)) (answer-once (x .answer) (y .answer) (k .answer) (l .answer))
+          ∙ ap (λ (z : Bool). received (y .answer) z (x .count) (x .marks)) (k .taken ∙ sym (l .taken))
+          ∙ ap (λ (z : ℕ). received (y .answer) (y .taken) z (x .marks)) (k .count ∙ sym (l .count))
+          ∙ ap (received (y .answer) (y .taken) (y .count)) (m .0),
       m .1,
     )
 
 send-once : (p : ℕ) (e : Endpoint) (s : Buffer) (packet : List ℕ) (x y : Sent) {b c : List ℕ} → Sends p e s packet x b → Sends p e s packet y c → (x ≡ y) × (b ≡ c)
 send-once p e s packet x y k l =
     let m = left-once (k .leaves) (l .leaves) in (
-      ap (λ (z : Outcome). sent z (x .count) (x .marks)) (told-once (x .outcome) (y .outcome) (k .outcome) (l .outcome))
-          ∙ ap (λ (z : ℕ). sent (y .outcome) z (x .marks)) (k .count ∙ sym (l .count))
-          ∙ ap (sent (y .outcome) (y .count)) (m .0),
+      ap (λ (z : Answer). sent z (x .count) (x .marks)) (answer-once (x .answer) (y .answer) (k .answer) (l .answer))
+          ∙ ap (λ (z : ℕ). sent (y .answer) z (x .marks)) (k .count ∙ sym (l .count))
+          ∙ ap (sent (y .answer) (y .count)) (m .0),
       k .into ∙ sym (l .into),
     )
 

@@ -9,7 +9,7 @@ use Rattle.fields.specs.Overlay.{overlay}
 use Rattle.buffer.specs.declared.marked.Put.{Put}
 use Rattle.buffer.specs.Buffer.{Buffer, Leaves, buffer, unread, lacksRoom, writtenAll, filled, written, emptied, ready, given, readOff}
 use Rattle.answers.specs.declared.Endpoint.{Endpoint}
-use Rattle.answers.specs.Answers.{Told, no, told, serves, answeredBy}
+use Rattle.answers.specs.Answers.{Answering, answer, answerOf, serves, answeredBy}
 use Rattle.wrapper.specs.declared.counters.Left.{Left}
 use Rattle.wrapper.specs.declared.counters.Residue.{Residue}
 use Rattle.wrapper.specs.Status.{statusBytes}
@@ -23,8 +23,8 @@ unfoldable pub handed : Endpoint → List ℕ → List ℕ
 handed e packet = cond (serves e) packet []
 
 -- "1: room, after moving, is below P (packet read)"; only then is the endpoint asked.
-unfoldable pub readTold : ℕ → Endpoint → Buffer → Told
-readTold p e s = cond (lacksRoom p s) (no 1) (answeredBy e)
+unfoldable pub readAnswer : ℕ → Endpoint → Buffer → Answering
+readAnswer p e s = cond (lacksRoom p s) (answer 1) (answeredBy e)
 
 -- Whether a packet was taken, and how many bytes it brought.
 unfoldable pub takesOne : ℕ → Endpoint → Buffer → Bool
@@ -39,14 +39,14 @@ received p e packet s = writtenAll p (handed e packet) s
 
 -- What is reported of it, by whether there was room, with n bytes put in.
 pub record Reports (t : Put) (e : Endpoint) (n : ℕ) (r : Received) : Type 0 where
-  pub outcome : told (r .outcome) ≡ cond (t .done) (answeredBy e) (no 1)
+  pub answer : answerOf (r .answer) ≡ cond (t .done) (answeredBy e) (answer 1)
   pub taken : r .taken ≡ cond (t .done) (serves e) false
   pub count : r .count ≡ cond (t .done) n 0
   pub marks : r .marks ≡ t .marks
 
 -- What a read promises.
 pub record Reads (p : ℕ) (e : Endpoint) (packet : List ℕ) (s : Buffer) (r : Received) (io : List ℕ) : Type 0 where
-  pub outcome : told (r .outcome) ≡ readTold p e s
+  pub answer : answerOf (r .answer) ≡ readAnswer p e s
   pub taken : r .taken ≡ takesOne p e s
   pub count : r .count ≡ brought p e packet s
   pub leaves : Leaves (buffer io (r .marks)) (received p e packet s)
@@ -58,8 +58,8 @@ unfoldable pub accepted : Endpoint → ℕ → ℕ
 accepted e p = cond (serves e) p 0
 
 -- "nothing unread sends nothing, answer 0"
-unfoldable pub sendTold : Endpoint → ℕ → Told
-sendTold e unread = cond (eqb unread 0) (no 0) (answeredBy e)
+unfoldable pub sendAnswer : Endpoint → ℕ → Answering
+sendAnswer e unread = cond (eqb unread 0) (answer 0) (answeredBy e)
 
 -- "send min(P, unread)": so many bytes, and the buffer and the packet buffer then.
 unfoldable pub sentCount : ℕ → Endpoint → Buffer → ℕ
@@ -74,7 +74,7 @@ sentInto p e s packet = overlay packet 0 (given (accepted e p) s)
 
 -- What a send promises.
 pub record Sends (p : ℕ) (e : Endpoint) (s : Buffer) (packet : List ℕ) (r : Sent) (packet′ : List ℕ) : Type 0 where
-  pub outcome : told (r .outcome) ≡ sendTold e (unread s)
+  pub answer : answerOf (r .answer) ≡ sendAnswer e (unread s)
   pub count : r .count ≡ sentCount p e s
   pub leaves : Leaves (buffer (s .bytes) (r .marks)) (sentOff p e s)
   pub into : packet′ ≡ sentInto p e s packet

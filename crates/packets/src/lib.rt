@@ -1,9 +1,7 @@
 // One packet: read into the IO buffer or sent from it, and what is written into the buffer before it is sent.
 use answers::Answer;
 use answers::Endpoint;
-use answers::Outcome;
 use answers::answered;
-use answers::plain;
 use answers::served;
 use buffer::Marks;
 use buffer::marked;
@@ -16,13 +14,13 @@ ghost use mathlib.Core.Path.{_≡_};
 ghost use Prim.Native.Nat.{_≤_, min};
 ghost use lib.ListN.{length};
 ghost use Rattle.buffer.specs.Buffer.{Sound, Leaves, buffer, at};
-ghost use Rattle.answers.specs.Answers.{told};
+ghost use Rattle.answers.specs.Answers.{answerOf};
 ghost use Rattle.wrapper.specs.Status.{statusNumber};
-ghost use Rattle.packets.specs.Packets.{Reports, Reads, Sends, sendTold, filledUp, withStatus};
+ghost use Rattle.packets.specs.Packets.{Reports, Reads, Sends, sendAnswer, filledUp, withStatus};
 
 // After a packet was asked of OUT: the answer, whether a packet was taken, of how many bytes, and the marks.
 pub struct Received {
-    pub outcome: Outcome,
+    pub answer: Answer,
     pub taken: bool,
     pub count: usize,
     pub marks: Marks,
@@ -30,7 +28,7 @@ pub struct Received {
 
 // After a packet was offered to IN: the answer, how many bytes it took, and the marks.
 pub struct Sent {
-    pub outcome: Outcome,
+    pub answer: Answer,
     pub count: usize,
     pub marks: Marks,
 }
@@ -42,14 +40,14 @@ fn reported(t: Put, out: Endpoint, n: usize) -> Received
     let marks = t.marks;
     if t.done {
         return Received {
-            outcome: answered(out),
+            answer: answered(out),
             taken: served(out),
             count: n,
             marks: marks,
         };
     }
     Received {
-        outcome: plain(Answer::IoBufferOverflow),
+        answer: Answer::IoBufferOverflow,
         taken: false,
         count: 0,
         marks: marks,
@@ -70,11 +68,11 @@ pub fn read_packet(io: &mut [u8], m: Marks, p: usize, out: Endpoint, packet: &[u
 }
 
 // With nothing unread the endpoint is not asked.
-fn send_outcome(unread: usize, e: Endpoint) -> Outcome
-    ensures { λ r. ⌜ told r ≡ sendTold e unread ⌝ }
+fn send_answer(unread: usize, e: Endpoint) -> Answer
+    ensures { λ r. ⌜ answerOf r ≡ sendAnswer e unread ⌝ }
 {
     if unread == 0 {
-        return plain(Answer::Done);
+        return Answer::Done;
     }
     answered(e)
 }
@@ -88,13 +86,13 @@ pub fn send_packet(io: &[u8], m: Marks, p: usize, e: Endpoint, packet: &mut [u8]
         let t = marked::read(io, m, p, packet);
         let marks = t.marks;
         return Sent {
-            outcome: plain(Answer::Done),
+            answer: Answer::Done,
             count: t.count,
             marks: marks,
         };
     }
     Sent {
-        outcome: send_outcome(m.write - m.read, e),
+        answer: send_answer(m.write - m.read, e),
         count: 0,
         marks: m,
     }
