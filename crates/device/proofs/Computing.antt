@@ -1,8 +1,9 @@
 -- To unfold this is to unfold all that cases over this crate's definitions compute with. Assumes nothing.
 use Rattle.buffer.proofs.Computing as buffer
+use Rattle.wrapper.proofs.Computing as wrapper
 use Rattle.device.specs.Create.{isPacketSize, creation, createCall}
-use Rattle.device.specs.Broken.{commandFits, isWhole}
+use Rattle.device.specs.Broken.{commandFits, isWhole, unlessBroken}
 
 unfoldable pub computing : Unit {0}
-unfolding isPacketSize creation createCall commandFits isWhole buffer.computing
+unfolding isPacketSize creation createCall commandFits isWhole unlessBroken buffer.computing wrapper.computing
 computing = tt

@@ -15,20 +15,21 @@ use borrow.Author.Tests.{eq-eqb, eqb-true, leb-true, le-leb, ltb-false}
 use Rattle.fields.proofs.Bools.{and-left, and-right, not-true}
 use Rattle.buffer.specs.Buffer.{Sound, isSound, buffer}
 use Rattle.ring.specs.declared.State.the-variants.{CommandTransfer}
+use Rattle.device.specs.declared.Fixed.{Fixed}
 use Rattle.device.specs.declared.Numbers.{Numbers}
 use Rattle.device.specs.Device.{isPresent}
 use Rattle.device.specs.Create.{isPacketSize, creation}
 use Rattle.device.specs.Broken.{commandFits, statusFits, Whole, isWhole}
 
 -- the rules, as facts, from the tests
-whole-by : (n : Numbers) (len : ℕ) → eqb (n .size) len ≡ true → eqb (creation (n .packetsize) (n .maxlun) (n .size)) 0 ≡ true → isSound (n .size) (n .marks) ≡ true
+whole-by : (n : Numbers) (len : ℕ) → eqb (n .fixed .size) len ≡ true → eqb (creation (n .fixed)) 0 ≡ true → isSound (n .fixed .size) (n .marks) ≡ true
     → commandFits (n .lun) (n .blocklength) ≡ true → statusFits (n .state) (isPresent (n .status)) ≡ true → Whole n len
 unfolding isSound commandFits
 whole-by n len a b c d f = record {
   lent = eqb-true _ _ a;
   created = eqb-true _ _ b;
-  order = leb-true _ _ (and-left (leb (n .marks .read) (n .marks .write)) (leb (n .marks .write) (n .size)) c);
-  within = leb-true _ _ (and-right (leb (n .marks .read) (n .marks .write)) (leb (n .marks .write) (n .size)) c);
+  order = leb-true _ _ (and-left (leb (n .marks .read) (n .marks .write)) (leb (n .marks .write) (n .fixed .size)) c);
+  within = leb-true _ _ (and-right (leb (n .marks .read) (n .marks .write)) (leb (n .marks .write) (n .fixed .size)) c);
   block = leb-true _ _ (and-left (leb (n .blocklength) 16) (leb (n .lun) 15) d);
   lun = leb-true _ _ (and-right (leb (n .blocklength) 16) (leb (n .lun) 15) d);
   status = f;
@@ -71,24 +72,24 @@ unviolated false false false true true h = absurd (omega (arith, h))
 unviolated false false false true false h = (refl, refl, refl, refl)
 unviolated false false false false e h = absurd (omega (arith, h))
 
-module _ (n : Numbers) (len : ℕ) (w : Whole n len) where
-  rules : (ltb (n .size) 31 ≡ false) × (ltb (n .size) (n .packetsize) ≡ false) × (isPacketSize (n .packetsize) ≡ true) × (ltb 65536 (n .size) ≡ false)
-  unfolding creation
-  rules = unviolated (ltb 15 (n .maxlun)) (ltb (n .size) 31) (ltb (n .size) (n .packetsize)) (isPacketSize (n .packetsize)) (ltb 65536 (n .size)) (w .created)
+rules : (f : Fixed) → creation f ≡ 0 → (ltb (f .size) 31 ≡ false) × (ltb (f .size) (f .packetsize) ≡ false) × (isPacketSize (f .packetsize) ≡ true) × (ltb 65536 (f .size) ≡ false)
+unfolding creation
+rules f e = unviolated (ltb 15 (f .maxlun)) (ltb (f .size) 31) (ltb (f .size) (f .packetsize)) (isPacketSize (f .packetsize)) (ltb 65536 (f .size)) e
 
+module _ (n : Numbers) (len : ℕ) (w : Whole n len) where
   -- a wrapper fits into the buffer, and so does a packet
   pub wrapper-fits : 31 ≤ len
-  wrapper-fits = omega (arith, ltb-false (n .size) 31 (rules .0), w .lent)
+  wrapper-fits = omega (arith, ltb-false (n .fixed .size) 31 (rules (n .fixed) (w .created) .0), w .lent)
 
-  pub packet-fits : n .packetsize ≤ len
-  packet-fits = omega (arith, ltb-false (n .size) (n .packetsize) (rules .1), w .lent)
+  pub packet-fits : n .fixed .packetsize ≤ len
+  packet-fits = omega (arith, ltb-false (n .fixed .size) (n .fixed .packetsize) (rules (n .fixed) (w .created) .1), w .lent)
 
   -- "IO buffer 31 to 65,536 bytes"
-  pub size-most : n .size ≤ 65536
-  size-most = ltb-false 65536 (n .size) (rules .3)
+  pub size-most : n .fixed .size ≤ 65536
+  size-most = ltb-false 65536 (n .fixed .size) (rules (n .fixed) (w .created) .3)
 
-  pub packet-known : isPacketSize (n .packetsize) ≡ true
-  packet-known = rules .2
+  pub packet-known : isPacketSize (n .fixed .packetsize) ≡ true
+  packet-known = rules (n .fixed) (w .created) .2
 
 -- what is one of four has what each of them has
 or-true : (a b : Bool) {A : Type 0} → (a ≡ true → A) → (b ≡ true → A) → (a || b) ≡ true → A
@@ -106,6 +107,5 @@ packet-bounds p h =
     (or-true (eqb p 32) _ (within p 32 (omega arith) (omega arith)) (within p 64 (omega arith) (omega arith)))) h
 
 -- a packet size that creation takes is a byte
-pub packet-below : (p maxlun size : ℕ) → creation p maxlun size ≡ 0 → p < 256
-unfolding creation
-packet-below p maxlun size e = omega (arith, packet-bounds p (unviolated (ltb 15 maxlun) (ltb size 31) (ltb size p) (isPacketSize p) (ltb 65536 size) e .2) .1)
+pub packet-below : (f : Fixed) → creation f ≡ 0 → f .packetsize < 256
+packet-below f e = omega (arith, packet-bounds (f .packetsize) (rules f e .2) .1)

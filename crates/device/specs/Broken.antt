@@ -1,13 +1,16 @@
 -- "Broken means: ..", rule by rule. A record that is not broken is whole. Assumes nothing: these are definitions.
 use mathlib.Core.Path.{_≡_}
 use Prim.Native.Nat.{ℕ, _≤_}
-use mathlib.Core.Bool.{Bool, true, not, _&&_}
+use mathlib.Core.Bool.{Bool, true, cond, not, _&&_}
+use mathlib.Core.List.{List}
 use lib.Dec.{eqb, leb}
+use lib.ListN.{length}
 use Rattle.buffer.specs.Buffer.{isSound}
 use Rattle.ring.specs.declared.State.{State}
 use Rattle.ring.specs.declared.State.the-variants.{CommandTransfer, CommandTransferInvalid, DataTransferNoData, StatusTransfer, DataTransferToHost, DataTransferToHostStatusAwait, DataTransferToHostEnding, DataTransferFromHost, DataTransferFromHostEnding}
+use Rattle.device.specs.declared.Device.{Device}
 use Rattle.device.specs.declared.Numbers.{Numbers}
-use Rattle.device.specs.Device.{isPresent}
+use Rattle.device.specs.Device.{isPresent, numbersOf}
 use Rattle.device.specs.Create.{creation}
 
 -- "block length above 16; LUN above 15"
@@ -29,20 +32,24 @@ statusFits DataTransferFromHostEnding present = present
 -- A whole record over a lent IO buffer of len bytes. As a fact, and as a test.
 pub record Whole (n : Numbers) (len : ℕ) : Type 0 where
   -- "the lent IO buffer's length differs from the recorded one"
-  pub lent : n .size ≡ len
+  pub lent : n .fixed .size ≡ len
   -- "a creation rule is violated"
-  pub created : creation (n .packetsize) (n .maxlun) (n .size) ≡ 0
+  pub created : creation (n .fixed) ≡ 0
   -- "read mark above write mark or write mark above the length"
   pub order : n .marks .read ≤ n .marks .write
-  pub within : n .marks .write ≤ n .size
+  pub within : n .marks .write ≤ n .fixed .size
   pub block : n .blocklength ≤ 16
   pub lun : n .lun ≤ 15
   pub status : statusFits (n .state) (isPresent (n .status)) ≡ true
 
 unfoldable pub isWhole : Numbers → ℕ → Bool
 isWhole n len =
-    eqb (n .size) len
-    && (eqb (creation (n .packetsize) (n .maxlun) (n .size)) 0
-    && (isSound (n .size) (n .marks)
+    eqb (n .fixed .size) len
+    && (eqb (creation (n .fixed)) 0
+    && (isSound (n .fixed .size) (n .marks)
     && (commandFits (n .lun) (n .blocklength)
     && statusFits (n .state) (isPresent (n .status)))))
+
+-- "Every other device call checks 10 first": then `refused`, all as before; else `done`
+unfoldable pub unlessBroken : {A : Type 0} → Device → List ℕ → A → A → A
+unlessBroken d io refused done = cond (isWhole (numbersOf d) (length io)) done refused

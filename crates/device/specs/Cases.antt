@@ -5,46 +5,48 @@ use Prim.Native.Nat.{ℕ}
 use Rattle.fields.specs.Case.{Case, case}
 use Rattle.buffer.specs.declared.Marks.{Marks}
 use Rattle.buffer.specs.Buffer.{at}
+use Rattle.answers.specs.Answers.{answer}
 use Rattle.ring.specs.declared.State.{State}
 use Rattle.ring.specs.declared.State.the-variants.{CommandTransfer, CommandTransferInvalid, StatusTransfer, DataTransferToHost, DataTransferToHostEnding, DataTransferFromHostEnding}
 use Rattle.wrapper.specs.declared.status.CommandStatus.the-variants.{Passed}
 use Rattle.device.specs.declared.Status.{Status}
 use Rattle.device.specs.declared.Status.the-variants.{Absent, Present}
 use Rattle.device.specs.declared.Numbers.{Numbers}
-use Rattle.device.specs.Create.{creation, newDevice, createCall}
+use Rattle.device.specs.Device.{numbersOf}
+use Rattle.device.specs.Create.{fixed, creation, newDevice, noDevice, createCall}
 use Rattle.device.specs.Broken.{isWhole}
 
 -- "Create: max LUN 15 yes, 16 with buffer 0 gives 2*; buffer 30 gives 5, 31 with P 8 yes*"
 unfoldable pub starred : List Case
 starred =
-    case (createCall 8 15 31) (record { number = 0; device = newDevice 8 15 31 })
-    ∷ case (createCall 8 16 0) (record { number = 2; device = newDevice 0 0 0 })
-    ∷ case (createCall 8 0 30) (record { number = 5; device = newDevice 0 0 0 })
-    ∷ case (createCall 8 0 31) (record { number = 0; device = newDevice 8 0 31 })
+    case (createCall (fixed 8 15 31)) (record { answer = answer 0; device = newDevice (fixed 8 15 31) })
+    ∷ case (createCall (fixed 8 16 0)) (record { answer = answer 2; device = noDevice })
+    ∷ case (createCall (fixed 8 0 30)) (record { answer = answer 5; device = noDevice })
+    ∷ case (createCall (fixed 8 0 31)) (record { answer = answer 0; device = newDevice (fixed 8 0 31) })
     ∷ []
 
 -- a whole record with P 8 and a buffer of 31, and these in it
 abbrev record-of : State → Status → Marks → ℕ → ℕ → Numbers
-record-of state status marks lun blocklength = record { packetsize = 8; maxlun = 0; size = 31; state = state; marks = marks; tag = 0; lun = lun; blocklength = blocklength; status = status; left = record { 0 = 0 } }
+record-of state status marks lun blocklength = record { fixed = fixed 8 0 31; state = state; marks = marks; tag = 0; lun = lun; blocklength = blocklength; status = status; left = record { 0 = 0 } }
 
 abbrev passed : Status
 passed = Present Passed (record { 0 = 0 })
 
 -- a new record with these sizes, over a buffer of that size
 abbrev sized : ℕ → ℕ → ℕ → Bool
-sized p maxlun size = isWhole (record { packetsize = p; maxlun = maxlun; size = size; state = CommandTransfer; marks = at 0 0; tag = 0; lun = 0; blocklength = 0; status = Absent; left = record { 0 = 0 } }) size
+sized p maxlun size = isWhole (numbersOf (newDevice (fixed p maxlun size))) size
 
 unfoldable pub ours : List Case
 ours =
     -- "63 with P 64 gives 5; P 24 gives 8; 65,537 gives 9": and the order of the rules
-    case (creation 64 0 63) 5
-    ∷ case (creation 24 0 64) 8
-    ∷ case (creation 64 0 65537) 9
-    ∷ case (creation 24 0 65537) 8
-    ∷ case (creation 24 0 23) 5
-    ∷ case (creation 64 0 65536) 0
-    ∷ case (creation 65600 0 65536) 5
-    ∷ case (creation 264 0 65536) 8
+    case (creation (fixed 64 0 63)) 5
+    ∷ case (creation (fixed 24 0 64)) 8
+    ∷ case (creation (fixed 64 0 65537)) 9
+    ∷ case (creation (fixed 24 0 65537)) 8
+    ∷ case (creation (fixed 24 0 23)) 5
+    ∷ case (creation (fixed 64 0 65536)) 0
+    ∷ case (creation (fixed 65600 0 65536)) 5
+    ∷ case (creation (fixed 264 0 65536)) 8
     -- each way to be broken, beside a record that is whole
     ∷ case (isWhole (record-of DataTransferToHost Absent (at 3 31) 15 16) 31) true
     ∷ case (isWhole (record-of DataTransferToHost Absent (at 3 31) 15 16) 32) false

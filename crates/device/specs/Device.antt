@@ -17,23 +17,27 @@ isPresent (Present status residue) = true
 
 -- of a record what decides
 abbrev pub numbersOf : Device → Numbers
-numbersOf d = record { packetsize = d .packetsize; maxlun = d .maxlun; size = d .size; state = d .state; marks = d .marks; tag = d .wrapper .tag; lun = d .wrapper .lun; blocklength = d .wrapper .blocklength; status = d .status; left = d .left }
+numbersOf d = record { fixed = d .fixed; state = d .state; marks = d .marks; tag = d .wrapper .tag; lun = d .wrapper .lun; blocklength = d .wrapper .blocklength; status = d .status; left = d .left }
 
--- a record with one of its parts changed
+-- a record with these parts, and all else as it was: every change of a record is one of these
+abbrev pub rebuilt : Device → State → Marks → Wrapper → Status → Left → Device
+rebuilt d state marks wrapper status left = record { fixed = d .fixed; state = state; marks = marks; wrapper = wrapper; status = status; left = left }
+
+-- with one of its parts changed
 abbrev pub inState : State → Device → Device
-inState s d = record { packetsize = d .packetsize; maxlun = d .maxlun; size = d .size; state = s; marks = d .marks; wrapper = d .wrapper; status = d .status; left = d .left }
+inState s d = rebuilt d s (d .marks) (d .wrapper) (d .status) (d .left)
 
 abbrev pub withMarks : Marks → Device → Device
-withMarks m d = record { packetsize = d .packetsize; maxlun = d .maxlun; size = d .size; state = d .state; marks = m; wrapper = d .wrapper; status = d .status; left = d .left }
+withMarks m d = rebuilt d (d .state) m (d .wrapper) (d .status) (d .left)
 
 abbrev pub withWrapper : Wrapper → Device → Device
-withWrapper w d = record { packetsize = d .packetsize; maxlun = d .maxlun; size = d .size; state = d .state; marks = d .marks; wrapper = w; status = d .status; left = d .left }
+withWrapper w d = rebuilt d (d .state) (d .marks) w (d .status) (d .left)
 
 abbrev pub withStatus : Status → Device → Device
-withStatus s d = record { packetsize = d .packetsize; maxlun = d .maxlun; size = d .size; state = d .state; marks = d .marks; wrapper = d .wrapper; status = s; left = d .left }
+withStatus s d = rebuilt d (d .state) (d .marks) (d .wrapper) s (d .left)
 
 abbrev pub withLeft : Left → Device → Device
-withLeft l d = record { packetsize = d .packetsize; maxlun = d .maxlun; size = d .size; state = d .state; marks = d .marks; wrapper = d .wrapper; status = d .status; left = l }
+withLeft l d = rebuilt d (d .state) (d .marks) (d .wrapper) (d .status) l
 
 -- "Entering 0 clears status and left .. it does not empty the buffer."
 abbrev pub entering0 : Device → Device

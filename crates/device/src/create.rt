@@ -1,15 +1,16 @@
-// A new device.
+// A new device, and the rules that it has to meet.
 use crate::Device;
+use crate::Fixed;
 use crate::Status;
-use crate::creatable;
-use crate::is_packet_size;
 use answers::Answer;
+use answers::answer_number;
 use buffer::Marks;
 use ring::State;
 use wrapper::counters::Left;
 ghost use mathlib.Core.Path.{_≡_};
-ghost use Rattle.answers.specs.Answers.{number};
-ghost use Rattle.device.specs.Create.{creation, newDevice, createdOf, createCall};
+ghost use lib.Dec.{eqb};
+ghost use Rattle.answers.specs.Answers.{answer, answerOf};
+ghost use Rattle.device.specs.Create.{isPacketSize, creation, newDevice, createdOf, createCall};
 
 // The answer, and a device: with any answer but 0 there is no device, and all of this one is 0.
 pub struct Created {
@@ -17,37 +18,57 @@ pub struct Created {
     pub device: Device,
 }
 
-// Which creation rule is violated first.
-fn judged(packetsize: usize, maxlun: u8, size: usize) -> Answer
-    ensures { λ r. ⌜ number r ≡ creation packetsize maxlun size ⌝ }
+pub fn is_packet_size(p: usize) -> bool
+    ensures { λ r. ⌜ r ≡ isPacketSize p ⌝ }
 {
-    if 15 < maxlun {
+    if p == 8 {
+        return true;
+    }
+    if p == 16 {
+        return true;
+    }
+    if p == 32 {
+        return true;
+    }
+    p == 64
+}
+
+// Which creation rule is violated first.
+fn judged(fixed: Fixed) -> Answer
+    ensures { λ r. ⌜ answerOf r ≡ answer (creation fixed) ⌝ }
+{
+    if 15 < fixed.maxlun {
         return Answer::InvalidMaxLun;
     }
-    if size < 31 {
+    if fixed.size < 31 {
         return Answer::BufferTooSmall;
     }
-    if size < packetsize {
+    if fixed.size < fixed.packetsize {
         return Answer::BufferTooSmall;
     }
-    if !is_packet_size(packetsize) {
+    if !is_packet_size(fixed.packetsize) {
         return Answer::PacketSizeRefused;
     }
-    if 65536 < size {
+    if 65536 < fixed.size {
         return Answer::BufferTooLarge;
     }
     Answer::Done
 }
 
+// Whether a device may be so: no creation rule is violated.
+pub(crate) fn creatable(fixed: Fixed) -> bool
+    ensures { λ r. ⌜ r ≡ eqb (creation fixed) 0 ⌝ }
+{
+    answer_number(judged(fixed)) == 0
+}
+
 // A device that waits for its first wrapper.
-fn blank(packetsize: usize, maxlun: u8, size: usize) -> Device
-    ensures { λ r. ⌜ r ≡ newDevice packetsize maxlun size ⌝ }
+fn blank(fixed: Fixed) -> Device
+    ensures { λ r. ⌜ r ≡ newDevice fixed ⌝ }
 {
     let wrapper = wrapper::no_wrapper();
     Device {
-        packetsize: packetsize,
-        maxlun: maxlun,
-        size: size,
+        fixed: fixed,
         state: State::CommandTransfer,
         marks: Marks { read: 0, write: 0 },
         wrapper: wrapper,
@@ -56,19 +77,22 @@ fn blank(packetsize: usize, maxlun: u8, size: usize) -> Device
     }
 }
 
-// The sizes are 32 bits wide and are tested before anything else is done with them.
-pub fn create(packetsize: u32, maxlun: u8, size: u32) -> Created
-    ensures { λ r. ⌜ createdOf r ≡ createCall packetsize maxlun size ⌝ }
+pub fn create(fixed: Fixed) -> Created
+    ensures { λ r. ⌜ createdOf r ≡ createCall fixed ⌝ }
 {
-    let answer = judged(packetsize as usize, maxlun, size as usize);
-    if creatable(packetsize as usize, maxlun, size as usize) {
-        let device = blank(packetsize as usize, maxlun, size as usize);
+    let answer = judged(fixed);
+    if answer_number(answer) == 0 {
+        let device = blank(fixed);
         return Created {
             answer: answer,
             device: device,
         };
     }
-    let none = blank(0, 0, 0);
+    let none = blank(Fixed {
+        packetsize: 0,
+        maxlun: 0,
+        size: 0,
+    });
     Created {
         answer: answer,
         device: none,

@@ -1,6 +1,7 @@
 // The device record, whether it is broken, and a new one.
 pub mod create;
 
+use crate::create::creatable;
 use buffer::Marks;
 use buffer::sound;
 use ring::State;
@@ -10,9 +11,7 @@ use wrapper::counters::Residue;
 use wrapper::status::CommandStatus;
 ghost use mathlib.Core.Path.{_≡_};
 ghost use mathlib.Core.Bool.{true, false};
-ghost use lib.Dec.{eqb};
-ghost use Rattle.device.specs.Device.{isPresent, numbersOf};
-ghost use Rattle.device.specs.Create.{isPacketSize, creation};
+ghost use Rattle.device.specs.Device.{isPresent, numbersOf, rebuilt};
 ghost use Rattle.device.specs.Broken.{commandFits, statusFits, isWhole};
 
 // The firmware's status, with the residue reported.
@@ -21,10 +20,15 @@ pub enum Status {
     Present(CommandStatus, Residue),
 }
 
-pub struct Device {
+// What never changes after creation: the packet size P, the max LUN, and how many bytes the IO buffer has.
+pub struct Fixed {
     pub packetsize: usize,
     pub maxlun: u8,
     pub size: usize,
+}
+
+pub struct Device {
+    pub fixed: Fixed,
     pub state: State,
     pub marks: Marks,
     pub wrapper: Wrapper,
@@ -34,9 +38,7 @@ pub struct Device {
 
 // Of the record what decides whether it is broken and what a poll does: numbers and small enums, no bytes.
 pub struct Numbers {
-    pub packetsize: usize,
-    pub maxlun: u8,
-    pub size: usize,
+    pub fixed: Fixed,
     pub state: State,
     pub marks: Marks,
     pub tag: u32,
@@ -58,15 +60,14 @@ pub fn present(status: Status) -> bool
 pub fn numbers_of(d: Device) -> Numbers
     ensures { λ r. ⌜ r ≡ numbersOf d ⌝ }
 {
+    let fixed = d.fixed;
     let state = d.state;
     let marks = d.marks;
     let w = d.wrapper;
     let status = d.status;
     let left = d.left;
     Numbers {
-        packetsize: d.packetsize,
-        maxlun: d.maxlun,
-        size: d.size,
+        fixed: fixed,
         state: state,
         marks: marks,
         tag: w.tag,
@@ -77,38 +78,26 @@ pub fn numbers_of(d: Device) -> Numbers
     }
 }
 
-pub fn is_packet_size(p: usize) -> bool
-    ensures { λ r. ⌜ r ≡ isPacketSize p ⌝ }
+// The record with these parts, and all else as it was. Every change of a record goes through here.
+pub fn rebuilt(
+    d: Device,
+    state: State,
+    marks: Marks,
+    wrapper: Wrapper,
+    status: Status,
+    left: Left,
+) -> Device
+    ensures { λ r. ⌜ r ≡ rebuilt d state marks wrapper status left ⌝ }
 {
-    if p == 8 {
-        return true;
+    let fixed = d.fixed;
+    Device {
+        fixed: fixed,
+        state: state,
+        marks: marks,
+        wrapper: wrapper,
+        status: status,
+        left: left,
     }
-    if p == 16 {
-        return true;
-    }
-    if p == 32 {
-        return true;
-    }
-    p == 64
-}
-
-// Whether a device may have these sizes: whether no creation rule is violated.
-fn creatable(packetsize: usize, maxlun: u8, size: usize) -> bool
-    ensures { λ r. ⌜ r ≡ eqb (creation packetsize maxlun size) 0 ⌝ }
-{
-    if 15 < maxlun {
-        return false;
-    }
-    if size < 31 {
-        return false;
-    }
-    if size < packetsize {
-        return false;
-    }
-    if 65536 < size {
-        return false;
-    }
-    is_packet_size(packetsize)
 }
 
 fn command_fits(lun: u8, blocklength: u8) -> bool
@@ -167,14 +156,15 @@ fn status_fits(state: State, present: bool) -> bool
 pub fn whole(n: Numbers, len: usize) -> bool
     ensures { λ r. ⌜ r ≡ isWhole n len ⌝ }
 {
-    if n.size != len {
+    let fixed = n.fixed;
+    if fixed.size != len {
         return false;
     }
-    if !creatable(n.packetsize, n.maxlun, n.size) {
+    if !creatable(fixed) {
         return false;
     }
     let marks = n.marks;
-    if !sound(n.size, marks) {
+    if !sound(fixed.size, marks) {
         return false;
     }
     if !command_fits(n.lun, n.blocklength) {
