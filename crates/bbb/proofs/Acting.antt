@@ -9,9 +9,7 @@ use Rattle.buffer.specs.declared.Marks.{Marks}
 use Rattle.buffer.specs.Buffer.{Buffer, Sound, Leaves, buffer, at, emptied}
 use Rattle.answers.specs.declared.Answer.the-variants.{FullPacketExpected}
 use Rattle.answers.specs.declared.Endpoint.{Endpoint}
-use Rattle.answers.specs.declared.Outcome.{Outcome}
-use Rattle.answers.specs.Answers.{plainly, endpointOf}
-use Rattle.answers.proofs.Laws.{tells}
+use Rattle.answers.specs.Answers.{endpointOf}
 use Rattle.ring.specs.declared.Before.{Before}
 use Rattle.ring.specs.declared.Before.the-variants as before
 use Rattle.ring.specs.declared.Kind.the-variants as kind
@@ -30,8 +28,8 @@ use Rattle.device.specs.declared.Status.the-variants.{Absent, Present}
 use Rattle.bbb.specs.declared.Turn.{Turn}
 use Rattle.bbb.specs.declared.open.Opened.{Opened}
 use Rattle.bbb.specs.declared.act.Did.{Did}
-use Rattle.bbb.specs.Poll.{Given, fallsShort, offers, offeredBy, statusPut}
-use Rattle.bbb.specs.Phases.{openOf, doneOf, Acts, restDid, emptiedMarks, oneMore, tookFrom, took, refuses, readied, leftThen, sentFrom, sentBy, sentPacket, acted, actedPacket}
+use Rattle.bbb.specs.Poll.{Given, leftThen, fallsShort, offers, offeredBy, statusPut}
+use Rattle.bbb.specs.Phases.{openOf, doneOf, Acts, restDid, emptiedMarks, oneMore, tookFrom, took, refuses, readied, sentFrom, sentBy, sentPacket, acted, actedPacket}
 
 -- ---- small tests and picks
 
@@ -104,29 +102,29 @@ sound-emptied b io m g h = rw h (sound-empties b io m g)
 pub takes : (b : Before) (p : ℕ) (o : Opened) (io one two : List ℕ) (turn : Turn) {m : Marks} {r : Received} {io′ : List ℕ} {l : Left} {k : ℕ}
     → m ≡ emptiedMarks b (o .marks) → Reads p (offeredBy (o .taken) turn) (offers (o .taken) one two) (buffer io m) r io′
     → l ≡ fallen (o .left) (r .count) → k ≡ oneMore (o .taken) (r .taken)
-    → doneOf (record { marks = r .marks; left = l; sent = 0; outcome = r .outcome; taken = k; stalled = false }) io′ ≡ took b p (openOf o) io one two turn
+    → doneOf (record { marks = r .marks; left = l; sent = 0; answer = r .answer; taken = k; stalled = false }) io′ ≡ took b p (openOf o) io one two turn
 unfolding took tookFrom
 takes b p o io one two turn hm x hl hk =
-    rw (hl, hk, x .outcome, x .taken, x .count, ap (λ (t : Buffer). t .marks) (x .leaves .same), ap (λ (t : Buffer). t .bytes) (x .leaves .same), hm)
+    rw (hl, hk, x .answer, x .taken, x .count, ap (λ (t : Buffer). t .marks) (x .leaves .same), ap (λ (t : Buffer). t .bytes) (x .leaves .same), hm)
 
 -- ---- a packet sent
 
 module _ (b : Before) (counts : Bool) (n : Numbers) (o : Opened) (io packet : List ℕ) (write : ℕ)
-    {v : Bool} (hv : v ≡ refuses b (n .packetsize) (o .left) (o .marks .write - o .marks .read)) where
-  pub sends-refused : v ≡ true → {out : Outcome} → out ≡ plainly FullPacketExpected
+    {v : Bool} (hv : v ≡ refuses b (n .fixed .packetsize) (o .left) (o .marks .write - o .marks .read)) where
+  pub sends-refused : v ≡ true 
       → Acts (sentBy b counts n (openOf o) io (endpointOf write)) (sentPacket b n (openOf o) io (endpointOf write) packet)
-      (record { marks = o .marks; left = o .left; sent = 0; outcome = out; taken = o .taken; stalled = false }) io packet
+      (record { marks = o .marks; left = o .left; sent = 0; answer = FullPacketExpected; taken = o .taken; stalled = false }) io packet
   unfolding sentBy sentPacket
-  sends-refused q h = record { leaves = rw (← hv, q, tells FullPacketExpected h); into = rw (← hv, q) }
+  sends-refused q = record { leaves = rw (← hv, q); into = rw (← hv, q) }
 
-  pub sends-sent : v ≡ false → {io′ : List ℕ} {m : Marks} → Leaves (buffer io′ m) (readied b (n .packetsize) (buffer io (o .marks)) (o .left) n)
-      → {e : Endpoint} → e ≡ endpointOf write → {s : Sent} {packet′ : List ℕ} → Sends (n .packetsize) e (buffer io′ m) packet s packet′
+  pub sends-sent : v ≡ false → {io′ : List ℕ} {m : Marks} → Leaves (buffer io′ m) (readied b (n .fixed .packetsize) (buffer io (o .marks)) (o .left) n)
+      → {e : Endpoint} → e ≡ endpointOf write → {s : Sent} {packet′ : List ℕ} → Sends (n .fixed .packetsize) e (buffer io′ m) packet s packet′
       → {l : Left} → l ≡ leftThen counts (o .left) (s .count)
       → Acts (sentBy b counts n (openOf o) io (endpointOf write)) (sentPacket b n (openOf o) io (endpointOf write) packet)
-      (record { marks = s .marks; left = l; sent = s .count; outcome = s .outcome; taken = o .taken; stalled = false }) io′ packet′
+      (record { marks = s .marks; left = l; sent = s .count; answer = s .answer; taken = o .taken; stalled = false }) io′ packet′
   unfolding sentBy sentFrom sentPacket
   sends-sent q hl he x hf = record {
-    leaves = rw (← hv, q, ← hl .same, ← he, hf, x .outcome, x .count, ← x .leaves .same);
+    leaves = rw (← hv, q, ← hl .same, ← he, hf, x .answer, x .count, ← x .leaves .same);
     into = rw (← hv, q, ← hl .same, ← he) (x .into);
   }
 
@@ -141,7 +139,7 @@ module _ (row : Row) (n : Numbers) (o : Opened) (io : List ℕ) (g : Given) {r :
   unfolding acted actedPacket
   acts-stall q h = record { leaves = rw (q, h); into = rw q }
 
-  pub acts-read : row .1 ≡ kind.Read → {io′ : List ℕ} → doneOf r io′ ≡ took (row .2) (n .packetsize) (openOf o) io (g .one) (g .two) (g .turn)
+  pub acts-read : row .1 ≡ kind.Read → {io′ : List ℕ} → doneOf r io′ ≡ took (row .2) (n .fixed .packetsize) (openOf o) io (g .one) (g .two) (g .turn)
       → Acts (acted row n (openOf o) io g) (actedPacket row n (openOf o) io g) r io′ (g .packet)
   unfolding acted actedPacket
   acts-read q h = record { leaves = rw q h; into = rw q }

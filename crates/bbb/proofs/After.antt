@@ -1,6 +1,6 @@
 -- What is unread, left and sent after each way in which a poll ends: laws of the rules, for any point x from which one starts.
---     data-..               a packet of data is sent; with nothing unread, or with IN busy or failing, nothing changes
---     status-..             the same of a packet of the status
+--     send-..               a packet is sent, of data or of the status; with nothing unread, or with IN busy or failing, nothing changes
+--     data-left, status-left    left falls by bytes of data, and not by those of the status
 --     fill-.., ending-..    the fill of 6: how many 0xFF, and what 6 sends then
 --     stated-.., enter-..   what is unread once the status is put in, and what entering 3 sends of it
 --     take-..               a packet of data is read; with no room, or with OUT busy or failing, nothing crosses the wire (Idle)
@@ -11,7 +11,7 @@
 --     parse-taken           the packet that brought the wrapper is counted
 -- Assumes nothing.
 use mathlib.Core.Path.{_≡_, refl, sym, ap, _∙_}
-use mathlib.Core.Bool.{true, false, cond}
+use mathlib.Core.Bool.{Bool, true, false, cond}
 use mathlib.Core.List.{List, _++_, append-nil}
 use Prim.Native.Nat.{ℕ, _+_, _-_, _≤_, _<_, min, max, zero-le}
 use native.Mathlib.Nat.{add-comm, sub-zero, sub-add-eq-max, min-comm, min-le-right, min-eq-right, max-eq-left}
@@ -30,7 +30,7 @@ use Rattle.buffer.proofs.Kept.{length-unread, ready-most, sound-emptied}
 use Rattle.buffer.proofs.Room.{fitting-by-unread}
 use Rattle.buffer.proofs.Unread.{unread-written, unread-filled, unread-writtenAll, unread-readOff, unread-emptied}
 use Rattle.answers.specs.declared.Endpoint.{Endpoint}
-use Rattle.answers.specs.Answers.{no, endpointOf, serves, answeredBy}
+use Rattle.answers.specs.Answers.{answer, endpointOf, serves, answeredBy}
 use Rattle.ring.specs.declared.State.the-variants.{CommandTransferInvalid, StatusTransfer, DataTransferToHost, DataTransferToHostEnding, DataTransferFromHost, DataTransferFromHostEnding}
 use Rattle.wrapper.specs.declared.Wrapper.{Wrapper}
 use Rattle.wrapper.specs.declared.counters.Left.{Left}
@@ -40,11 +40,11 @@ use Rattle.wrapper.specs.Counters.{fallen}
 use Rattle.wrapper.specs.Status.{statusNumber, statusBytes}
 use Rattle.wrapper.specs.Wrapper.{isValid, wrapperOf}
 use Rattle.wrapper.proofs.Csw.{length-status}
-use Rattle.packets.specs.Packets.{handed, readTold, takesOne, brought, received, accepted, sendTold, sentCount, sentOff, sentInto, filledUp, withStatus}
-use Rattle.packets.proofs.Laws.{handed-most, answers-0, told-served, sent-unserved, off-nothing, into-nothing}
+use Rattle.packets.specs.Packets.{handed, readAnswer, takesOne, brought, received, accepted, sendAnswer, sentCount, sentOff, sentInto, filledUp, withStatus}
+use Rattle.packets.proofs.Laws.{handed-most, answers-0, answer-served, sent-unserved, off-nothing, into-nothing}
 use Rattle.device.specs.declared.Status.the-variants.{Present}
 use Rattle.device.specs.Device.{isPresent, inState, withMarks, withLeft}
-use Rattle.bbb.specs.Poll.{Given, Polling, Point, bufferAt, reaching, leaving, counting, ending, ends, statusBy, sendStatus, dataBy, sendData, offers, offeredBy, takeBy, takeData, statusPut, enterStatus, statusAwaitRule, noDataRule, toHostEndingRule, fallsShort, toHostRule, fromHostEndingRule, fromHostRule, ordered, startRule, messageAt, behind31, parseRule, readBy, readOneBy, readCbwRule}
+use Rattle.bbb.specs.Poll.{Given, Polling, Point, bufferAt, reaching, leaving, leftThen, counting, ending, ends, sendBy, send, sendStatus, sendData, offers, offeredBy, takeBy, takeData, statusPut, enterStatus, statusAwaitRule, noDataRule, toHostEndingRule, fallsShort, toHostRule, fromHostEndingRule, fromHostRule, ordered, startRule, messageAt, behind31, parseRule, readBy, readOneBy, readCbwRule}
 use Rattle.bbb.proofs.Keeping.{follows-received, follows-filled, follows-status, by-direction}
 
 -- the buffer that a poll leaves
@@ -53,7 +53,7 @@ bufferAfter o = buffer (o .io) (o .device .marks)
 
 -- P, and what the endpoints say: IN; OUT where a packet of data is read, with the packet offered; OUT in 0
 abbrev pub P : Point → ℕ
-P x = x .device .packetsize
+P x = x .device .fixed .packetsize
 
 abbrev pub inFor : Given → Endpoint
 inFor g = endpointOf (g .turn .write)
@@ -102,83 +102,60 @@ fallen-nothing : (l : Left) → fallen l 0 ≡ l
 unfolding fallen
 fallen-nothing l = rw sub-zero
 
-told-nothing : (e : Endpoint) (n : ℕ) → n ≡ 0 → sendTold e n ≡ no 0
-unfolding sendTold
-told-nothing e n none = rw (eq-eqb _ _ none)
+answer-nothing : (e : Endpoint) (n : ℕ) → n ≡ 0 → sendAnswer e n ≡ answer 0
+unfolding sendAnswer
+answer-nothing e n none = rw (eq-eqb _ _ none)
 
-told-something : (e : Endpoint) (n : ℕ) → (n ≡ 0 → ⊥) → sendTold e n ≡ answeredBy e
-unfolding sendTold
-told-something e n some = rw (ne-eqb _ _ some)
+answer-something : (e : Endpoint) (n : ℕ) → (n ≡ 0 → ⊥) → sendAnswer e n ≡ answeredBy e
+unfolding sendAnswer
+answer-something e n some = rw (ne-eqb _ _ some)
 
-module _ (g : Given) (x : Point) where
+left-kept : (counts : Bool) (l : Left) → leftThen counts l 0 ≡ l
+left-kept true l = fallen-nothing l
+left-kept false l = refl
+
+-- a packet of data where `counts`, one of the status where not
+module _ (counts : Bool) (g : Given) (x : Point) where
   -- the bytes sent, and then those still unread, are those that were unread
-  pub data-unread : Sound (bufferAt x) → take (sendData g x .sent) (sendData g x .packet) ++ unreadBytes (bufferAfter (sendData g x)) ≡ unreadBytes (bufferAt x)
-  unfolding sendData dataBy
-  data-unread h = sent-split (P x) (inFor g) (bufferAt x) (g .packet) h
-
-  -- "Left falls by bytes moved, never below 0."
-  pub data-left : sendData g x .device .left .0 ≡ x .device .left .0 - sendData g x .sent
-  unfolding sendData dataBy fallen
-  data-left = refl
+  pub send-unread : Sound (bufferAt x) → take (send counts g x .sent) (send counts g x .packet) ++ unreadBytes (bufferAfter (send counts g x)) ≡ unreadBytes (bufferAt x)
+  unfolding send sendBy
+  send-unread h = sent-split (P x) (inFor g) (bufferAt x) (g .packet) h
 
   -- of the record only marks and left change: put the old ones back, and it is the old one
-  pub data-keeps : withLeft (x .device .left) (withMarks (x .device .marks) (sendData g x .device)) ≡ x .device
-  unfolding sendData dataBy
-  data-keeps = refl
+  pub send-keeps : withLeft (x .device .left) (withMarks (x .device .marks) (send counts g x .device)) ≡ x .device
+  unfolding send sendBy
+  send-keeps = refl
 
   -- "send min(P, unread)", where IN does its part
-  pub data-sent : serves (inFor g) ≡ true → sendData g x .sent ≡ min (P x) (unread (bufferAt x))
-  unfolding sendData dataBy
-  data-sent serving = sent-all (P x) (inFor g) (bufferAt x) serving
+  pub send-sent : serves (inFor g) ≡ true → send counts g x .sent ≡ min (P x) (unread (bufferAt x))
+  unfolding send sendBy
+  send-sent serving = sent-all (P x) (inFor g) (bufferAt x) serving
 
   -- and the answer is 0
-  pub data-told : serves (inFor g) ≡ true → sendData g x .told ≡ no 0
-  unfolding sendData dataBy
-  data-told serving = told-served (inFor g) (unread (bufferAt x)) serving
+  pub send-answer : serves (inFor g) ≡ true → send counts g x .answer ≡ answer 0
+  unfolding send sendBy
+  send-answer serving = answer-served (inFor g) (unread (bufferAt x)) serving
 
-  data-ends : sentCount (P x) (inFor g) (bufferAt x) ≡ 0 → sendData g x ≡ ends g x (sendTold (inFor g) (unread (bufferAt x)))
-  unfolding sendData dataBy
-  data-ends k = rw (off-nothing (P x) (inFor g) (bufferAt x) k, into-nothing (P x) (inFor g) (bufferAt x) k (g .packet), k, fallen-nothing (x .device .left))
+  send-ends : sentCount (P x) (inFor g) (bufferAt x) ≡ 0 → send counts g x ≡ ends g x (sendAnswer (inFor g) (unread (bufferAt x)))
+  unfolding send sendBy
+  send-ends k = rw (off-nothing (P x) (inFor g) (bufferAt x) k, into-nothing (P x) (inFor g) (bufferAt x) k (g .packet), k, left-kept counts (x .device .left))
 
   -- "nothing unread sends nothing, answer 0": whatever IN says, nothing changes
-  pub data-nothing : unread (bufferAt x) ≡ 0 → sendData g x ≡ ends g x (no 0)
-  data-nothing none = data-ends (sent-nothing (P x) (inFor g) (bufferAt x) none) ∙ ap (ends g x) (told-nothing (inFor g) (unread (bufferAt x)) none)
+  pub send-nothing : unread (bufferAt x) ≡ 0 → send counts g x ≡ ends g x (answer 0)
+  send-nothing none = send-ends (sent-nothing (P x) (inFor g) (bufferAt x) none) ∙ ap (ends g x) (answer-nothing (inFor g) (unread (bufferAt x)) none)
 
   -- 6 and 7: nothing changes where IN is asked and does not do its part
-  pub data-unserved : serves (inFor g) ≡ false → (unread (bufferAt x) ≡ 0 → ⊥) → sendData g x ≡ ends g x (answeredBy (inFor g))
-  data-unserved idle some = data-ends (sent-unserved (P x) (inFor g) (bufferAt x) idle) ∙ ap (ends g x) (told-something (inFor g) (unread (bufferAt x)) some)
+  pub send-unserved : serves (inFor g) ≡ false → (unread (bufferAt x) ≡ 0 → ⊥) → send counts g x ≡ ends g x (answeredBy (inFor g))
+  send-unserved idle some = send-ends (sent-unserved (P x) (inFor g) (bufferAt x) idle) ∙ ap (ends g x) (answer-something (inFor g) (unread (bufferAt x)) some)
 
-  -- of the status: the bytes sent, and then those still unread, are those that were unread
-  pub status-unread : Sound (bufferAt x) → take (sendStatus g x .sent) (sendStatus g x .packet) ++ unreadBytes (bufferAfter (sendStatus g x)) ≡ unreadBytes (bufferAt x)
-  unfolding sendStatus statusBy
-  status-unread h = sent-split (P x) (inFor g) (bufferAt x) (g .packet) h
+-- "Left falls by bytes moved, never below 0": by those of data, and not by those of the status
+pub data-left : (g : Given) (x : Point) → sendData g x .device .left .0 ≡ x .device .left .0 - sendData g x .sent
+unfolding send sendBy fallen
+data-left g x = refl
 
-  -- of the record only marks change, and left does not fall
-  pub status-keeps : withMarks (x .device .marks) (sendStatus g x .device) ≡ x .device
-  unfolding sendStatus statusBy
-  status-keeps = refl
-
-  -- min(P, unread) bytes, where IN does its part
-  pub status-sent : serves (inFor g) ≡ true → sendStatus g x .sent ≡ min (P x) (unread (bufferAt x))
-  unfolding sendStatus statusBy
-  status-sent serving = sent-all (P x) (inFor g) (bufferAt x) serving
-
-  -- and the answer is 0
-  pub status-told : serves (inFor g) ≡ true → sendStatus g x .told ≡ no 0
-  unfolding sendStatus statusBy
-  status-told serving = told-served (inFor g) (unread (bufferAt x)) serving
-
-  status-ends : sentCount (P x) (inFor g) (bufferAt x) ≡ 0 → sendStatus g x ≡ ends g x (sendTold (inFor g) (unread (bufferAt x)))
-  unfolding sendStatus statusBy
-  status-ends k = rw (off-nothing (P x) (inFor g) (bufferAt x) k, into-nothing (P x) (inFor g) (bufferAt x) k (g .packet), k)
-
-  -- nothing unread: answer 0, and nothing changes
-  pub status-nothing : unread (bufferAt x) ≡ 0 → sendStatus g x ≡ ends g x (no 0)
-  status-nothing none = status-ends (sent-nothing (P x) (inFor g) (bufferAt x) none) ∙ ap (ends g x) (told-nothing (inFor g) (unread (bufferAt x)) none)
-
-  -- 6 and 7: nothing changes where IN is asked and does not do its part
-  pub status-unserved : serves (inFor g) ≡ false → (unread (bufferAt x) ≡ 0 → ⊥) → sendStatus g x ≡ ends g x (answeredBy (inFor g))
-  status-unserved idle some = status-ends (sent-unserved (P x) (inFor g) (bufferAt x) idle) ∙ ap (ends g x) (told-something (inFor g) (unread (bufferAt x)) some)
+pub status-left : (g : Given) (x : Point) → sendStatus g x .device .left ≡ x .device .left
+unfolding send sendBy
+status-left g x = refl
 
 -- ---- the fill of 6
 
@@ -217,11 +194,11 @@ module _ (g : Given) (x : Point) (some : x .device .left .0 ≡ 0 → ⊥) where
   -- the bytes sent, and then those still unread, are those that were unread and the 0xFF behind them
   pub ending-unread : Sound (bufferAt x) → P x ≤ length (x .io) → take (toHostEndingRule g x .sent) (toHostEndingRule g x .packet) ++ unreadBytes (bufferAfter (toHostEndingRule g x))
       ≡ unreadBytes (bufferAt x) ++ replicate (min (x .device .left .0) (P x) - unread (bufferAt x)) 0xFF
-  ending-unread h wide = rw fill-sends (data-unread g (topped x) (follows-filled (P x) (x .device .left) (bufferAt x) h .sound) ∙ fill-exact (P x) (x .device .left) (bufferAt x) h wide)
+  ending-unread h wide = rw fill-sends (send-unread true g (topped x) (follows-filled (P x) (x .device .left) (bufferAt x) h .sound) ∙ fill-exact (P x) (x .device .left) (bufferAt x) h wide)
 
   -- so many bytes 6 sends, where IN does its part
   pub ending-sent : Sound (bufferAt x) → P x ≤ length (x .io) → serves (inFor g) ≡ true → toHostEndingRule g x .sent ≡ min (P x) (max (min (x .device .left .0) (P x)) (unread (bufferAt x)))
-  ending-sent h wide serving = rw fill-sends (data-sent g (topped x) serving ∙ ap (min (P x)) (fill-count (P x) (x .device .left) (bufferAt x) h wide))
+  ending-sent h wide serving = rw fill-sends (send-sent true g (topped x) serving ∙ ap (min (P x)) (fill-count (P x) (x .device .left) (bufferAt x) h wide))
 
 -- ---- the status
 
@@ -243,7 +220,7 @@ stated-sound x = follows-status (x .device .wrapper .tag) (x .device .status) (b
 
 -- of the record only marks and state change
 pub enter-keeps : (g : Given) (x : Point) → withMarks (x .device .marks) (enterStatus g x .device) ≡ inState StatusTransfer (x .device)
-unfolding enterStatus sendStatus statusBy
+unfolding enterStatus send sendBy
 enter-keeps g x = refl
 
 -- with a status present, and a buffer that holds one
@@ -259,17 +236,17 @@ module _ (x : Point) (status : CommandStatus) (residue : Residue) (here : x .dev
     -- the bytes sent, and then those still unread, are the 13 of the status
     pub enter-unread : take (enterStatus g x .sent) (enterStatus g x .packet) ++ unreadBytes (bufferAfter (enterStatus g x)) ≡ statusBytes (x .device .wrapper .tag) residue (statusNumber status)
     unfolding enterStatus
-    enter-unread = status-unread g (stated x) (stated-sound x) ∙ stated-unread
+    enter-unread = send-unread false g (stated x) (stated-sound x) ∙ stated-unread
 
     -- min(P, 13) of them are sent, where IN does its part
     pub enter-sent : serves (inFor g) ≡ true → enterStatus g x .sent ≡ min (P x) 13
     unfolding enterStatus
-    enter-sent serving = status-sent g (stated x) serving ∙ ap (min (P x)) stated-count
+    enter-sent serving = send-sent false g (stated x) serving ∙ ap (min (P x)) stated-count
 
     -- 6 and 7: the status bytes stay unread, in 3
     pub enter-unserved : serves (inFor g) ≡ false → enterStatus g x ≡ ends g (stated x) (answeredBy (inFor g))
     unfolding enterStatus
-    enter-unserved idle = status-unserved g (stated x) idle (λ (none : unread (bufferAt (stated x)) ≡ 0). omega (arith, stated-count))
+    enter-unserved idle = send-unserved false g (stated x) idle (λ (none : unread (bufferAt (stated x)) ≡ 0). omega (arith, stated-count))
 
 -- ---- a packet that is read
 
@@ -325,18 +302,18 @@ module _ (g : Given) (x : Point) where
       take-taken = rw (room, serving)
 
       -- and the answer is 0
-      pub take-told : takeData g x .told ≡ no 0
-      unfolding takeData takeBy readTold
-      take-told = rw room (answers-0 (outFor g x) serving)
+      pub take-answer : takeData g x .answer ≡ answer 0
+      unfolding takeData takeBy readAnswer
+      take-answer = rw room (answers-0 (outFor g x) serving)
 
     -- 1: no room for P bytes
-    pub take-full : lacksRoom (P x) (bufferAt x) ≡ true → (takeData g x .told ≡ no 1) × Idle g x (takeData g x)
-    unfolding takeData takeBy readTold takesOne brought
+    pub take-full : lacksRoom (P x) (bufferAt x) ≡ true → (takeData g x .answer ≡ answer 1) × Idle g x (takeData g x)
+    unfolding takeData takeBy readAnswer takesOne brought
     take-full full = (rw full, take-idle (rw full) (rw full) (received-full (P x) (outFor g x) (offered g x) (bufferAt x) h fits full))
 
     -- 6 and 7: room, but OUT does not do its part
-    pub take-unserved : lacksRoom (P x) (bufferAt x) ≡ false → serves (outFor g x) ≡ false → (takeData g x .told ≡ answeredBy (outFor g x)) × Idle g x (takeData g x)
-    unfolding takeData takeBy readTold takesOne brought handed
+    pub take-unserved : lacksRoom (P x) (bufferAt x) ≡ false → serves (outFor g x) ≡ false → (takeData g x .answer ≡ answeredBy (outFor g x)) × Idle g x (takeData g x)
+    unfolding takeData takeBy readAnswer takesOne brought handed
     take-unserved room idle = (rw room, take-idle (rw (room, idle)) (rw (room, idle)) (received-unserved (P x) (outFor g x) (offered g x) (bufferAt x) h fits room idle))
 
 -- ---- a packet that is read in 0, and the wrapper
@@ -365,8 +342,8 @@ module _ (g : Given) (x : Point) where
           ∙ ap (λ (n : ℕ). n + length (g .one)) (length-unread (bufferAt x) h)
 
       -- fewer than 31 unread: the poll ends there, in the state in which it was
-      pub read-short : unread (bufferAt x) + length (g .one) < 31 → readCbwRule g x ≡ ends g arrived (no 0)
-      unfolding readCbwRule readOneBy readBy takesOne readTold
+      pub read-short : unread (bufferAt x) + length (g .one) < 31 → readCbwRule g x ≡ ends g arrived (answer 0)
+      unfolding readCbwRule readOneBy readBy takesOne readAnswer
       read-short few = rw (room, serving, lt-leb 31 (unread (bufferAt arrived)) (omega (arith, read-count))) (ap (ends g arrived) (answers-0 (firstFor g) serving))
 
       -- "with 31 or more unread parse"
@@ -375,13 +352,13 @@ module _ (g : Given) (x : Point) where
       read-ripe ripe = rw (room, serving, le-leb 31 (unread (bufferAt arrived)) (omega (arith, read-count)))
 
     -- 1: no room for P bytes
-    pub read-full : lacksRoom (P x) (bufferAt x) ≡ true → (readCbwRule g x .told ≡ no 1) × Idle g x (readCbwRule g x)
-    unfolding readCbwRule readOneBy readBy takesOne readTold
+    pub read-full : lacksRoom (P x) (bufferAt x) ≡ true → (readCbwRule g x .answer ≡ answer 1) × Idle g x (readCbwRule g x)
+    unfolding readCbwRule readOneBy readBy takesOne readAnswer
     read-full full = (rw full, read-idle (rw full) (received-full (P x) (firstFor g) (g .one) (bufferAt x) h fits full))
 
     -- 6 and 7: room, but OUT does not do its part
-    pub read-unserved : lacksRoom (P x) (bufferAt x) ≡ false → serves (firstFor g) ≡ false → (readCbwRule g x .told ≡ answeredBy (firstFor g)) × Idle g x (readCbwRule g x)
-    unfolding readCbwRule readOneBy readBy takesOne readTold
+    pub read-unserved : lacksRoom (P x) (bufferAt x) ≡ false → serves (firstFor g) ≡ false → (readCbwRule g x .answer ≡ answeredBy (firstFor g)) × Idle g x (readCbwRule g x)
+    unfolding readCbwRule readOneBy readBy takesOne readAnswer
     read-unserved room idle = (rw (room, idle), read-idle (rw (room, idle)) (received-unserved (P x) (firstFor g) (g .one) (bufferAt x) h fits room idle))
 
 module _ (s : Buffer) (ripe : 31 ≤ unread s) where
@@ -406,14 +383,14 @@ module _ (g : Given) (x : Point) where
   parse-valid v = rw v
 
   -- an invalid one ends in 1, both endpoints stalled; of the record only marks and state change
-  pub parse-invalid : isValid (messageAt (bufferAt x)) ≡ false → parseRule g x ≡ ending (reaching CommandTransferInvalid (leaving (behind31 (bufferAt x)) x)) (no 0) 0 true (g .packet)
+  pub parse-invalid : isValid (messageAt (bufferAt x)) ≡ false → parseRule g x ≡ ending (reaching CommandTransferInvalid (leaving (behind31 (bufferAt x)) x)) (answer 0) 0 true (g .packet)
   unfolding parseRule
   parse-invalid v = rw v
 
 -- ---- answer 4
 
 -- "no status, left at least P, unread below P": nothing changes but the state reached
-pub full-due : (g : Given) (x : Point) → isPresent (x .device .status) ≡ false → P x ≤ x .device .left .0 → unread (bufferAt x) < P x → toHostRule g x ≡ ends g (reaching DataTransferToHost x) (no 4)
+pub full-due : (g : Given) (x : Point) → isPresent (x .device .status) ≡ false → P x ≤ x .device .left .0 → unread (bufferAt x) < P x → toHostRule g x ≡ ends g (reaching DataTransferToHost x) (answer 4)
 unfolding toHostRule fallsShort
 full-due g x absent due few =
     let some : x .device .left .0 ≡ 0 → ⊥ = λ (none : x .device .left .0 ≡ 0). omega arith in
@@ -443,7 +420,7 @@ module _ (g : Given) (n : ℕ) where
 
   module _ (x : Point) (h : n ≤ x .taken) where
     enter-counts : Counts (enterStatus g x)
-    unfolding enterStatus sendStatus statusBy
+    unfolding enterStatus send sendBy
     enter-counts = h
 
     await-counts : Counts (statusAwaitRule g x)
@@ -451,7 +428,7 @@ module _ (g : Given) (n : ℕ) where
     await-counts = of-picked Counts (isPresent (x .device .status)) (λ _. enter-counts) (λ _. h)
 
     data-counts : Counts (sendData g x)
-    unfolding sendData dataBy
+    unfolding send sendBy
     data-counts = h
 
     take-counts : Counts (takeData g x)

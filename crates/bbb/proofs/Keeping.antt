@@ -1,12 +1,12 @@
 -- What no poll changes, whatever its state and the endpoints' answers: one fact for all of it, carried through every rule.
 --     poll-whole, call-whole    a whole record stays whole, over the IO buffer that a poll leaves
---     poll-sizes, call-sizes    P, max LUN, the recorded size and the lengths of both buffers stay; at most two packets are taken, P bytes sent (Sizes)
+--     poll-sizes, call-sizes    what creation fixed and the lengths of both buffers stay; at most two packets are taken, P bytes sent (Sizes)
 --     Follows, follows-..       the buffer that a step leaves has sound marks, and is as long as before
 --     call-done                 on a whole record, with packets that fit, the call is the poll
 --     by-call                   what holds of both refusals and of the poll holds of the call
 --     by-direction              what holds of all three ways on behind a wrapper holds of the one taken
 -- Assumes nothing.
-use mathlib.Core.Path.{_≡_, refl, sym, _∙_}
+use mathlib.Core.Path.{_≡_, refl, sym, ap, _∙_}
 use mathlib.Core.Bool.{Bool, true, false, _&&_}
 use mathlib.Core.List.{List}
 use Prim.Native.Nat.{ℕ, _/_, _^_, _≤_, zero-le}
@@ -21,7 +21,7 @@ use Rattle.fields.proofs.Overlay.{length-overlay}
 use Rattle.buffer.specs.Buffer.{Buffer, Sound, buffer, at, unread, unreadBytes, emptied, ready, given, readOff}
 use Rattle.buffer.proofs.Kept.{length-written, sound-written, length-filled, sound-filled, length-writtenAll, sound-writtenAll, sound-readOff, sound-emptied}
 use Rattle.answers.specs.declared.Endpoint.{Endpoint}
-use Rattle.answers.specs.Answers.{Told, no, endpointOf}
+use Rattle.answers.specs.Answers.{Answering, answer, endpointOf}
 use Rattle.ring.specs.declared.State.{State}
 use Rattle.ring.specs.declared.State.the-variants.{CommandTransfer, CommandTransferInvalid, DataTransferNoData, StatusTransfer, DataTransferToHost, DataTransferToHostStatusAwait, DataTransferToHostEnding, DataTransferFromHost, DataTransferFromHostEnding}
 use Rattle.ring.specs.Ring.{byDirection}
@@ -29,19 +29,20 @@ use Rattle.wrapper.specs.declared.DataDirection.{DataDirection}
 use Rattle.wrapper.specs.declared.DataDirection.the-variants.{Out, In, NotExpected}
 use Rattle.wrapper.specs.declared.Wrapper.{Wrapper}
 use Rattle.wrapper.specs.declared.counters.Left.{Left}
-use Rattle.wrapper.specs.Counters.{fallen}
 use Rattle.wrapper.specs.Status.{statusNumber, statusBytes}
 use Rattle.wrapper.specs.Wrapper.{isValid, wrapperOf}
 use Rattle.wrapper.proofs.Cbw.{is-valid}
-use Rattle.packets.specs.Packets.{handed, readTold, takesOne, brought, received, accepted, sentCount, sentOff, sentInto, filledUp, withStatus}
+use Rattle.packets.specs.Packets.{handed, readAnswer, takesOne, brought, received, accepted, sentCount, sentOff, sentInto, filledUp, withStatus}
 use Rattle.packets.proofs.Laws.{moves-most}
 use Rattle.device.specs.declared.Status.{Status}
 use Rattle.device.specs.declared.Status.the-variants.{Absent, Present}
+use Rattle.device.specs.declared.Fixed.{Fixed}
 use Rattle.device.specs.declared.Device.{Device}
 use Rattle.device.specs.Device.{isPresent, numbersOf, withMarks, withLeft, withWrapper, entering0}
-use Rattle.device.specs.Broken.{statusFits, Whole, isWhole}
+use Rattle.device.specs.Create.{creation}
+use Rattle.device.specs.Broken.{statusFits, Whole, isWhole, unlessBroken}
 use Rattle.device.proofs.Wholly.{is-whole, whole-is, whole-sound}
-use Rattle.bbb.specs.Poll.{Given, Polling, Point, point, bufferAt, reaching, leaving, lowered, counting, ending, statusBy, sendStatus, dataBy, sendData, offers, offeredBy, takeBy, takeData, statusPut, enterStatus, statusAwaitRule, noDataRule, toHostEndingRule, fallsShort, toHostRule, fromHostEndingRule, fromHostRule, startRule, messageAt, behind31, parseRule, readBy, readOneBy, readCbwRule, statusTransferRule, invalidRule, ruleIn, pollRule, Fits, isFitting, refusing, pollCall}
+use Rattle.bbb.specs.Poll.{Given, Polling, Point, point, bufferAt, reaching, leaving, leftThen, lowered, counting, ending, sendBy, send, offers, offeredBy, takeBy, takeData, statusPut, enterStatus, statusAwaitRule, noDataRule, toHostEndingRule, fallsShort, toHostRule, fromHostEndingRule, fromHostRule, startRule, messageAt, behind31, parseRule, readBy, readOneBy, readCbwRule, statusTransferRule, invalidRule, ruleIn, pollRule, Fits, isFitting, refusing, pollCall}
 use Rattle.bbb.proofs.Polling.{fits-all, is-fitting}
 
 -- ---- the buffer that a step leaves: its marks are sound, and it is as long as before
@@ -106,17 +107,21 @@ lun-most m = omega (arith, mod-lt (getD m 13 0 / 2 ^ 0) {m = 2 ^ 4} (lit< tt))
 -- ---- the points of a poll of d, over an IO buffer of len bytes: all that makes a record whole but the status, which goes by the state
 -- where the poll ends; and what never changes
 
-record Standing (d : Device) (len p top bytes : ℕ) (s : Buffer) (unit blocklength : ℕ) : Type 0 where
-  packetsize : p ≡ d .packetsize
-  maxlun : top ≡ d .maxlun
-  size : bytes ≡ d .size
+record Standing (d : Device) (len : ℕ) (f : Fixed) (s : Buffer) (unit blocklength : ℕ) : Type 0 where
+  fixed : f ≡ d .fixed
   long : length (s .bytes) ≡ len
   sound : Sound s
   lun : unit ≤ 15
   block : blocklength ≤ 16
 
 abbrev Stands : Device → ℕ → Point → Type 0
-Stands d len x = Standing d len (x .device .packetsize) (x .device .maxlun) (x .device .size) (bufferAt x) (x .device .wrapper .lun) (x .device .wrapper .blocklength)
+Stands d len x = Standing d len (x .device .fixed) (bufferAt x) (x .device .wrapper .lun) (x .device .wrapper .blocklength)
+
+packet-is : {f g : Fixed} → f ≡ g → f .packetsize ≡ g .packetsize
+packet-is = ap (λ (x : Fixed). x .packetsize)
+
+size-is : {f g : Fixed} → f ≡ g → f .size ≡ g .size
+size-is = ap (λ (x : Fixed). x .size)
 
 -- whether the state where a poll ends fits the status
 abbrev Fitting : Point → Type 0
@@ -124,75 +129,69 @@ Fitting x = statusFits (x .device .state) (isPresent (x .device .status)) ≡ tr
 
 -- What no poll of d changes, over an IO buffer of len bytes and with a packet buffer of n; and how much it takes and sends at most.
 pub record Sizes (d : Device) (len n : ℕ) (o : Polling) : Type 0 where
-  pub packetsize : o .device .packetsize ≡ d .packetsize
-  pub maxlun : o .device .maxlun ≡ d .maxlun
-  pub size : o .device .size ≡ d .size
+  pub fixed : o .device .fixed ≡ d .fixed
   pub io : length (o .io) ≡ len
   pub packet : length (o .packet) ≡ n
   pub taken : o .taken ≤ 2
-  pub sent : o .sent ≤ d .packetsize
+  pub sent : o .sent ≤ d .fixed .packetsize
 
 -- What every rule keeps.
 record Kept (d : Device) (len n : ℕ) (o : Polling) : Type 0 where
   whole : Whole (numbersOf (o .device)) (length (o .io))
-  sizes : d .packetsize ≤ n → Sizes d len n o
+  sizes : d .fixed .packetsize ≤ n → Sizes d len n o
 
 module _ (d : Device) (len : ℕ) (w : Whole (numbersOf d) len) (g : Given) where
   abbrev Keeps : Polling → Type 0
   Keeps o = Kept d len (length (g .packet)) o
 
   stands-left : (x : Point) (b : Buffer) → Stands d len x → Follows b (bufferAt x) → Stands d len (leaving b x)
-  stands-left x b h f = record { packetsize = h .packetsize; maxlun = h .maxlun; size = h .size; long = f .long ∙ h .long; sound = f .sound; lun = h .lun; block = h .block }
+  stands-left x b h f = record { fixed = h .fixed; long = f .long ∙ h .long; sound = f .sound; lun = h .lun; block = h .block }
 
   -- ---- the ends
 
   -- with an answer and k bytes sent; with nothing sent
-  kept-end : (x : Point) → Stands d len x → Fitting x → x .taken ≤ 2 → (t : Told) (k : ℕ) → k ≤ d .packetsize → (stalled : Bool) (packet : List ℕ)
-      → (d .packetsize ≤ length (g .packet) → length packet ≡ length (g .packet)) → Keeps (ending x t k stalled packet)
+  kept-end : (x : Point) → Stands d len x → Fitting x → x .taken ≤ 2 → (t : Answering) (k : ℕ) → k ≤ d .fixed .packetsize → (stalled : Bool) (packet : List ℕ)
+      → (d .fixed .packetsize ≤ length (g .packet) → length packet ≡ length (g .packet)) → Keeps (ending x t k stalled packet)
   kept-end x h f taken t k sent stalled packet same = record {
     whole = record {
-      lent = h .size ∙ w .lent ∙ sym (h .long);
-      created = rw (h .packetsize, h .maxlun, h .size) (w .created);
+      lent = size-is (h .fixed) ∙ w .lent ∙ sym (h .long);
+      created = ap creation (h .fixed) ∙ w .created;
       order = h .sound .order;
-      within = omega (arith, h .sound .within, h .long, h .size, w .lent);
+      within = omega (arith, h .sound .within, h .long, size-is (h .fixed), w .lent);
       block = h .block;
       lun = h .lun;
       status = f;
     };
-    sizes = λ into. record { packetsize = h .packetsize; maxlun = h .maxlun; size = h .size; io = h .long; packet = same into; taken = taken; sent = sent };
+    sizes = λ into. record { fixed = h .fixed; io = h .long; packet = same into; taken = taken; sent = sent };
   }
 
-  kept-rest : (x : Point) → Stands d len x → Fitting x → x .taken ≤ 2 → (t : Told) (stalled : Bool) → Keeps (ending x t 0 stalled (g .packet))
+  kept-rest : (x : Point) → Stands d len x → Fitting x → x .taken ≤ 2 → (t : Answering) (stalled : Bool) → Keeps (ending x t 0 stalled (g .packet))
   kept-rest x h f taken t stalled = kept-end x h f taken t 0 zero-le stalled (g .packet) (λ _. refl)
 
   module _ (x : Point) (h : Stands d len x) (f : Fitting x) (once : x .taken ≤ 1) where
     -- where a packet was sent, and l bytes are left then
     abbrev behind : Endpoint → Left → Point
-    behind e l = point (withLeft l (withMarks (sentOff (x .device .packetsize) e (bufferAt x) .marks) (x .device))) (sentOff (x .device .packetsize) e (bufferAt x) .bytes) (x .taken) (x .unstalled)
+    behind e l = point (withLeft l (withMarks (sentOff (x .device .fixed .packetsize) e (bufferAt x) .marks) (x .device))) (sentOff (x .device .fixed .packetsize) e (bufferAt x) .bytes) (x .taken) (x .unstalled)
 
-    sends : (e : Endpoint) (l : Left) (t : Told) → Keeps (ending (behind e l) t (sentCount (x .device .packetsize) e (bufferAt x)) false (sentInto (x .device .packetsize) e (bufferAt x) (g .packet)))
+    sends : (e : Endpoint) (l : Left) (t : Answering) → Keeps (ending (behind e l) t (sentCount (x .device .fixed .packetsize) e (bufferAt x)) false (sentInto (x .device .fixed .packetsize) e (bufferAt x) (g .packet)))
     sends e l t =
-        let p : ℕ = x .device .packetsize in
+        let p : ℕ = x .device .fixed .packetsize in
         kept-end (behind e l) (stands-left x (sentOff p e (bufferAt x)) h (follows-sent p e (bufferAt x) (h .sound))) f (omega arith) t _
-        (rw (← h .packetsize) (sent-most p e (bufferAt x))) false _
-        (rw (← h .packetsize) (sent-length p e (bufferAt x) (g .packet)))
+        (rw (← packet-is (h .fixed)) (sent-most p e (bufferAt x))) false _
+        (rw (← packet-is (h .fixed)) (sent-length p e (bufferAt x) (g .packet)))
 
-    kept-status : Keeps (sendStatus g x)
-    unfolding sendStatus statusBy
-    kept-status = sends (endpointOf (g .turn .write)) (x .device .left) _
-
-    kept-data : Keeps (sendData g x)
-    unfolding sendData dataBy
-    kept-data = sends (endpointOf (g .turn .write)) (fallen (x .device .left) _) _
+    kept-send : (counts : Bool) → Keeps (send counts g x)
+    unfolding send sendBy
+    kept-send counts = sends (endpointOf (g .turn .write)) (leftThen counts (x .device .left) _) _
 
     kept-take : Keeps (takeData g x)
     unfolding takeData takeBy
     kept-take =
-        let p : ℕ = x .device .packetsize in
+        let p : ℕ = x .device .fixed .packetsize in
         let e : Endpoint = offeredBy (x .taken) (g .turn) in
         let packet : List ℕ = offers (x .taken) (g .one) (g .two) in
         let s : Buffer = bufferAt x in
-        kept-rest (counting (takesOne p e s) (lowered (brought p e packet s) (leaving (received p e packet s) x)))
+        kept-rest (counting (takesOne p e s) (lowered true (brought p e packet s) (leaving (received p e packet s) x)))
         (stands-left x _ h (follows-received p e packet s (h .sound))) f
         (of-picked (λ (n : ℕ). n ≤ 2) (takesOne p e s) (λ _. omega arith) (λ _. omega arith)) _ false
 
@@ -203,27 +202,27 @@ module _ (d : Device) (len : ℕ) (w : Whole (numbersOf d) len) (g : Given) wher
     unfolding enterStatus
     kept-enter present =
         let t : Buffer = statusPut (x .device .wrapper .tag) (x .device .status) (bufferAt x) in
-        kept-status (reaching StatusTransfer (leaving t x)) (stands-left x t h (follows-status (x .device .wrapper .tag) (x .device .status) (bufferAt x))) present once
+        kept-send (reaching StatusTransfer (leaving t x)) (stands-left x t h (follows-status (x .device .wrapper .tag) (x .device .status) (bufferAt x))) present once false
 
     kept-await : Keeps (statusAwaitRule g x)
     unfolding statusAwaitRule
-    kept-await = of-picked Keeps (isPresent (x .device .status)) kept-enter (λ _. kept-rest (reaching DataTransferToHostStatusAwait x) h refl (omega arith) (no 0) false)
+    kept-await = of-picked Keeps (isPresent (x .device .status)) kept-enter (λ _. kept-rest (reaching DataTransferToHostStatusAwait x) h refl (omega arith) (answer 0) false)
 
     kept-to-ending : isPresent (x .device .status) ≡ true → Keeps (toHostEndingRule g x)
     unfolding toHostEndingRule
     kept-to-ending present =
-        let t : Buffer = filledUp (x .device .packetsize) (x .device .left) (bufferAt x) in
+        let t : Buffer = filledUp (x .device .fixed .packetsize) (x .device .left) (bufferAt x) in
         of-picked Keeps (eqb (x .device .left .0) 0) (λ _. kept-enter present)
-        (λ _. kept-data (reaching DataTransferToHostEnding (leaving t x)) (stands-left x t h (follows-filled (x .device .packetsize) (x .device .left) (bufferAt x) (h .sound))) present once)
+        (λ _. kept-send (reaching DataTransferToHostEnding (leaving t x)) (stands-left x t h (follows-filled (x .device .fixed .packetsize) (x .device .left) (bufferAt x) (h .sound))) present once true)
 
     kept-to : Keeps (toHostRule g x)
     unfolding toHostRule
     kept-to =
         of-picked Keeps (eqb (x .device .left .0) 0) (λ _. kept-await)
         (λ _. of-picked Keeps (isPresent (x .device .status)) kept-to-ending
-        (λ _. of-picked Keeps (fallsShort (x .device .packetsize) (x .device .left) (unread (bufferAt x)))
-        (λ _. kept-rest (reaching DataTransferToHost x) h refl (omega arith) (no 4) false)
-        (λ _. kept-data (reaching DataTransferToHost x) h refl once)))
+        (λ _. of-picked Keeps (fallsShort (x .device .fixed .packetsize) (x .device .left) (unread (bufferAt x)))
+        (λ _. kept-rest (reaching DataTransferToHost x) h refl (omega arith) (answer 4) false)
+        (λ _. kept-send (reaching DataTransferToHost x) h refl once true)))
 
     kept-from-ending : isPresent (x .device .status) ≡ true → Keeps (fromHostEndingRule g x)
     unfolding fromHostEndingRule
@@ -244,7 +243,7 @@ module _ (d : Device) (len : ℕ) (w : Whole (numbersOf d) len) (g : Given) wher
   unfolding startRule noDataRule
   kept-start v lun block x h once =
       let y : Point = point (withLeft (record { 0 = v .length }) (withWrapper v (x .device))) (x .io) (x .taken) (x .unstalled) in
-      let k : Stands d len y = record { packetsize = h .packetsize; maxlun = h .maxlun; size = h .size; long = h .long; sound = h .sound; lun = lun; block = block } in
+      let k : Stands d len y = record { fixed = h .fixed; long = h .long; sound = h .sound; lun = lun; block = block } in
       by-direction Keeps (v .direction) (kept-from y k once) (kept-to y k once) (kept-await y k once)
 
   module _ (x : Point) (h : Stands d len x) (absent : isPresent (x .device .status) ≡ false) where
@@ -256,9 +255,9 @@ module _ (d : Device) (len : ℕ) (w : Whole (numbersOf d) len) (g : Given) wher
         let k : Stands d len (leaving t x) = stands-left x t h (follows-31 (bufferAt x) (h .sound) ripe) in
         of-picked Keeps (isValid m)
         (λ v. kept-start (wrapperOf m) (lun-most m) (block-most m v) (leaving t x) k once)
-        (λ _. kept-rest (reaching CommandTransferInvalid (leaving t x)) k (rw absent) (omega arith) (no 0) true)
+        (λ _. kept-rest (reaching CommandTransferInvalid (leaving t x)) k (rw absent) (omega arith) (answer 0) true)
 
-    kept-by : Fitting x → x .taken ≤ 1 → (took : Bool) (t : Told) → Keeps (readBy took t g x)
+    kept-by : Fitting x → x .taken ≤ 1 → (took : Bool) (t : Answering) → Keeps (readBy took t g x)
     unfolding readBy
     kept-by f once took t =
         let ripe : Bool = leb 31 (unread (bufferAt x)) in
@@ -267,24 +266,24 @@ module _ (d : Device) (len : ℕ) (w : Whole (numbersOf d) len) (g : Given) wher
   kept-read : (x : Point) → Stands d len x → isPresent (x .device .status) ≡ false → Fitting x → x .taken ≡ 0 → Keeps (readCbwRule g x)
   unfolding readCbwRule readOneBy
   kept-read x h absent f none =
-      let p : ℕ = x .device .packetsize in
+      let p : ℕ = x .device .fixed .packetsize in
       let e : Endpoint = endpointOf (g .turn .first) in
       let took : Bool = takesOne p e (bufferAt x) in
       let t : Buffer = received p e (g .one) (bufferAt x) in
       kept-by (counting took (leaving t x)) (stands-left x t h (follows-received p e (g .one) (bufferAt x) (h .sound))) absent f
-      (of-picked (λ (n : ℕ). n ≤ 1) took (λ _. omega arith) (λ _. omega arith)) took (readTold p e (bufferAt x))
+      (of-picked (λ (n : ℕ). n ≤ 1) took (λ _. omega arith) (λ _. omega arith)) took (readAnswer p e (bufferAt x))
 
   -- ---- all states
 
   kept-in : (s : State) (x : Point) → Stands d len x → Fitting x → x .device .state ≡ s → x .taken ≡ 0 → Keeps (ruleIn s g x)
   unfolding ruleIn invalidRule noDataRule statusTransferRule
   kept-in CommandTransfer x h f e none = kept-read x h (not-true _ (rw e at f)) f none
-  kept-in CommandTransferInvalid x h f e none = kept-rest x h f (omega arith) (no 0) true
+  kept-in CommandTransferInvalid x h f e none = kept-rest x h f (omega arith) (answer 0) true
   kept-in DataTransferNoData x h f e none = kept-await x h (omega arith)
   kept-in StatusTransfer x h f e none =
       of-picked Keeps (eqb (unread (bufferAt x)) 0)
       (λ _. kept-read (point (entering0 (x .device)) (x .io) (x .taken) true) h refl refl none)
-      (λ _. kept-status x h f (omega arith))
+      (λ _. kept-send x h f (omega arith) false)
   kept-in DataTransferToHost x h f e none = kept-to x h (omega arith)
   kept-in DataTransferToHostStatusAwait x h f e none = kept-await x h (omega arith)
   kept-in DataTransferToHostEnding x h f e none = kept-to-ending x h (omega arith) (rw e at f)
@@ -298,7 +297,7 @@ module _ (d : Device) (io : List ℕ) (g : Given) where
   unfolding pollRule
   kept w =
       kept-in d (length io) w g (d .state) (point d io 0 false)
-      (record { packetsize = refl; maxlun = refl; size = refl; long = refl; sound = whole-sound (numbersOf d) io w; lun = w .lun; block = w .block })
+      (record { fixed = refl; long = refl; sound = whole-sound (numbersOf d) io w; lun = w .lun; block = w .block })
       (w .status) refl refl
 
   -- a poll leaves a whole record over the IO buffer that it leaves
@@ -306,21 +305,21 @@ module _ (d : Device) (io : List ℕ) (g : Given) where
   poll-whole w = kept w .whole
 
   -- and changes no size; the packet buffer stays as long where it holds P bytes
-  pub poll-sizes : Whole (numbersOf d) (length io) → d .packetsize ≤ length (g .packet) → Sizes d (length io) (length (g .packet)) (pollRule d io g)
+  pub poll-sizes : Whole (numbersOf d) (length io) → d .fixed .packetsize ≤ length (g .packet) → Sizes d (length io) (length (g .packet)) (pollRule d io g)
   poll-sizes w = kept w .sizes
 
   -- a whole record and packets that fit: the call is the poll
-  pub call-done : Whole (numbersOf d) (length io) → Fits (d .packetsize) (g .packet) (g .one) (g .two) → pollCall d io g ≡ pollRule d io g
-  unfolding pollCall
-  call-done w f = rw (whole-is (numbersOf d) (length io) w, ← fits-all (d .packetsize) (length (g .packet)) (length (g .one)) (length (g .two)) (f .first) (f .second), le-leb _ _ (f .into))
+  pub call-done : Whole (numbersOf d) (length io) → Fits (d .fixed .packetsize) (g .packet) (g .one) (g .two) → pollCall d io g ≡ pollRule d io g
+  unfolding pollCall unlessBroken
+  call-done w f = rw (whole-is (numbersOf d) (length io) w, ← fits-all (d .fixed .packetsize) (length (g .packet)) (length (g .one)) (length (g .two)) (f .first) (f .second), le-leb _ _ (f .into))
 
   -- what holds of both refusals, and of a poll of a whole record whose packets fit, holds of the call
-  pub by-call : (P : Polling → Type 0) → P (refusing d io g 10) → P (refusing d io g 11) → (Whole (numbersOf d) (length io) → Fits (d .packetsize) (g .packet) (g .one) (g .two) → P (pollRule d io g)) → P (pollCall d io g)
-  unfolding pollCall
+  pub by-call : (P : Polling → Type 0) → P (refusing d io g 10) → P (refusing d io g 11) → (Whole (numbersOf d) (length io) → Fits (d .fixed .packetsize) (g .packet) (g .one) (g .two) → P (pollRule d io g)) → P (pollCall d io g)
+  unfolding pollCall unlessBroken
   by-call P broken refused done =
       of-picked P (isWhole (numbersOf d) (length io))
-      (λ w. of-picked P (isFitting (d .packetsize) (length (g .packet)) (length (g .one)) (length (g .two)))
-      (λ f. done (is-whole (numbersOf d) (length io) w) (is-fitting (d .packetsize) (g .packet) (g .one) (g .two) refl f))
+      (λ w. of-picked P (isFitting (d .fixed .packetsize) (length (g .packet)) (length (g .one)) (length (g .two)))
+      (λ f. done (is-whole (numbersOf d) (length io) w) (is-fitting (d .fixed .packetsize) (g .packet) (g .one) (g .two) refl f))
       (λ _. refused))
       (λ _. broken)
 
@@ -331,5 +330,5 @@ module _ (d : Device) (io : List ℕ) (g : Given) where
   -- and changes no size, for every record and all packets
   pub call-sizes : Sizes d (length io) (length (g .packet)) (pollCall d io g)
   call-sizes =
-      let same : (n : ℕ) → Sizes d (length io) (length (g .packet)) (refusing d io g n) = λ _. record { packetsize = refl; maxlun = refl; size = refl; io = refl; packet = refl; taken = zero-le; sent = zero-le } in
+      let same : (n : ℕ) → Sizes d (length io) (length (g .packet)) (refusing d io g n) = λ _. record { fixed = refl; io = refl; packet = refl; taken = zero-le; sent = zero-le } in
       by-call (Sizes d (length io) (length (g .packet))) (same 10) (same 11) (λ w f. poll-sizes w (f .into))

@@ -13,9 +13,7 @@ use Rattle.buffer.specs.declared.Marks.{Marks}
 use Rattle.buffer.specs.Buffer.{Buffer, Sound, buffer, at, unread}
 use Rattle.answers.specs.declared.Answer.the-variants.{Done}
 use Rattle.answers.specs.declared.Endpoint.{Endpoint}
-use Rattle.answers.specs.declared.Outcome.{Outcome}
-use Rattle.answers.specs.Answers.{plainly, endpointOf}
-use Rattle.answers.proofs.Laws.{tells}
+use Rattle.answers.specs.Answers.{endpointOf}
 use Rattle.ring.specs.declared.Found.the-variants.{Nothing, Invalid, Valid}
 use Rattle.ring.specs.States.{stateNumber}
 use Rattle.wrapper.specs.declared.DataDirection.the-variants.{NotExpected}
@@ -70,16 +68,16 @@ module _ (m : Marks) (io : List ℕ) where
   sound-behind g h = record { order = h; within = g .within }
 
   module _ (left : Left) (cleared : Bool) (g : Sound (buffer io m)) (h : m .read + 31 ≤ m .write)
-      {v : Bool} (hv : v ≡ isValid (take (m .read + 31 - m .read) (drop (m .read) io))) {out : Outcome} (ho : out ≡ plainly Done) where
+      {v : Bool} (hv : v ≡ isValid (take (m .read + 31 - m .read) (drop (m .read) io))) where
     valid-is : {b : Bool} → v ≡ b → isValid (messageAt (buffer io m)) ≡ b
     valid-is q = ap isValid (sym message-is) ∙ sym hv ∙ q
 
     pub parses-valid : v ≡ true → {w : Head} → w ≡ headOf (wrapperOf (take (m .read + 31 - m .read) (drop (m .read) io)))
         → Opens (parsedOpen (buffer io m) left cleared) io
-        (record { found = Valid; marks = behind m; left = record { 0 = w .length }; direction = w .direction; outcome = out; taken = 1; cleared = cleared }) io
+        (record { found = Valid; marks = behind m; left = record { 0 = w .length }; direction = w .direction; answer = Done; taken = 1; cleared = cleared }) io
     unfolding parsedOpen
     parses-valid q hw = record {
-      leaves = rw (valid-is q, tells Done ho, hw, message-is);
+      leaves = rw (valid-is q, hw, message-is);
       bytes = refl;
       sound = sound-behind g h;
       once = omega arith;
@@ -88,10 +86,10 @@ module _ (m : Marks) (io : List ℕ) where
 
     pub parses-invalid : v ≡ false
         → Opens (parsedOpen (buffer io m) left cleared) io
-        (record { found = Invalid; marks = behind m; left = left; direction = NotExpected; outcome = out; taken = 1; cleared = cleared }) io
+        (record { found = Invalid; marks = behind m; left = left; direction = NotExpected; answer = Done; taken = 1; cleared = cleared }) io
     unfolding parsedOpen
     parses-invalid q = record {
-      leaves = rw (valid-is q, tells Done ho);
+      leaves = rw (valid-is q);
       bytes = refl;
       sound = sound-behind g h;
       once = omega arith;
@@ -131,10 +129,10 @@ module _ (p first : ℕ) (one : List ℕ) (left : Left) (cleared : Bool) (s : Bu
 
   pub reads-nothing : v ≡ false → {k : ℕ} → k ≡ countOf (r .taken)
       → Opens (readOpen p (endpointOf first) one left cleared s) (readIo p (endpointOf first) one s)
-      (record { found = Nothing; marks = r .marks; left = left; direction = NotExpected; outcome = r .outcome; taken = k; cleared = cleared }) io
+      (record { found = Nothing; marks = r .marks; left = left; direction = NotExpected; answer = r .answer; taken = k; cleared = cleared }) io
   unfolding readOpen openAfter
   reads-nothing q hk = record {
-    leaves = rw (ripe-is q, ← x .leaves .same, x .outcome, hk, x .taken);
+    leaves = rw (ripe-is q, ← x .leaves .same, x .answer, hk, x .taken);
     bytes = ap (λ (t : Buffer). t .bytes) (x .leaves .same);
     sound = x .leaves .sound;
     once = rw hk (count-most (r .taken));
@@ -150,7 +148,7 @@ module _ (n : Numbers) (io one : List ℕ) (e : Endpoint) {k : ℕ} (hk : k ≡ 
   opening-is q = rw (← hk) (sym hv ∙ q)
 
   pub opens-reads : v ≡ true → {l : Left} → l ≡ leftWhen (eqb k 3) (n .left) → {r : Opened} {io′ : List ℕ}
-      → Opens (readOpen (n .packetsize) e one l (eqb k 3) (buffer io (n .marks))) (readIo (n .packetsize) e one (buffer io (n .marks))) r io′
+      → Opens (readOpen (n .fixed .packetsize) e one l (eqb k 3) (buffer io (n .marks))) (readIo (n .fixed .packetsize) e one (buffer io (n .marks))) r io′
       → Opens (opened n io one e) (openedIo n io one e) r io′
   unfolding opened openedIo
   opens-reads q hl y = record {
@@ -161,12 +159,12 @@ module _ (n : Numbers) (io one : List ℕ) (e : Endpoint) {k : ℕ} (hk : k ≡ 
     front = y .front;
   }
 
-  pub opens-not : v ≡ false → Whole n (length io) → {out : Outcome} → out ≡ plainly Done
+  pub opens-not : v ≡ false → Whole n (length io) 
       → Opens (opened n io one e) (openedIo n io one e)
-      (record { found = Nothing; marks = n .marks; left = n .left; direction = NotExpected; outcome = out; taken = 0; cleared = false }) io
+      (record { found = Nothing; marks = n .marks; left = n .left; direction = NotExpected; answer = Done; taken = 0; cleared = false }) io
   unfolding opened openedIo
-  opens-not q w ho = record {
-    leaves = rw (opening-is q, tells Done ho);
+  opens-not q w = record {
+    leaves = rw (opening-is q);
     bytes = rw (opening-is q);
     sound = whole-sound n io w;
     once = omega arith;

@@ -11,13 +11,10 @@ use Rattle.fields.proofs.Bools.{and-left, and-right}
 use Rattle.fields.proofs.Seq.{length-part}
 use Rattle.buffer.specs.declared.Marks.{Marks}
 use Rattle.buffer.specs.Buffer.{Sound, buffer}
-use Rattle.answers.specs.declared.Answer.{Answer}
 use Rattle.answers.specs.declared.Answer.the-variants.{BrokenRecord, PacketRefused}
-use Rattle.answers.specs.declared.Outcome.{Outcome}
 use Rattle.answers.specs.declared.Stalls.{Stalls}
 use Rattle.answers.specs.declared.Stalls.the-variants.{Kept}
-use Rattle.answers.specs.Answers.{plainly, endpointOf, stallsOf}
-use Rattle.answers.proofs.Laws.{tells}
+use Rattle.answers.specs.Answers.{endpointOf, stallsOf}
 use Rattle.ring.specs.declared.Act.{Act}
 use Rattle.ring.specs.declared.Row.{Row}
 use Rattle.ring.specs.States.{rowOf}
@@ -28,8 +25,8 @@ use Rattle.device.specs.declared.Device.{Device}
 use Rattle.device.specs.declared.Numbers.{Numbers}
 use Rattle.device.specs.declared.Status.{Status}
 use Rattle.device.specs.declared.Status.the-variants.{Absent}
-use Rattle.device.specs.Device.{isPresent, numbersOf}
-use Rattle.device.specs.Broken.{isWhole}
+use Rattle.device.specs.Device.{isPresent, numbersOf, rebuilt}
+use Rattle.device.specs.Broken.{isWhole, unlessBroken}
 use Rattle.device.proofs.Wholly.{tested, absent-in-0}
 use Rattle.bbb.specs.declared.Change.{Change}
 use Rattle.bbb.specs.declared.Polled.{Polled}
@@ -47,9 +44,8 @@ clears-status b s q = rw q
 pub keeps-status : (b : Bool) (s : Status) → b ≡ false → s ≡ cond b Absent s
 keeps-status b s q = rw q
 
-pub changes : (d : Device) (c : Change) (w : Wrapper) {s : Status} → s ≡ cond (c .cleared) Absent (d .status)
-    → _≡_ {A = Device} (record { packetsize = d .packetsize; maxlun = d .maxlun; size = d .size; state = c .state; marks = c .marks; wrapper = w; status = s; left = c .left }) (changedBy d c w)
-changes d c w hs = rw hs
+pub changes : (d : Device) (c : Change) (w : Wrapper) {s : Status} → s ≡ cond (c .cleared) Absent (d .status) → {r : Device} → r ≡ rebuilt d (c .state) (c .marks) w s (c .left) → r ≡ changedBy d c w
+changes d c w hs hr = rw (hr, hs)
 
 -- ---- the wrapper that opening found
 
@@ -109,42 +105,39 @@ is-fitting p packet one two h e =
     let k : a && (b && c) ≡ true = sym h ∙ e in
     record { first = first-fits _ _ _ _ h e; second = leb-true _ _ (and-left b c (and-right a (b && c) k)); into = leb-true _ _ (and-right b c (and-right a (b && c) k)) }
 
-pub refusal : (d : Device) (a : Answer) {o : Outcome} → o ≡ plainly a → _≡_ {A = Polled} (record { device = d; report = record { outcome = o; taken = 0; sent = 0; stalls = Kept } }) (refusedBy d a)
-refusal d a h = rw h
-
 -- ---- decide and act
 
 pub goes-on : (n : Numbers) (o : Opened) (io : List ℕ) (g : Given) {p : Bool} {a : Act} {row : Row} {r : Did} {io′ packet′ : List ℕ} {s : Stalls}
     → p ≡ isPresent (n .status) → a ≡ settled (n .state) (n .left .0) p (eqb (n .marks .write - n .marks .read) 0) (o .found) (o .direction) (o .left .0) → row ≡ rowOf a
     → Acts (acted row n (openOf o) io g) (actedPacket row n (openOf o) io g) r io′ packet′ → s ≡ stallsOf (o .cleared) (r .stalled)
-    → endedOf (record { state = row .0; marks = r .marks; left = r .left; cleared = o .cleared; report = record { outcome = r .outcome; taken = r .taken; sent = r .sent; stalls = s } }) io′ packet′ ≡ goneOn n (openOf o) io g
+    → endedOf (record { state = row .0; marks = r .marks; left = r .left; cleared = o .cleared; report = record { answer = r .answer; taken = r .taken; sent = r .sent; stalls = s } }) io′ packet′ ≡ goneOn n (openOf o) io g
 unfolding goneOn endsWith
 goes-on n o io g hp ha hr x hs = rw (← hp, ← ha, ← hr, ← x .leaves, x .into, hs)
 
 -- ---- the call
 
 module _ (d : Device) (io : List ℕ) (g : Given) {n : Numbers} (hn : n ≡ numbersOf d) {v : Bool} (hv : v ≡ isWhole n (length io)) where
-  pub tells-10 : v ≡ false → {r : Polled} → r ≡ refusedBy d BrokenRecord → pollingOf r io (g .packet) ≡ pollCall d io g
-  unfolding pollCall
-  tells-10 q h = rw (← hn, ← hv, q, h, tells BrokenRecord {r = plainly BrokenRecord} refl)
+  pub broken-10 : v ≡ false → {r : Polled} → r ≡ refusedBy d BrokenRecord → pollingOf r io (g .packet) ≡ pollCall d io g
+  unfolding pollCall unlessBroken
+  broken-10 q h = rw (← hn, ← hv, q, h)
 
-  module _ (q : v ≡ true) {w : Bool} (hw : w ≡ isFitting (n .packetsize) (length (g .packet)) (length (g .one)) (length (g .two))) where
-    fit : w ≡ isFitting (d .packetsize) (length (g .packet)) (length (g .one)) (length (g .two))
+  module _ (q : v ≡ true) {w : Bool} (hw : w ≡ isFitting (n .fixed .packetsize) (length (g .packet)) (length (g .one)) (length (g .two))) where
+    fit : w ≡ isFitting (d .fixed .packetsize) (length (g .packet)) (length (g .one)) (length (g .two))
     fit = rw hn at hw
 
-    pub tells-11 : w ≡ false → {r : Polled} → r ≡ refusedBy d PacketRefused → pollingOf r io (g .packet) ≡ pollCall d io g
-    unfolding pollCall
-    tells-11 p h = rw (← hn, ← hv, q, ← fit, p, h, tells PacketRefused {r = plainly PacketRefused} refl)
+    pub refused-11 : w ≡ false → {r : Polled} → r ≡ refusedBy d PacketRefused → pollingOf r io (g .packet) ≡ pollCall d io g
+    unfolding pollCall unlessBroken
+    refused-11 p h = rw (← hn, ← hv, q, ← fit, p, h)
 
     -- what open and go_on promise, and the wrapper that was taken between them, make 01's poll
     pub polls : w ≡ true → {o : Opened} {io′ io″ packet′ : List ℕ} (c : Change) {w′ : Wrapper} {d′ : Device}
         → Opens (opened n io (g .one) (endpointOf (g .turn .first))) (openedIo n io (g .one) (endpointOf (g .turn .first))) o io′
         → endedOf c io″ packet′ ≡ goneOn n (openOf o) io′ g → w′ ≡ wrapperThen (openOf o) io′ (d .wrapper) → d′ ≡ changedBy d c w′
         → pollingOf (record { device = d′; report = c .report }) io″ packet′ ≡ pollCall d io g
-    unfolding pollCall pollRule
+    unfolding pollCall unlessBroken pollRule
     polls p {o} {io′} {io″} {packet′} c x y z h =
         let k : finish d (endedOf c io″ packet′) (wrapperThen (openOf o) io′ (d .wrapper)) ≡ follows d (opened (numbersOf d) io (g .one) (endpointOf (g .turn .first))) (openedIo (numbersOf d) io (g .one) (endpointOf (g .turn .first))) g =
         rw (← hn, ← x .leaves, ← x .bytes, ← y) in
         rw (← hn, ← hv, q, ← fit, p, h, z) (k ∙ same (d .state) d io g (absent-in-0 (numbersOf d) (length io) (rw hn at (tested n (length io) hv q))))
 
-pub ruleset ways = (clears-status, keeps-status, changes, found-31, found-part, found-wrapper, kept-wrapper, fits-all, fits-not-two, fits-not-one, first-fits, is-fitting, refusal, goes-on, tested)
+pub ruleset ways = (clears-status, keeps-status, changes, found-31, found-part, found-wrapper, kept-wrapper, fits-all, fits-not-two, fits-not-one, first-fits, is-fitting, goes-on, tested)

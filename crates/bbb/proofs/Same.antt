@@ -9,7 +9,7 @@ use lib.Dec.{eqb, leb}
 use Rattle.buffer.specs.declared.Marks.{Marks}
 use Rattle.buffer.specs.Buffer.{Buffer, buffer, at, unread}
 use Rattle.answers.specs.declared.Endpoint.{Endpoint}
-use Rattle.answers.specs.Answers.{Told, no, endpointOf}
+use Rattle.answers.specs.Answers.{Answering, answer, endpointOf}
 use Rattle.ring.specs.declared.State.{State}
 use Rattle.ring.specs.declared.State.the-variants.{CommandTransfer, CommandTransferInvalid, DataTransferNoData, StatusTransfer, DataTransferToHost, DataTransferToHostStatusAwait, DataTransferToHostEnding, DataTransferFromHost, DataTransferFromHostEnding}
 use Rattle.ring.specs.declared.Found.{Found}
@@ -23,18 +23,18 @@ use Rattle.wrapper.specs.declared.DataDirection.the-variants.{Out, In, NotExpec
 use Rattle.wrapper.specs.declared.Wrapper.{Wrapper}
 use Rattle.wrapper.specs.declared.counters.Left.{Left}
 use Rattle.wrapper.specs.Wrapper.{isValid, wrapperOf}
-use Rattle.packets.specs.Packets.{readTold, takesOne, received, filledUp}
+use Rattle.packets.specs.Packets.{readAnswer, takesOne, received, filledUp}
 use Rattle.device.specs.declared.Status.the-variants.{Absent}
 use Rattle.device.specs.declared.Device.{Device}
-use Rattle.device.specs.Device.{isPresent, numbersOf, inState}
-use Rattle.bbb.specs.Poll.{Given, Polling, Point, point, reaching, leaving, ending, ends, statusBy, sendStatus, dataBy, sendData, takeBy, takeData, enterStatus, statusAwaitRule, noDataRule, toHostEndingRule, fallsShort, toHostRule, fromHostEndingRule, fromHostRule, startRule, messageAt, behind31, parseRule, readBy, readOneBy, readCbwRule, statusTransferRule, invalidRule, ruleIn}
+use Rattle.device.specs.Device.{isPresent, numbersOf, inState, rebuilt}
+use Rattle.bbb.specs.Poll.{Given, Polling, Point, point, reaching, leaving, ending, ends, sendBy, send, sendStatus, sendData, takeBy, takeData, enterStatus, statusAwaitRule, noDataRule, toHostEndingRule, fallsShort, toHostRule, fromHostEndingRule, fromHostRule, startRule, messageAt, behind31, parseRule, readBy, readOneBy, readCbwRule, statusTransferRule, invalidRule, ruleIn}
 use Rattle.bbb.specs.Phases.{Open, opening, behind, parsedOpen, openAfter, readOpen, opens, isOpening, opened, openedIo, justRead, wrapperThen, Done, tookFrom, took, sentFrom, sentBy, sentPacket, acted, actedPacket, Ended, endedBy, endsWith, goneOn}
 
 -- the record with what changed, with the wrapper w, and what is reported
 abbrev pub finish : Device → Ended → Wrapper → Polling
 finish d x w = record {
-  device = record { packetsize = d .packetsize; maxlun = d .maxlun; size = d .size; state = x .state; marks = x .marks; wrapper = w; status = cond (x .cleared) Absent (d .status); left = x .left };
-  told = x .told;
+  device = rebuilt d (x .state) (x .marks) w (cond (x .cleared) Absent (d .status)) (x .left);
+  answer = x .answer;
   taken = x .taken;
   sent = x .sent;
   stalls = x .stalls;
@@ -48,52 +48,52 @@ goes d o io g w a = finish d (endsWith (rowOf a) (numbersOf d) o io g) w
 
 -- The point at which the act begins: the record with what opening left, in any state z, with the wrapper w.
 abbrev start : Device → State → Open → List ℕ → Wrapper → Point
-start d z o io w = point (record { packetsize = d .packetsize; maxlun = d .maxlun; size = d .size; state = z; marks = o .marks; wrapper = w; status = cond (o .cleared) Absent (d .status); left = o .left }) io (o .taken) (o .cleared)
+start d z o io w = point (rebuilt d z (o .marks) w (cond (o .cleared) Absent (d .status)) (o .left)) io (o .taken) (o .cleared)
 
 -- ---- the acts
 
 module _ (d : Device) (z : State) (io : List ℕ) (g : Given) (w : Wrapper) (f : Found) (m : Marks) (l : Left) (dir : DataDirection) (k : ℕ) (c : Bool) where
-  abbrev o : Told → Open
+  abbrev o : Answering → Open
   o t = opening f m l dir t k c
 
-  stays : (t : Told) → goes d (o t) io g w Stay ≡ ends g (reaching CommandTransfer (start d z (o t) io w)) t
+  stays : (t : Answering) → goes d (o t) io g w Stay ≡ ends g (reaching CommandTransfer (start d z (o t) io w)) t
   unfolding endsWith acted actedPacket
   stays t = refl
 
-  stalls : goes d (o (no 0)) io g w Stall ≡ ending (reaching CommandTransferInvalid (start d z (o (no 0)) io w)) (no 0) 0 true (g .packet)
+  stalls : goes d (o (answer 0)) io g w Stall ≡ ending (reaching CommandTransferInvalid (start d z (o (answer 0)) io w)) (answer 0) 0 true (g .packet)
   unfolding endsWith acted actedPacket
   stalls = refl
 
-  waits : goes d (o (no 0)) io g w Wait ≡ ends g (reaching DataTransferToHostStatusAwait (start d z (o (no 0)) io w)) (no 0)
+  waits : goes d (o (answer 0)) io g w Wait ≡ ends g (reaching DataTransferToHostStatusAwait (start d z (o (answer 0)) io w)) (answer 0)
   unfolding endsWith acted actedPacket
   waits = refl
 
-  nexts : goes d (o (no 0)) io g w Next ≡ sendStatus g (reaching StatusTransfer (start d z (o (no 0)) io w))
-  unfolding endsWith acted actedPacket sentBy sentFrom sentPacket sendStatus statusBy
+  nexts : goes d (o (answer 0)) io g w Next ≡ sendStatus g (reaching StatusTransfer (start d z (o (answer 0)) io w))
+  unfolding endsWith acted actedPacket sentBy sentFrom sentPacket send sendBy
   nexts = refl
 
-  fills : goes d (o (no 0)) io g w Fill ≡ sendData g (reaching DataTransferToHostEnding (leaving (filledUp (d .packetsize) l (buffer io m)) (start d z (o (no 0)) io w)))
-  unfolding endsWith acted actedPacket sentBy sentFrom sentPacket sendData dataBy
+  fills : goes d (o (answer 0)) io g w Fill ≡ sendData g (reaching DataTransferToHostEnding (leaving (filledUp (d .fixed .packetsize) l (buffer io m)) (start d z (o (answer 0)) io w)))
+  unfolding endsWith acted actedPacket sentBy sentFrom sentPacket send sendBy
   fills = refl
 
   -- a packet of data, or answer 4
-  short : (b : Bool) (x y : Done) (p q : List ℕ) → finish d (endedBy DataTransferToHost (o (no 0)) (cond b x y) (cond b p q)) w
-      ≡ cond b (finish d (endedBy DataTransferToHost (o (no 0)) x p) w) (finish d (endedBy DataTransferToHost (o (no 0)) y q) w)
+  short : (b : Bool) (x y : Done) (p q : List ℕ) → finish d (endedBy DataTransferToHost (o (answer 0)) (cond b x y) (cond b p q)) w
+      ≡ cond b (finish d (endedBy DataTransferToHost (o (answer 0)) x p) w) (finish d (endedBy DataTransferToHost (o (answer 0)) y q) w)
   short true x y p q = refl
   short false x y p q = refl
 
-  sends : goes d (o (no 0)) io g w Send
-      ≡ cond (fallsShort (d .packetsize) l (m .write - m .read))
-      (ends g (reaching DataTransferToHost (start d z (o (no 0)) io w)) (no 4))
-      (sendData g (reaching DataTransferToHost (start d z (o (no 0)) io w)))
-  unfolding endsWith acted actedPacket sentBy sentFrom sentPacket sendData dataBy
-  sends = short (fallsShort (d .packetsize) l (m .write - m .read)) _ _ _ _
+  sends : goes d (o (answer 0)) io g w Send
+      ≡ cond (fallsShort (d .fixed .packetsize) l (m .write - m .read))
+      (ends g (reaching DataTransferToHost (start d z (o (answer 0)) io w)) (answer 4))
+      (sendData g (reaching DataTransferToHost (start d z (o (answer 0)) io w)))
+  unfolding endsWith acted actedPacket sentBy sentFrom sentPacket send sendBy
+  sends = short (fallsShort (d .fixed .packetsize) l (m .write - m .read)) _ _ _ _
 
-  takes : goes d (o (no 0)) io g w Take ≡ takeData g (reaching DataTransferFromHost (start d z (o (no 0)) io w))
+  takes : goes d (o (answer 0)) io g w Take ≡ takeData g (reaching DataTransferFromHost (start d z (o (answer 0)) io w))
   unfolding endsWith acted actedPacket took tookFrom takeData takeBy
   takes = refl
 
-  drops : goes d (o (no 0)) io g w Drop ≡ takeData g (reaching DataTransferFromHostEnding (leaving (buffer io (at 0 0)) (start d z (o (no 0)) io w)))
+  drops : goes d (o (answer 0)) io g w Drop ≡ takeData g (reaching DataTransferFromHostEnding (leaving (buffer io (at 0 0)) (start d z (o (answer 0)) io w)))
   unfolding endsWith acted actedPacket took tookFrom takeData takeBy
   drops = refl
 
@@ -113,13 +113,13 @@ directed d x io g w NotExpected a b c h i j = j
 
 module _ (d : Device) (io : List ℕ) (g : Given) where
   abbrev same-open : Open
-  same-open = opening Nothing (d .marks) (d .left) NotExpected (no 0) 0 false
+  same-open = opening Nothing (d .marks) (d .left) NotExpected (answer 0) 0 false
 
   abbrev here : Point
   here = point d io 0 false
 
   enters : goes d same-open io g (d .wrapper) Enter ≡ enterStatus g here
-  unfolding endsWith acted actedPacket sentBy sentFrom sentPacket enterStatus sendStatus statusBy
+  unfolding endsWith acted actedPacket sentBy sentFrom sentPacket enterStatus send sendBy
   enters = refl
 
   await : goes d same-open io g (d .wrapper) (statusAwaitAct (isPresent (d .status))) ≡ statusAwaitRule g here
@@ -155,7 +155,7 @@ module _ (d : Device) (io : List ℕ) (g : Given) where
 module _ (d : Device) (c : Bool) (absent : isPresent (cond c Absent (d .status)) ≡ false) (io : List ℕ) (g : Given) (w : Wrapper) where
   module _ (m : Marks) (l : Left) (q : DataDirection) where
     abbrev valid-open : Open
-    valid-open = opening Valid m l q (no 0) 1 c
+    valid-open = opening Valid m l q (answer 0) 1 c
 
     abbrev there : Point
     there = start d CommandTransfer valid-open io w
@@ -193,15 +193,15 @@ module _ (d : Device) (c : Bool) (absent : isPresent (cond c Absent (d .status))
 
   -- in 0, with the buffer t, and k packets taken
   abbrev waiting : Buffer → Left → ℕ → Point
-  waiting t l k = point (record { packetsize = d .packetsize; maxlun = d .maxlun; size = d .size; state = CommandTransfer; marks = t .marks; wrapper = d .wrapper; status = cond c Absent (d .status); left = l }) (t .bytes) k c
+  waiting t l k = point (rebuilt d CommandTransfer (t .marks) (d .wrapper) (cond c Absent (d .status)) l) (t .bytes) k c
 
   -- what a message says, once it is valid
   abbrev said : Buffer → Wrapper
   said t = wrapperOf (messageAt t)
 
   judges : (v : Bool) (t : Buffer) (l : Left)
-      → parsing (cond v (opening Valid (behind (t .marks)) (record { 0 = said t .length }) (said t .direction) (no 0) 1 c) (opening Invalid (behind (t .marks)) l NotExpected (no 0) 1 c)) (t .bytes)
-      ≡ cond v (startRule (said t) g (leaving (behind31 t) (waiting t l 1))) (ending (reaching CommandTransferInvalid (leaving (behind31 t) (waiting t l 1))) (no 0) 0 true (g .packet))
+      → parsing (cond v (opening Valid (behind (t .marks)) (record { 0 = said t .length }) (said t .direction) (answer 0) 1 c) (opening Invalid (behind (t .marks)) l NotExpected (answer 0) 1 c)) (t .bytes)
+      ≡ cond v (startRule (said t) g (leaving (behind31 t) (waiting t l 1))) (ending (reaching CommandTransferInvalid (leaving (behind31 t) (waiting t l 1))) (answer 0) 0 true (g .packet))
   unfolding wrapperThen readCbwAct startAct startRule
   judges true t l =
       rw (just-read t)
@@ -215,7 +215,7 @@ module _ (d : Device) (c : Bool) (absent : isPresent (cond c Absent (d .status))
   unfolding parsedOpen parseRule
   parses t l = judges (isValid (messageAt t)) t l
 
-  reads : (took r : Bool) (t : Buffer) (says : Told) (l : Left)
+  reads : (took r : Bool) (t : Buffer) (says : Answering) (l : Left)
       → parsing (cond (took && r) (parsedOpen t l c) (opening Nothing (t .marks) l NotExpected says (cond took 1 0) c)) (t .bytes)
       ≡ cond (took && r) (parseRule g (waiting t l (cond took 1 0))) (ends g (waiting t l (cond took 1 0)) says)
   unfolding wrapperThen readCbwAct
@@ -223,9 +223,9 @@ module _ (d : Device) (c : Bool) (absent : isPresent (cond c Absent (d .status))
   reads true false t says l = stays d CommandTransfer (t .bytes) g (d .wrapper) Nothing (t .marks) l NotExpected 1 c says
   reads false r t says l = stays d CommandTransfer (t .bytes) g (d .wrapper) Nothing (t .marks) l NotExpected 0 c says
 
-  wrapper : (e : Endpoint) (s : Buffer) (l : Left) → parsing (readOpen (d .packetsize) e (g .one) l c s) (received (d .packetsize) e (g .one) s .bytes) ≡ readOneBy (d .packetsize) e s g (waiting s l 0)
+  wrapper : (e : Endpoint) (s : Buffer) (l : Left) → parsing (readOpen (d .fixed .packetsize) e (g .one) l c s) (received (d .fixed .packetsize) e (g .one) s .bytes) ≡ readOneBy (d .fixed .packetsize) e s g (waiting s l 0)
   unfolding readOpen openAfter readOneBy readBy
-  wrapper e s l = reads (takesOne (d .packetsize) e s) (leb 31 (unread (received (d .packetsize) e (g .one) s))) (received (d .packetsize) e (g .one) s) (readTold (d .packetsize) e s) l
+  wrapper e s l = reads (takesOne (d .fixed .packetsize) e s) (leb 31 (unread (received (d .fixed .packetsize) e (g .one) s))) (received (d .fixed .packetsize) e (g .one) s) (readAnswer (d .fixed .packetsize) e s) l
 
 -- 3, by whether something is unread
 status : (d : Device) (g : Given) (b : Bool) (x y : Open) (io io′ : List ℕ) {v w : Polling}

@@ -5,7 +5,7 @@ use mathlib.Core.List.{List}
 use Prim.Native.Nat.{ℕ}
 use denote.Ref.{now}
 use Rattle.fields.proofs.Only.{Only, once}
-use Rattle.answers.proofs.Unique.{untold, untold-told}
+use Rattle.answers.proofs.Unique.{named, named-answer}
 use Rattle.bbb.specs.declared.Polled.{Polled}
 use Rattle.bbb.specs.declared.open.Opened.{Opened}
 use Rattle.bbb.specs.declared.Change.{Change}
@@ -24,10 +24,10 @@ use Rattle.bbb.proofs.poll.Reads as poll
 
 -- 01's number tells the answer, and so what is told of a poll tells its result
 abbrev unpolled : Polling → Polled
-unpolled o = record { device = o .device; report = record { outcome = untold (o .told); taken = o .taken; sent = o .sent; stalls = o .stalls } }
+unpolled o = record { device = o .device; report = record { answer = named (o .answer); taken = o .taken; sent = o .sent; stalls = o .stalls } }
 
 unpolled-polled : (x : Polled) (io packet : List ℕ) → unpolled (pollingOf x io packet) ≡ x
-unpolled-polled x io packet = rw (untold-told (x .report .outcome))
+unpolled-polled x io packet = rw (named-answer (x .report .answer))
 
 poll-once : (x y : Polled) (io io′ packet packet′ : List ℕ) {p : Polling} → pollingOf x io packet ≡ p → pollingOf y io′ packet′ ≡ p → (x ≡ y) × _≡_ {A = List ℕ × List ℕ} (io, packet) (io′, packet′)
 poll-once x y io io′ packet packet′ h k =
@@ -35,19 +35,19 @@ poll-once x y io io′ packet packet′ h k =
     (sym (unpolled-polled x io packet) ∙ ap unpolled e ∙ unpolled-polled y io′ packet′, ap {B = List ℕ × List ℕ} (λ (z : Polling). (z .io, z .packet)) e)
 
 abbrev unopened : Open → Opened
-unopened o = record { found = o .found; marks = o .marks; left = o .left; direction = o .direction; outcome = untold (o .told); taken = o .taken; cleared = o .cleared }
+unopened o = record { found = o .found; marks = o .marks; left = o .left; direction = o .direction; answer = named (o .answer); taken = o .taken; cleared = o .cleared }
 
 unopened-opened : (x : Opened) → unopened (openOf x) ≡ x
-unopened-opened x = rw (untold-told (x .outcome))
+unopened-opened x = rw (named-answer (x .answer))
 
 open-once : (x y : Opened) {o : Open} → openOf x ≡ o → openOf y ≡ o → x ≡ y
 open-once = once openOf unopened unopened-opened
 
 abbrev unended : Ended → Change
-unended o = record { state = o .state; marks = o .marks; left = o .left; cleared = o .cleared; report = record { outcome = untold (o .told); taken = o .taken; sent = o .sent; stalls = o .stalls } }
+unended o = record { state = o .state; marks = o .marks; left = o .left; cleared = o .cleared; report = record { answer = named (o .answer); taken = o .taken; sent = o .sent; stalls = o .stalls } }
 
 unended-ended : (x : Change) (io packet : List ℕ) → unended (endedOf x io packet) ≡ x
-unended-ended x io packet = rw (untold-told (x .report .outcome))
+unended-ended x io packet = rw (named-answer (x .report .answer))
 
 go-on-once : (x y : Change) (io io′ packet packet′ : List ℕ) {p : Ended} → endedOf x io packet ≡ p → endedOf y io′ packet′ ≡ p → (x ≡ y) × _≡_ {A = List ℕ × List ℕ} (io, packet) (io′, packet′)
 go-on-once x y io io′ packet packet′ h k =

@@ -5,7 +5,7 @@ use lib.ListN.{replicate, take, drop}
 use Rattle.fields.specs.Case.{Case, case}
 use Rattle.buffer.specs.Buffer as buffer
 use Rattle.answers.specs.declared.Stalls.the-variants.{Stalled, Unstalled}
-use Rattle.answers.specs.Answers.{told, no}
+use Rattle.answers.specs.Answers.{answerOf, answer}
 use Rattle.ring.specs.declared.State.{State}
 use Rattle.ring.specs.declared.State.the-variants.{CommandTransferInvalid, DataTransferNoData, StatusTransfer, DataTransferToHost, DataTransferToHostStatusAwait, DataTransferToHostEnding, DataTransferFromHost}
 use Rattle.ring.specs.States.{stateNumber}
@@ -14,7 +14,7 @@ use Rattle.wrapper.specs.declared.status.CommandStatus.the-variants.{Passed}
 use Rattle.device.specs.declared.Device.{Device}
 use Rattle.device.specs.declared.Status.{Status}
 use Rattle.device.specs.declared.Status.the-variants.{Absent, Present}
-use Rattle.device.specs.Create.{newDevice}
+use Rattle.device.specs.Create.{fixed, newDevice}
 use Rattle.bbb.specs.Poll.{Given, given, Polling, pollCall}
 
 -- a poll with a packet on OUT, the second OUT busy, and IN that does its part; the packet buffer has 64 bytes of 7
@@ -23,7 +23,7 @@ offered packet = given (replicate 64 7) packet [] (record { first = 0; second = 
 
 -- the first poll of a new device with an IO buffer of zeros, and the poll after one
 unfoldable pub first : ℕ → ℕ → List ℕ → Polling
-first p size packet = pollCall (newDevice p 0 size) (replicate size 0) (offered packet)
+first p size packet = pollCall (newDevice (fixed p 0 size)) (replicate size 0) (offered packet)
 
 unfoldable pub next : Polling → List ℕ → Polling
 next x packet = pollCall (x .device) (x .io) (offered packet)
@@ -45,7 +45,7 @@ pub record Line : Type 0 where
   pub sent : ℕ
 
 unfoldable pub line : Polling → Line
-line x = record { answer = x .told .number; state = stateNumber (x .device .state); left = x .device .left .0; unread = buffer.unread (buffer.buffer (x .io) (x .device .marks)); taken = x .taken; sent = x .sent }
+line x = record { answer = x .answer .number; state = stateNumber (x .device .state); left = x .device .left .0; unread = buffer.unread (buffer.buffer (x .io) (x .device .marks)); taken = x .taken; sent = x .sent }
 
 abbrev shown : ℕ → ℕ → ℕ → ℕ → ℕ → ℕ → Line
 shown answer state left unread taken sent = record { answer = answer; state = state; left = left; unread = unread; taken = taken; sent = sent }
@@ -61,7 +61,7 @@ starred =
 
 -- a device with P 8 and an IO buffer of 40 bytes: 1, 2, 3, .. in front, of which some are unread
 unfoldable pub in-state : State → Status → ℕ → ℕ → ℕ → Device
-in-state state status read write left = record { packetsize = 8; maxlun = 0; size = 40; state = state; marks = buffer.at read write; wrapper = record { tag = 1; length = 20; direction = In; lun = 0; blocklength = 6; block = replicate 16 0 }; status = status; left = record { 0 = left } }
+in-state state status read write left = record { fixed = fixed 8 0 40; state = state; marks = buffer.at read write; wrapper = record { tag = 1; length = 20; direction = In; lun = 0; blocklength = 6; block = replicate 16 0 }; status = status; left = record { 0 = left } }
 
 unfoldable pub io : List ℕ
 io = 1 ∷ 2 ∷ 3 ∷ 4 ∷ 5 ∷ 6 ∷ 7 ∷ 8 ∷ replicate 32 0
@@ -96,7 +96,7 @@ ours =
     -- 5: the status is written into the emptied buffer and goes out at once; a failing endpoint's number is carried
     ∷ case (polled (in-state DataTransferToHostStatusAwait passed 2 5 0) 0 0 0 .packet) (0x55 ∷ 0x53 ∷ 0x42 ∷ 0x53 ∷ 1 ∷ 0 ∷ 0 ∷ 0 ∷ [])
     ∷ case (line (polled (in-state DataTransferToHostStatusAwait passed 2 5 0) 0 0 0)) (shown 0 3 0 5 0 8)
-    ∷ case (polled (in-state DataTransferToHostStatusAwait passed 2 5 0) 0 0 9 .told) (record { number = 7; carried = 9 })
+    ∷ case (polled (in-state DataTransferToHostStatusAwait passed 2 5 0) 0 0 9 .answer) (record { number = 7; carried = 9 })
     -- 6: filled to min(left, P); behind a busy poll it is not filled again
     ∷ case (polled (in-state DataTransferToHostEnding passed 6 8 5) 0 0 0 .packet) (7 ∷ 8 ∷ 0xFF ∷ 0xFF ∷ 0xFF ∷ replicate 3 7)
     ∷ case (line (polled (in-state DataTransferToHostEnding passed 6 8 5) 0 0 1)) (shown 6 6 5 5 0 0)
@@ -105,9 +105,9 @@ ours =
     ∷ case (line (polled (in-state DataTransferFromHost Absent 0 3 20) 0 0 0)) (shown 0 7 19 4 1 0)
     ∷ case (line (polled (in-state DataTransferFromHost passed 0 3 20) 0 0 0)) (shown 0 8 19 1 1 0)
     ∷ case (line (polled (in-state DataTransferNoData Absent 0 3 20) 0 0 0)) (shown 0 5 20 3 0 0)
-    ∷ case (line (pollCall (newDevice 64 0 128) (replicate 128 0) (given (replicate 64 7) (from-host 20) (10 ∷ 11 ∷ []) (record { first = 0; second = 0; write = 0 })))) (shown 0 7 18 2 2 0)
+    ∷ case (line (pollCall (newDevice (fixed 64 0 128)) (replicate 128 0) (given (replicate 64 7) (from-host 20) (10 ∷ 11 ∷ []) (record { first = 0; second = 0; write = 0 })))) (shown 0 7 18 2 2 0)
     -- 11: a packet buffer below P, an offer above P; 10 before that
-    ∷ case (pollCall (in-state DataTransferToHost Absent 0 8 8) io (given (replicate 7 7) [] [] (record { first = 0; second = 0; write = 0 })) .told) (no 11)
-    ∷ case (pollCall (in-state DataTransferToHost Absent 0 8 8) io (given (replicate 8 7) [] (replicate 9 1) (record { first = 0; second = 0; write = 0 })) .told) (no 11)
-    ∷ case (pollCall (in-state DataTransferToHost Absent 0 8 8) (0 ∷ io) (given (replicate 7 7) [] [] (record { first = 0; second = 0; write = 0 })) .told) (no 10)
+    ∷ case (pollCall (in-state DataTransferToHost Absent 0 8 8) io (given (replicate 7 7) [] [] (record { first = 0; second = 0; write = 0 })) .answer) (answer 11)
+    ∷ case (pollCall (in-state DataTransferToHost Absent 0 8 8) io (given (replicate 8 7) [] (replicate 9 1) (record { first = 0; second = 0; write = 0 })) .answer) (answer 11)
+    ∷ case (pollCall (in-state DataTransferToHost Absent 0 8 8) (0 ∷ io) (given (replicate 7 7) [] [] (record { first = 0; second = 0; write = 0 })) .answer) (answer 10)
     ∷ []

@@ -10,7 +10,7 @@ use Rattle.buffer.specs.declared.Marks.{Marks}
 use Rattle.buffer.specs.Buffer.{Buffer, Sound, buffer, at, unread}
 use Rattle.answers.specs.declared.Endpoint.{Endpoint}
 use Rattle.answers.specs.declared.Stalls.{Stalls}
-use Rattle.answers.specs.Answers.{Told, told, no, endpointOf, stallsOf}
+use Rattle.answers.specs.Answers.{Answering, answerOf, answer, endpointOf, stallsOf}
 use Rattle.ring.specs.declared.State.{State}
 use Rattle.ring.specs.declared.Found.{Found}
 use Rattle.ring.specs.declared.Found.the-variants as found
@@ -27,16 +27,16 @@ use Rattle.wrapper.specs.declared.Wrapper.{Wrapper}
 use Rattle.wrapper.specs.declared.counters.Left.{Left}
 use Rattle.wrapper.specs.Counters.{fallen}
 use Rattle.wrapper.specs.Wrapper.{isValid, wrapperOf}
-use Rattle.packets.specs.Packets.{readTold, takesOne, brought, received, sendTold, sentCount, sentOff, sentInto, filledUp}
+use Rattle.packets.specs.Packets.{readAnswer, takesOne, brought, received, sendAnswer, sentCount, sentOff, sentInto, filledUp}
 use Rattle.device.specs.declared.Status.the-variants.{Absent}
 use Rattle.device.specs.declared.Device.{Device}
 use Rattle.device.specs.declared.Numbers.{Numbers}
-use Rattle.device.specs.Device.{isPresent}
+use Rattle.device.specs.Device.{isPresent, rebuilt}
 use Rattle.bbb.specs.declared.Turn.{Turn}
 use Rattle.bbb.specs.declared.Change.{Change}
 use Rattle.bbb.specs.declared.open.Opened.{Opened}
 use Rattle.bbb.specs.declared.act.Did.{Did}
-use Rattle.bbb.specs.Poll.{Given, messageAt, fallsShort, offers, offeredBy, statusPut}
+use Rattle.bbb.specs.Poll.{Given, leftThen, messageAt, fallsShort, offers, offeredBy, statusPut}
 
 -- ---- open
 
@@ -46,15 +46,15 @@ pub record Open : Type 0 where
   pub marks : Marks
   pub left : Left
   pub direction : DataDirection
-  pub told : Told
+  pub answer : Answering
   pub taken : ℕ
   pub cleared : Bool
 
-abbrev pub opening : Found → Marks → Left → DataDirection → Told → ℕ → Bool → Open
-opening f m l d t taken cleared = record { found = f; marks = m; left = l; direction = d; told = t; taken = taken; cleared = cleared }
+abbrev pub opening : Found → Marks → Left → DataDirection → Answering → ℕ → Bool → Open
+opening f m l d t taken cleared = record { found = f; marks = m; left = l; direction = d; answer = t; taken = taken; cleared = cleared }
 
 abbrev pub openOf : Opened → Open
-openOf o = opening (o .found) (o .marks) (o .left) (o .direction) (told (o .outcome)) (o .taken) (o .cleared)
+openOf o = opening (o .found) (o .marks) (o .left) (o .direction) (answerOf (o .answer)) (o .taken) (o .cleared)
 
 abbrev pub isValidFound : Found → Bool
 isValidFound found.Nothing = false
@@ -79,17 +79,17 @@ behind m = at (m .read + 31) (m .write)
 unfoldable pub parsedOpen : Buffer → Left → Bool → Open
 parsedOpen s left cleared =
     cond (isValid (messageAt s))
-    (opening found.Valid (behind (s .marks)) (record { 0 = wrapperOf (messageAt s) .length }) (wrapperOf (messageAt s) .direction) (no 0) 1 cleared)
-    (opening found.Invalid (behind (s .marks)) left NotExpected (no 0) 1 cleared)
+    (opening found.Valid (behind (s .marks)) (record { 0 = wrapperOf (messageAt s) .length }) (wrapperOf (messageAt s) .direction) (answer 0) 1 cleared)
+    (opening found.Invalid (behind (s .marks)) left NotExpected (answer 0) 1 cleared)
 
 abbrev pub countOf : Bool → ℕ
 countOf took = cond took 1 0
 
-unfoldable pub openAfter : Buffer → Bool → Told → Left → Bool → Open
+unfoldable pub openAfter : Buffer → Bool → Answering → Left → Bool → Open
 openAfter t took said left cleared = cond (took && leb 31 (unread t)) (parsedOpen t left cleared) (opening found.Nothing (t .marks) left NotExpected said (countOf took) cleared)
 
 unfoldable pub readOpen : ℕ → Endpoint → List ℕ → Left → Bool → Buffer → Open
-readOpen p e one left cleared s = openAfter (received p e one s) (takesOne p e s) (readTold p e s) left cleared
+readOpen p e one left cleared s = openAfter (received p e one s) (takesOne p e s) (readAnswer p e s) left cleared
 
 abbrev pub readIo : ℕ → Endpoint → List ℕ → Buffer → List ℕ
 readIo p e one s = received p e one s .bytes
@@ -112,11 +112,11 @@ clears n = eqb (stateNumber (n .state)) 3
 unfoldable pub opened : Numbers → List ℕ → List ℕ → Endpoint → Open
 opened n io one e =
     cond (isOpening n)
-    (readOpen (n .packetsize) e one (leftWhen (clears n) (n .left)) (clears n) (buffer io (n .marks)))
-    (opening found.Nothing (n .marks) (n .left) NotExpected (no 0) 0 false)
+    (readOpen (n .fixed .packetsize) e one (leftWhen (clears n) (n .left)) (clears n) (buffer io (n .marks)))
+    (opening found.Nothing (n .marks) (n .left) NotExpected (answer 0) 0 false)
 
 unfoldable pub openedIo : Numbers → List ℕ → List ℕ → Endpoint → List ℕ
-openedIo n io one e = cond (isOpening n) (readIo (n .packetsize) e one (buffer io (n .marks))) io
+openedIo n io one e = cond (isOpening n) (readIo (n .fixed .packetsize) e one (buffer io (n .marks))) io
 
 -- ---- the wrapper that the record has then
 
@@ -135,16 +135,16 @@ pub record Done : Type 0 where
   pub marks : Marks
   pub left : Left
   pub sent : ℕ
-  pub told : Told
+  pub answer : Answering
   pub taken : ℕ
   pub stalled : Bool
   pub io : List ℕ
 
-abbrev pub done : Marks → Left → ℕ → Told → ℕ → Bool → List ℕ → Done
-done m l sent t taken stalled io = record { marks = m; left = l; sent = sent; told = t; taken = taken; stalled = stalled; io = io }
+abbrev pub done : Marks → Left → ℕ → Answering → ℕ → Bool → List ℕ → Done
+done m l sent t taken stalled io = record { marks = m; left = l; sent = sent; answer = t; taken = taken; stalled = stalled; io = io }
 
 abbrev pub doneOf : Did → List ℕ → Done
-doneOf r io = done (r .marks) (r .left) (r .sent) (told (r .outcome)) (r .taken) (r .stalled) io
+doneOf r io = done (r .marks) (r .left) (r .sent) (answerOf (r .answer)) (r .taken) (r .stalled) io
 
 -- What a function that acts promises: x, and the packet buffer.
 pub record Acts (x : Done) (packet : List ℕ) (r : Did) (io′ packet′ : List ℕ) : Type 0 where
@@ -152,10 +152,10 @@ pub record Acts (x : Done) (packet : List ℕ) (r : Did) (io′ packet′ : List
   pub into : packet′ ≡ packet
 
 abbrev pub restDid : Opened → Bool → Did
-restDid o stalled = record { marks = o .marks; left = o .left; sent = 0; outcome = o .outcome; taken = o .taken; stalled = stalled }
+restDid o stalled = record { marks = o .marks; left = o .left; sent = 0; answer = o .answer; taken = o .taken; stalled = stalled }
 
 abbrev pub rested : Open → Bool → List ℕ → Done
-rested o stalled io = done (o .marks) (o .left) 0 (o .told) (o .taken) stalled io
+rested o stalled io = done (o .marks) (o .left) 0 (o .answer) (o .taken) stalled io
 
 abbrev pub emptiedMarks : Before → Marks → Marks
 emptiedMarks before.Nothing m = m
@@ -168,7 +168,7 @@ abbrev pub oneMore : ℕ → Bool → ℕ
 oneMore taken more = cond more (taken + 1) taken
 
 unfoldable pub tookFrom : ℕ → Endpoint → List ℕ → Buffer → Open → Done
-tookFrom p e packet s o = done (received p e packet s .marks) (fallen (o .left) (brought p e packet s)) 0 (readTold p e s) (oneMore (o .taken) (takesOne p e s)) false (received p e packet s .bytes)
+tookFrom p e packet s o = done (received p e packet s .marks) (fallen (o .left) (brought p e packet s)) 0 (readAnswer p e s) (oneMore (o .taken) (takesOne p e s)) false (received p e packet s .bytes)
 
 unfoldable pub took : Before → ℕ → Open → List ℕ → List ℕ → List ℕ → Turn → Done
 took b p o io one two turn = tookFrom p (offeredBy (o .taken) turn) (offers (o .taken) one two) (buffer io (emptiedMarks b (o .marks))) o
@@ -187,24 +187,20 @@ readied before.Fill p s left n = filledUp p left s
 readied before.Status p s left n = statusPut (n .tag) (n .status) s
 readied before.Empty p s left n = s
 
-abbrev pub leftThen : Bool → Left → ℕ → Left
-leftThen true left moved = fallen left moved
-leftThen false left moved = left
-
 unfoldable pub sentFrom : Bool → ℕ → Endpoint → Buffer → Open → Done
-sentFrom counts p e s o = done (sentOff p e s .marks) (leftThen counts (o .left) (sentCount p e s)) (sentCount p e s) (sendTold e (unread s)) (o .taken) false (sentOff p e s .bytes)
+sentFrom counts p e s o = done (sentOff p e s .marks) (leftThen counts (o .left) (sentCount p e s)) (sentCount p e s) (sendAnswer e (unread s)) (o .taken) false (sentOff p e s .bytes)
 
 unfoldable pub sentBy : Before → Bool → Numbers → Open → List ℕ → Endpoint → Done
 sentBy b counts n o io e =
-    cond (refuses b (n .packetsize) (o .left) (o .marks .write - o .marks .read))
-    (done (o .marks) (o .left) 0 (no 4) (o .taken) false io)
-    (sentFrom counts (n .packetsize) e (readied b (n .packetsize) (buffer io (o .marks)) (o .left) n) o)
+    cond (refuses b (n .fixed .packetsize) (o .left) (o .marks .write - o .marks .read))
+    (done (o .marks) (o .left) 0 (answer 4) (o .taken) false io)
+    (sentFrom counts (n .fixed .packetsize) e (readied b (n .fixed .packetsize) (buffer io (o .marks)) (o .left) n) o)
 
 unfoldable pub sentPacket : Before → Numbers → Open → List ℕ → Endpoint → List ℕ → List ℕ
 sentPacket b n o io e packet =
-    cond (refuses b (n .packetsize) (o .left) (o .marks .write - o .marks .read))
+    cond (refuses b (n .fixed .packetsize) (o .left) (o .marks .write - o .marks .read))
     packet
-    (sentInto (n .packetsize) e (readied b (n .packetsize) (buffer io (o .marks)) (o .left) n) packet)
+    (sentInto (n .fixed .packetsize) e (readied b (n .fixed .packetsize) (buffer io (o .marks)) (o .left) n) packet)
 
 abbrev pub byKind : {A : Type 0} → Kind → A → A → A → A → A
 byKind kind.Rest a b c d = a
@@ -217,7 +213,7 @@ acted row n o io g =
     byKind (row .1)
     (rested o false io)
     (rested o true io)
-    (took (row .2) (n .packetsize) o io (g .one) (g .two) (g .turn))
+    (took (row .2) (n .fixed .packetsize) o io (g .one) (g .two) (g .turn))
     (sentBy (row .2) (row .3) n o io (endpointOf (g .turn .write)))
 
 unfoldable pub actedPacket : Row → Numbers → Open → List ℕ → Given → List ℕ
@@ -230,7 +226,7 @@ pub record Ended : Type 0 where
   pub marks : Marks
   pub left : Left
   pub cleared : Bool
-  pub told : Told
+  pub answer : Answering
   pub taken : ℕ
   pub sent : ℕ
   pub stalls : Stalls
@@ -238,10 +234,10 @@ pub record Ended : Type 0 where
   pub packet : List ℕ
 
 abbrev pub endedOf : Change → List ℕ → List ℕ → Ended
-endedOf c io packet = record { state = c .state; marks = c .marks; left = c .left; cleared = c .cleared; told = told (c .report .outcome); taken = c .report .taken; sent = c .report .sent; stalls = c .report .stalls; io = io; packet = packet }
+endedOf c io packet = record { state = c .state; marks = c .marks; left = c .left; cleared = c .cleared; answer = answerOf (c .report .answer); taken = c .report .taken; sent = c .report .sent; stalls = c .report .stalls; io = io; packet = packet }
 
 abbrev pub endedBy : State → Open → Done → List ℕ → Ended
-endedBy s o x packet = record { state = s; marks = x .marks; left = x .left; cleared = o .cleared; told = x .told; taken = x .taken; sent = x .sent; stalls = stallsOf (o .cleared) (x .stalled); io = x .io; packet = packet }
+endedBy s o x packet = record { state = s; marks = x .marks; left = x .left; cleared = o .cleared; answer = x .answer; taken = x .taken; sent = x .sent; stalls = stallsOf (o .cleared) (x .stalled); io = x .io; packet = packet }
 
 unfoldable pub endsWith : Row → Numbers → Open → List ℕ → Given → Ended
 endsWith row n o io g = endedBy (row .0) o (acted row n o io g) (actedPacket row n o io g)
@@ -251,4 +247,4 @@ goneOn n o io g = endsWith (rowOf (settled (n .state) (n .left .0) (isPresent (n
 
 -- The record with what changed, and its wrapper then.
 abbrev pub changedBy : Device → Change → Wrapper → Device
-changedBy d c w = record { packetsize = d .packetsize; maxlun = d .maxlun; size = d .size; state = c .state; marks = c .marks; wrapper = w; status = cond (c .cleared) Absent (d .status); left = c .left }
+changedBy d c w = rebuilt d (c .state) (c .marks) w (cond (c .cleared) Absent (d .status)) (c .left)

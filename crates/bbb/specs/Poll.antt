@@ -9,7 +9,7 @@ use Rattle.answers.specs.declared.Answer.{Answer}
 use Rattle.answers.specs.declared.Endpoint.{Endpoint}
 use Rattle.answers.specs.declared.Stalls.{Stalls}
 use Rattle.answers.specs.declared.Stalls.the-variants.{Kept}
-use Rattle.answers.specs.Answers.{Told, told, no, plainly, endpointOf, stallsOf}
+use Rattle.answers.specs.Answers.{Answering, answerOf, answer, endpointOf, stallsOf}
 use Rattle.ring.specs.declared.State.{State}
 use Rattle.ring.specs.declared.State.the-variants.{CommandTransfer, CommandTransferInvalid, DataTransferNoData, StatusTransfer, DataTransferToHost, DataTransferToHostStatusAwait, DataTransferToHostEnding, DataTransferFromHost, DataTransferFromHostEnding}
 use Rattle.ring.specs.Ring.{byDirection}
@@ -18,12 +18,12 @@ use Rattle.wrapper.specs.declared.counters.Left.{Left}
 use Rattle.wrapper.specs.Counters.{fallen}
 use Rattle.wrapper.specs.Status.{statusNumber}
 use Rattle.wrapper.specs.Wrapper.{isValid, wrapperOf}
-use Rattle.packets.specs.Packets.{readTold, takesOne, brought, received, sendTold, sentCount, sentOff, sentInto, filledUp, withStatus}
+use Rattle.packets.specs.Packets.{readAnswer, takesOne, brought, received, sendAnswer, sentCount, sentOff, sentInto, filledUp, withStatus}
 use Rattle.device.specs.declared.Status.{Status}
 use Rattle.device.specs.declared.Status.the-variants.{Absent, Present}
 use Rattle.device.specs.declared.Device.{Device}
-use Rattle.device.specs.Device.{isPresent, numbersOf, inState, withMarks, withWrapper, withLeft, entering0}
-use Rattle.device.specs.Broken.{isWhole}
+use Rattle.device.specs.Device.{isPresent, inState, withMarks, withWrapper, withLeft, entering0}
+use Rattle.device.specs.Broken.{unlessBroken}
 use Rattle.bbb.specs.declared.Turn.{Turn}
 use Rattle.bbb.specs.declared.Polled.{Polled}
 
@@ -42,7 +42,7 @@ given packet one two turn = record { packet = packet; one = one; two = two; turn
 -- "It reports OUT packets taken, bytes sent, stalls and the answer"; and it leaves the record, the IO buffer and the packet buffer.
 pub record Polling : Type 0 where
   pub device : Device
-  pub told : Told
+  pub answer : Answering
   pub taken : ℕ
   pub sent : ℕ
   pub stalls : Stalls
@@ -50,7 +50,7 @@ pub record Polling : Type 0 where
   pub packet : List ℕ
 
 abbrev pub pollingOf : Polled → List ℕ → List ℕ → Polling
-pollingOf r io packet = record { device = r .device; told = told (r .report .outcome); taken = r .report .taken; sent = r .report .sent; stalls = r .report .stalls; io = io; packet = packet }
+pollingOf r io packet = record { device = r .device; answer = answerOf (r .report .answer); taken = r .report .taken; sent = r .report .sent; stalls = r .report .stalls; io = io; packet = packet }
 
 -- How far a poll has come: the record and the IO buffer by now, OUT packets taken so far, whether both endpoints were unstalled.
 pub record Point : Type 0 where
@@ -65,7 +65,7 @@ point d io taken unstalled = record { device = d; io = io; taken = taken; unstal
 abbrev pub bufferAt : Point → Buffer
 bufferAt x = buffer (x .io) (x .device .marks)
 
--- the point with another state; with another buffer; with n bytes fewer left; with one packet more
+-- the point with another state; with another buffer; with n bytes fewer left, where they count; with one packet more
 abbrev pub reaching : State → Point → Point
 reaching s x = point (inState s (x .device)) (x .io) (x .taken) (x .unstalled)
 
@@ -73,35 +73,37 @@ abbrev pub leaving : Buffer → Point → Point
 leaving b x = point (withMarks (b .marks) (x .device)) (b .bytes) (x .taken) (x .unstalled)
 
 -- "Left falls by bytes moved, never below 0."
-abbrev pub lowered : ℕ → Point → Point
-lowered n x = point (withLeft (fallen (x .device .left) n) (x .device)) (x .io) (x .taken) (x .unstalled)
+abbrev pub leftThen : Bool → Left → ℕ → Left
+leftThen counts left moved = cond counts (fallen left moved) left
+
+abbrev pub lowered : Bool → ℕ → Point → Point
+lowered counts n x = point (withLeft (leftThen counts (x .device .left) n) (x .device)) (x .io) (x .taken) (x .unstalled)
 
 abbrev pub counting : Bool → Point → Point
 counting took x = point (x .device) (x .io) (cond took (x .taken + 1) (x .taken)) (x .unstalled)
 
 -- The poll ends at a point: with an answer, so many bytes sent, both endpoints stalled or not, the packet buffer as it is then.
-abbrev pub ending : Point → Told → ℕ → Bool → List ℕ → Polling
-ending x t sent stalled packet = record { device = x .device; told = t; taken = x .taken; sent = sent; stalls = stallsOf (x .unstalled) stalled; io = x .io; packet = packet }
+abbrev pub ending : Point → Answering → ℕ → Bool → List ℕ → Polling
+ending x t sent stalled packet = record { device = x .device; answer = t; taken = x .taken; sent = sent; stalls = stallsOf (x .unstalled) stalled; io = x .io; packet = packet }
 
 -- It ends with nothing sent.
-abbrev pub ends : Given → Point → Told → Polling
+abbrev pub ends : Given → Point → Answering → Polling
 ends g x t = ending x t 0 false (g .packet)
 
 -- ---- packets
 
--- A packet of the status is sent.
-unfoldable pub statusBy : ℕ → Endpoint → Buffer → Given → Point → Polling
-statusBy p e s g x = ending (leaving (sentOff p e s) x) (sendTold e (unread s)) (sentCount p e s) false (sentInto p e s (g .packet))
+-- A packet is sent. Left falls by one of data, and not by one of the status.
+unfoldable pub sendBy : Bool → ℕ → Endpoint → Buffer → Given → Point → Polling
+sendBy counts p e s g x = ending (lowered counts (sentCount p e s) (leaving (sentOff p e s) x)) (sendAnswer e (unread s)) (sentCount p e s) false (sentInto p e s (g .packet))
 
-unfoldable pub sendStatus : Given → Point → Polling
-sendStatus g x = statusBy (x .device .packetsize) (endpointOf (g .turn .write)) (bufferAt x) g x
+unfoldable pub send : Bool → Given → Point → Polling
+send counts g x = sendBy counts (x .device .fixed .packetsize) (endpointOf (g .turn .write)) (bufferAt x) g x
 
--- A packet of data is sent, and left falls.
-unfoldable pub dataBy : ℕ → Endpoint → Buffer → Given → Point → Polling
-dataBy p e s g x = ending (lowered (sentCount p e s) (leaving (sentOff p e s) x)) (sendTold e (unread s)) (sentCount p e s) false (sentInto p e s (g .packet))
+abbrev pub sendData : Given → Point → Polling
+sendData = send true
 
-unfoldable pub sendData : Given → Point → Polling
-sendData g x = dataBy (x .device .packetsize) (endpointOf (g .turn .write)) (bufferAt x) g x
+abbrev pub sendStatus : Given → Point → Polling
+sendStatus = send false
 
 -- The first offer, or the second where the first was taken.
 unfoldable pub offers : ℕ → List ℕ → List ℕ → List ℕ
@@ -112,10 +114,10 @@ offeredBy taken turn = endpointOf (cond (eqb taken 0) (turn .first) (turn .secon
 
 -- A packet of data is read, and left falls.
 unfoldable pub takeBy : ℕ → Endpoint → List ℕ → Buffer → Given → Point → Polling
-takeBy p e packet s g x = ends g (counting (takesOne p e s) (lowered (brought p e packet s) (leaving (received p e packet s) x))) (readTold p e s)
+takeBy p e packet s g x = ends g (counting (takesOne p e s) (lowered true (brought p e packet s) (leaving (received p e packet s) x))) (readAnswer p e s)
 
 unfoldable pub takeData : Given → Point → Polling
-takeData g x = takeBy (x .device .packetsize) (offeredBy (x .taken) (g .turn)) (offers (x .taken) (g .one) (g .two)) (bufferAt x) g x
+takeData g x = takeBy (x .device .fixed .packetsize) (offeredBy (x .taken) (g .turn)) (offers (x .taken) (g .one) (g .two)) (bufferAt x) g x
 
 -- ---- the states
 
@@ -130,7 +132,7 @@ enterStatus g x = sendStatus g (reaching StatusTransfer (leaving (statusPut (x .
 
 -- "5: status present goes to 3."
 unfoldable pub statusAwaitRule : Given → Point → Polling
-statusAwaitRule g x = cond (isPresent (x .device .status)) (enterStatus g x) (ends g (reaching DataTransferToHostStatusAwait x) (no 0))
+statusAwaitRule g x = cond (isPresent (x .device .status)) (enterStatus g x) (ends g (reaching DataTransferToHostStatusAwait x) (answer 0))
 
 -- 2 goes on to 5.
 unfoldable pub noDataRule : Given → Point → Polling
@@ -141,7 +143,7 @@ unfoldable pub toHostEndingRule : Given → Point → Polling
 toHostEndingRule g x =
     cond (eqb (x .device .left .0) 0)
     (enterStatus g x)
-    (sendData g (reaching DataTransferToHostEnding (leaving (filledUp (x .device .packetsize) (x .device .left) (bufferAt x)) x)))
+    (sendData g (reaching DataTransferToHostEnding (leaving (filledUp (x .device .fixed .packetsize) (x .device .left) (bufferAt x)) x)))
 
 -- 4 FullPacketExpected: "left at least P, unread below P"
 unfoldable pub fallsShort : ℕ → Left → ℕ → Bool
@@ -155,8 +157,8 @@ toHostRule g x =
     (statusAwaitRule g x)
     (cond (isPresent (x .device .status))
     (toHostEndingRule g x)
-    (cond (fallsShort (x .device .packetsize) (x .device .left) (unread (bufferAt x)))
-    (ends g (reaching DataTransferToHost x) (no 4))
+    (cond (fallsShort (x .device .fixed .packetsize) (x .device .left) (unread (bufferAt x)))
+    (ends g (reaching DataTransferToHost x) (answer 4))
     (sendData g (reaching DataTransferToHost x))))
 
 -- "8: left 0 goes to 3; otherwise empty the buffer and read."
@@ -193,17 +195,17 @@ unfoldable pub parseRule : Given → Point → Polling
 parseRule g x =
     cond (isValid (messageAt (bufferAt x)))
     (startRule (wrapperOf (messageAt (bufferAt x))) g (leaving (behind31 (bufferAt x)) x))
-    (ending (reaching CommandTransferInvalid (leaving (behind31 (bufferAt x)) x)) (no 0) 0 true (g .packet))
+    (ending (reaching CommandTransferInvalid (leaving (behind31 (bufferAt x)) x)) (answer 0) 0 true (g .packet))
 
 -- "0: read one packet; with 31 or more unread parse."
-unfoldable pub readBy : Bool → Told → Given → Point → Polling
+unfoldable pub readBy : Bool → Answering → Given → Point → Polling
 readBy took t g x = cond (took && leb 31 (unread (bufferAt x))) (parseRule g x) (ends g x t)
 
 unfoldable pub readOneBy : ℕ → Endpoint → Buffer → Given → Point → Polling
-readOneBy p e s g x = readBy (takesOne p e s) (readTold p e s) g (counting (takesOne p e s) (leaving (received p e (g .one) s) x))
+readOneBy p e s g x = readBy (takesOne p e s) (readAnswer p e s) g (counting (takesOne p e s) (leaving (received p e (g .one) s) x))
 
 unfoldable pub readCbwRule : Given → Point → Polling
-readCbwRule g x = readOneBy (x .device .packetsize) (endpointOf (g .turn .first)) (bufferAt x) g x
+readCbwRule g x = readOneBy (x .device .fixed .packetsize) (endpointOf (g .turn .first)) (bufferAt x) g x
 
 -- "Entering 0 clears status and left and unstalls both; it does not empty the buffer."
 abbrev pub entering : Point → Point
@@ -215,7 +217,7 @@ statusTransferRule g x = cond (eqb (unread (bufferAt x)) 0) (readCbwRule g (ente
 
 -- "1: stall both again; no traffic."
 unfoldable pub invalidRule : Given → Point → Polling
-invalidRule g x = ending x (no 0) 0 true (g .packet)
+invalidRule g x = ending x (answer 0) 0 true (g .packet)
 
 -- A poll, by the state in which it starts. "Going on always happens in the same poll."
 unfoldable pub ruleIn : State → Given → Point → Polling
@@ -245,16 +247,13 @@ isFitting p packet one two = leb one p && (leb two p && leb p packet)
 
 -- A refusal leaves "all as before".
 abbrev pub refusedBy : Device → Answer → Polled
-refusedBy d a = record { device = d; report = record { outcome = plainly a; taken = 0; sent = 0; stalls = Kept } }
+refusedBy d a = record { device = d; report = record { answer = a; taken = 0; sent = 0; stalls = Kept } }
 
 abbrev pub refusing : Device → List ℕ → Given → ℕ → Polling
-refusing d io g n = record { device = d; told = no n; taken = 0; sent = 0; stalls = Kept; io = io; packet = g .packet }
+refusing d io g n = record { device = d; answer = answer n; taken = 0; sent = 0; stalls = Kept; io = io; packet = g .packet }
 
 -- "Every other device call checks 10 first; a poll then 11."
 unfoldable pub pollCall : Device → List ℕ → Given → Polling
 pollCall d io g =
-    cond (isWhole (numbersOf d) (length io))
-    (cond (isFitting (d .packetsize) (length (g .packet)) (length (g .one)) (length (g .two)))
-    (pollRule d io g)
-    (refusing d io g 11))
-    (refusing d io g 10)
+    unlessBroken d io (refusing d io g 10)
+    (cond (isFitting (d .fixed .packetsize) (length (g .packet)) (length (g .one)) (length (g .two))) (pollRule d io g) (refusing d io g 11))

@@ -2,9 +2,7 @@
 use crate::Turn;
 use crate::open::Opened;
 use answers::Answer;
-use answers::Outcome;
 use answers::endpoint_of;
-use answers::plain;
 use buffer::Marks;
 use device::Numbers;
 use device::Status;
@@ -23,15 +21,15 @@ ghost use lib.ListN.{length};
 ghost use Rattle.buffer.specs.Buffer.{Sound, Leaves, buffer};
 ghost use Rattle.answers.specs.Answers.{endpointOf};
 ghost use Rattle.packets.specs.Packets.{Reads};
-ghost use Rattle.bbb.specs.Poll.{given, Fits, fallsShort, offers, offeredBy, statusPut};
-ghost use Rattle.bbb.specs.Phases.{openOf, doneOf, Acts, restDid, emptiedMarks, oneMore, took, refuses, readied, leftThen, sentBy, sentPacket, acted, actedPacket};
+ghost use Rattle.bbb.specs.Poll.{given, leftThen, Fits, fallsShort, offers, offeredBy, statusPut};
+ghost use Rattle.bbb.specs.Phases.{openOf, doneOf, Acts, restDid, emptiedMarks, oneMore, took, refuses, readied, sentBy, sentPacket, acted, actedPacket};
 
 // What an act did.
 pub struct Did {
     pub marks: Marks,
     pub left: Left,
     pub sent: usize,
-    pub outcome: Outcome,
+    pub answer: Answer,
     pub taken: u8,
     pub stalled: bool,
 }
@@ -42,12 +40,12 @@ fn rest(o: Opened, stalled: bool) -> Did
 {
     let marks = o.marks;
     let left = o.left;
-    let outcome = o.outcome;
+    let answer = o.answer;
     Did {
         marks: marks,
         left: left,
         sent: 0,
-        outcome: outcome,
+        answer: answer,
         taken: o.taken,
         stalled: stalled,
     }
@@ -100,13 +98,13 @@ fn take(b: Before, p: usize, o: Opened, io: &mut [u8], one: &[u8], two: &[u8], t
     let m = emptied(b, marks);
     let r = read_offered(o.taken, p, m, io, one, two, turn);
     let after = r.marks;
-    let outcome = r.outcome;
+    let answer = r.answer;
     let falls = left_after(left, r.count);
     Did {
         marks: after,
         left: falls,
         sent: 0,
-        outcome: outcome,
+        answer: answer,
         taken: one_more(o.taken, r.taken),
         stalled: false,
     }
@@ -147,13 +145,14 @@ fn put_status(io: &mut [u8], m: Marks, tag: u32, status: Status) -> Marks
 // What is ready to be sent.
 fn ready(b: Before, m: Marks, left: Left, n: Numbers, io: &mut [u8]) -> Marks
     requires { ⌜ Sound (buffer (now io) m) ⌝ }
-    ensures { λ r. ⌜ Leaves (buffer (now (io .exit)) r) (readied b (n .packetsize) (buffer (now (io .entry)) m) left n) ⌝ }
+    ensures { λ r. ⌜ Leaves (buffer (now (io .exit)) r) (readied b (n .fixed .packetsize) (buffer (now (io .entry)) m) left n) ⌝ }
 {
+    let fixed = n.fixed;
     let status = n.status;
     match b {
         Before::Nothing => m,
         Before::Whole => m,
-        Before::Fill => fill(io, m, n.packetsize, left),
+        Before::Fill => fill(io, m, fixed.packetsize, left),
         Before::Status => put_status(io, m, n.tag, status),
         Before::Empty => m,
     }
@@ -177,31 +176,32 @@ fn send(
     packet: &mut [u8],
     write: u8,
 ) -> Did
-    requires { ⌜ Sound (buffer (now io) (o .marks)) × (n .packetsize ≤ length (now packet)) ⌝ }
+    requires { ⌜ Sound (buffer (now io) (o .marks)) × (n .fixed .packetsize ≤ length (now packet)) ⌝ }
     ensures { λ r. ⌜ Acts (sentBy b counts n (openOf o) (now (io .entry)) (endpointOf write)) (sentPacket b n (openOf o) (now (io .entry)) (endpointOf write) (now (packet .entry))) r (now (io .exit)) (now (packet .exit)) ⌝ }
 {
+    let fixed = n.fixed;
     let marks = o.marks;
     let left = o.left;
-    if refused(b, n.packetsize, left, marks.write - marks.read) {
+    if refused(b, fixed.packetsize, left, marks.write - marks.read) {
         return Did {
             marks: marks,
             left: left,
             sent: 0,
-            outcome: plain(Answer::FullPacketExpected),
+            answer: Answer::FullPacketExpected,
             taken: o.taken,
             stalled: false,
         };
     }
     let m = ready(b, marks, left, n, io);
-    let s = send_packet(io, m, n.packetsize, endpoint_of(write), packet);
+    let s = send_packet(io, m, fixed.packetsize, endpoint_of(write), packet);
     let after = s.marks;
-    let outcome = s.outcome;
+    let answer = s.answer;
     let falls = left_then(counts, left, s.count);
     Did {
         marks: after,
         left: falls,
         sent: s.count,
-        outcome: outcome,
+        answer: answer,
         taken: o.taken,
         stalled: false,
     }
@@ -218,15 +218,16 @@ pub fn act(
     two: &[u8],
     turn: Turn,
 ) -> Did
-    requires { ⌜ Sound (buffer (now io) (o .marks)) × (o .taken ≤ 1) × Fits (n .packetsize) (now packet) (now one) (now two) ⌝ }
+    requires { ⌜ Sound (buffer (now io) (o .marks)) × (o .taken ≤ 1) × Fits (n .fixed .packetsize) (now packet) (now one) (now two) ⌝ }
     ensures { λ r. ⌜ Acts (acted row n (openOf o) (now (io .entry)) (given (now (packet .entry)) (now (one .entry)) (now (two .entry)) turn)) (actedPacket row n (openOf o) (now (io .entry)) (given (now (packet .entry)) (now (one .entry)) (now (two .entry)) turn)) r (now (io .exit)) (now (packet .exit)) ⌝ }
 {
+    let fixed = n.fixed;
     let kind = row.1;
     let b = row.2;
     match kind {
         Kind::Rest => rest(o, false),
         Kind::Stall => rest(o, true),
-        Kind::Read => take(b, n.packetsize, o, io, one, two, turn),
+        Kind::Read => take(b, fixed.packetsize, o, io, one, two, turn),
         Kind::Send => send(b, row.3, n, o, io, packet, turn.write),
     }
 }

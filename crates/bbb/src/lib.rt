@@ -11,15 +11,14 @@ use crate::act::act;
 use crate::open::Opened;
 use crate::open::open;
 use answers::Answer;
-use answers::Outcome;
 use answers::Stalls;
-use answers::plain;
 use buffer::Marks;
 use device::Device;
 use device::Numbers;
 use device::Status;
 use device::numbers_of;
 use device::present;
+use device::rebuilt;
 use device::whole;
 use ring::Found;
 use ring::State;
@@ -44,7 +43,7 @@ pub struct Turn {
 
 // What a poll reports: its answer, OUT packets taken, bytes sent, what was asked of the endpoints.
 pub struct Report {
-    pub outcome: Outcome,
+    pub answer: Answer,
     pub taken: u8,
     pub sent: usize,
     pub stalls: Stalls,
@@ -85,7 +84,7 @@ pub fn go_on(
     two: &[u8],
     turn: Turn,
 ) -> Change
-    requires { ⌜ (n .marks .read ≤ n .marks .write) × Sound (buffer (now io) (o .marks)) × (o .taken ≤ 1) × Fits (n .packetsize) (now packet) (now one) (now two) ⌝ }
+    requires { ⌜ (n .marks .read ≤ n .marks .write) × Sound (buffer (now io) (o .marks)) × (o .taken ≤ 1) × Fits (n .fixed .packetsize) (now packet) (now one) (now two) ⌝ }
     ensures { λ r. ⌜ endedOf r (now (io .exit)) (now (packet .exit)) ≡ goneOn n (openOf o) (now (io .entry)) (given (now (packet .entry)) (now (one .entry)) (now (two .entry)) turn) ⌝ }
 {
     let state = n.state;
@@ -108,14 +107,14 @@ pub fn go_on(
     let reached = row.0;
     let after = did.marks;
     let falls = did.left;
-    let outcome = did.outcome;
+    let answer = did.answer;
     Change {
         state: reached,
         marks: after,
         left: falls,
         cleared: o.cleared,
         report: Report {
-            outcome: outcome,
+            answer: answer,
             taken: did.taken,
             sent: did.sent,
             stalls: answers::asked(o.cleared, did.stalled),
@@ -168,16 +167,7 @@ fn changed(d: Device, c: Change, w: Wrapper) -> Device
     let left = c.left;
     let was = d.status;
     let status = status_then(c.cleared, was);
-    Device {
-        packetsize: d.packetsize,
-        maxlun: d.maxlun,
-        size: d.size,
-        state: state,
-        marks: marks,
-        wrapper: w,
-        status: status,
-        left: left,
-    }
+    rebuilt(d, state, marks, w, status, left)
 }
 
 fn refused(device: Device, answer: Answer) -> Polled
@@ -186,7 +176,7 @@ fn refused(device: Device, answer: Answer) -> Polled
     Polled {
         device: device,
         report: Report {
-            outcome: plain(answer),
+            answer: answer,
             taken: 0,
             sent: 0,
             stalls: Stalls::Kept,
@@ -207,7 +197,7 @@ pub fn poll(
 {
     let n = numbers_of(device);
     if whole(n, io.len()) {
-        if fits(n.packetsize, packet.len(), one.len(), two.len()) {
+        if fits(n.fixed.packetsize, packet.len(), one.len(), two.len()) {
             let old = device.wrapper;
             let o = open(n, io, one, turn.first);
             let w = wrapper_then(o, old, io);

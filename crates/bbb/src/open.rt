@@ -1,8 +1,6 @@
 // Opening a poll: where the chain of handlers reaches the wrapper, a packet is read and 31 unread bytes are looked at.
 use answers::Answer;
-use answers::Outcome;
 use answers::endpoint_of;
-use answers::plain;
 use buffer::Marks;
 use device::Numbers;
 use packets::read_packet;
@@ -26,7 +24,7 @@ pub struct Opened {
     pub marks: Marks,
     pub left: Left,
     pub direction: DataDirection,
-    pub outcome: Outcome,
+    pub answer: Answer,
     pub taken: u8,
     pub cleared: bool,
 }
@@ -50,7 +48,7 @@ fn parse(m: Marks, left: Left, cleared: bool, io: &[u8]) -> Opened
             marks: marks,
             left: Left(h.length),
             direction: direction,
-            outcome: plain(Answer::Done),
+            answer: Answer::Done,
             taken: 1,
             cleared: cleared,
         };
@@ -60,7 +58,7 @@ fn parse(m: Marks, left: Left, cleared: bool, io: &[u8]) -> Opened
         marks: marks,
         left: left,
         direction: DataDirection::NotExpected,
-        outcome: plain(Answer::Done),
+        answer: Answer::Done,
         taken: 1,
         cleared: cleared,
     }
@@ -96,7 +94,7 @@ fn read_wrapper(
 {
     let r = read_packet(io, m, p, endpoint_of(first), one);
     let marks = r.marks;
-    let outcome = r.outcome;
+    let answer = r.answer;
     if ripe(r.taken, marks.write - marks.read) {
         return parse(marks, left, cleared, io);
     }
@@ -105,7 +103,7 @@ fn read_wrapper(
         marks: marks,
         left: left,
         direction: DataDirection::NotExpected,
-        outcome: outcome,
+        answer: answer,
         taken: count(r.taken),
         cleared: cleared,
     }
@@ -136,9 +134,10 @@ fn left_when(cleared: bool, left: Left) -> Left
 
 // Where a valid wrapper was found, its 31 bytes stand in front of the read mark. Acting may move or overwrite them: whoever wants them takes them before.
 pub fn open(n: Numbers, io: &mut [u8], one: &[u8], first: u8) -> Opened
-    requires { ⌜ Whole n (length (now io)) × (length (now one) ≤ n .packetsize) ⌝ }
+    requires { ⌜ Whole n (length (now io)) × (length (now one) ≤ n .fixed .packetsize) ⌝ }
     ensures { λ r. ⌜ Opens (opened n (now (io .entry)) (now (one .entry)) (endpointOf first)) (openedIo n (now (io .entry)) (now (one .entry)) (endpointOf first)) r (now (io .exit)) ⌝ }
 {
+    let fixed = n.fixed;
     let state = n.state;
     let marks = n.marks;
     let left = n.left;
@@ -146,14 +145,14 @@ pub fn open(n: Numbers, io: &mut [u8], one: &[u8], first: u8) -> Opened
     if reaches(s, marks.write - marks.read == 0) {
         let cleared = s == 3;
         let l = left_when(cleared, left);
-        return read_wrapper(n.packetsize, marks, l, cleared, io, one, first);
+        return read_wrapper(fixed.packetsize, marks, l, cleared, io, one, first);
     }
     Opened {
         found: Found::Nothing,
         marks: marks,
         left: left,
         direction: DataDirection::NotExpected,
-        outcome: plain(Answer::Done),
+        answer: Answer::Done,
         taken: 0,
         cleared: false,
     }

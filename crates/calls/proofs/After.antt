@@ -36,7 +36,7 @@ use Rattle.device.specs.declared.Device.{Device}
 use Rattle.device.specs.Device.{numbersOf, isPresent, withMarks, withStatus, entering0}
 use Rattle.device.specs.Broken.{statusFits, Whole}
 use Rattle.device.proofs.Wholly.{whole-is, whole-sound}
-use Rattle.calls.specs.declared.Figure.{Figure}
+use Rattle.calls.specs.declared.FirmwareStatus.{FirmwareStatus}
 use Rattle.calls.specs.declared.Request.{Request}
 use Rattle.calls.specs.Checks.{isBroken, unlessBroken, isIn, bufferOf}
 use Rattle.calls.specs.Status.{Stating, stating, takesStatus, statusOf, withFigure, acceptedStatus, setStatusCall}
@@ -94,8 +94,8 @@ fits-present DataTransferToHostEnding h = refl
 fits-present DataTransferFromHost h = refl
 fits-present DataTransferFromHostEnding h = refl
 
-module _ (d : Device) (io : List ℕ) (f : Figure) where
-  pub by-status : (P : Stating → Type 0) → P (stating 10 d) → P (stating 12 d) → (takesStatus (stateNumber (d .state)) ≡ true → f .status ≤ 2 → P (stating 0 (withFigure f d))) → P (setStatusCall d io f)
+module _ (d : Device) (io : List ℕ) (f : FirmwareStatus) where
+  pub by-status : (P : Stating → Type 0) → P (stating (answer 10) d) → P (stating (answer 12) d) → (takesStatus (stateNumber (d .state)) ≡ true → f .status ≤ 2 → P (stating (answer 0) (withFigure f d))) → P (setStatusCall d io f)
   unfolding setStatusCall acceptedStatus
   by-status P broken refused done =
       either P d io broken
@@ -112,18 +112,18 @@ module _ (d : Device) (io : List ℕ) (f : Figure) where
       by-status (λ (o : Stating). Whole (numbersOf (o .device)) (length io)) w w
       (λ t _. record { lent = w .lent; created = w .created; order = w .order; within = w .within; block = w .block; lun = w .lun; status = fits-present (d .state) t })
 
-  pub status-done : Whole (numbersOf d) (length io) → takesStatus (stateNumber (d .state)) ≡ true → f .status ≤ 2 → setStatusCall d io f ≡ stating 0 (withFigure f d)
+  pub status-done : Whole (numbersOf d) (length io) → takesStatus (stateNumber (d .state)) ≡ true → f .status ≤ 2 → setStatusCall d io f ≡ stating (answer 0) (withFigure f d)
   unfolding setStatusCall acceptedStatus
   status-done w t h = passes d io w _ _ ∙ rw (t, le-leb _ _ h)
 
 -- what an accepted status leaves: the record with it, and a byte of 0, 1 or 2
-pub record Accepted (d : Device) (f : Figure) (o : Stating) : Type 0 where
+pub record Accepted (d : Device) (f : FirmwareStatus) (o : Stating) : Type 0 where
   pub device : o .device ≡ withFigure f d
   pub byte : f .status ≤ 2
 
-pub status-accepted : (d : Device) (io : List ℕ) (f : Figure) → eqb (setStatusCall d io f .number) 0 ≡ true → Accepted d f (setStatusCall d io f)
+pub status-accepted : (d : Device) (io : List ℕ) (f : FirmwareStatus) → eqb (setStatusCall d io f .answer) 0 ≡ true → Accepted d f (setStatusCall d io f)
 status-accepted d io f =
-    by-status d io f (λ (o : Stating). eqb (o .number) 0 ≡ true → Accepted d f o) (λ h. absurd (clash (sym h))) (λ h. absurd (clash (sym h)))
+    by-status d io f (λ (o : Stating). eqb (o .answer) 0 ≡ true → Accepted d f o) (λ h. absurd (clash (sym h))) (λ h. absurd (clash (sym h)))
     (λ _ byte _. record { device = refl; byte = byte })
 
 -- which is the byte of the status that it stands for
@@ -134,7 +134,7 @@ status-byte b h =
     (λ e. cases (eqb b 1) (λ k. rw (e, k) (sym (eqb-true b 1 k))) (λ k. rw (e, k) (omega (arith, eqb-false b 0 e, eqb-false b 1 k))))
 
 -- "a later one replaces the earlier"
-pub status-later : (d : Device) (f g : Figure) → withFigure f (withFigure g d) ≡ withFigure f d
+pub status-later : (d : Device) (f g : FirmwareStatus) → withFigure f (withFigure g d) ≡ withFigure f d
 unfolding withFigure
 status-later d f g = refl
 
@@ -151,7 +151,7 @@ module _ (state : ℕ) (d : Device) (io bytes : List ℕ) (done : Moving) (w : W
   data-done h = passes d io w _ _ ∙ rw h
 
   -- 3, and all as before
-  pub data-elsewhere : isIn state d ≡ false → worksIn state d io bytes done ≡ moving 3 0 d bytes
+  pub data-elsewhere : isIn state d ≡ false → worksIn state d io bytes done ≡ moving (answer 3) 0 d bytes
   unfolding worksIn
   data-elsewhere h = passes d io w _ _ ∙ rw h
 
@@ -197,7 +197,7 @@ write-all-within d io src =
 
 -- the number and the count of all or nothing
 all-told : (b : Bool) (n : ℕ) (d : Device) (t : Buffer)
-    → (cond b (leaving 1 0 d t) (leaving 0 n d t) .number ≡ cond b 1 0) × (cond b (leaving 1 0 d t) (leaving 0 n d t) .count ≡ cond b 0 n)
+    → (cond b (leaving (answer 1) 0 d t) (leaving (answer 0) n d t) .answer ≡ cond b 1 0) × (cond b (leaving (answer 1) 0 d t) (leaving (answer 0) n d t) .count ≡ cond b 0 n)
 all-told true n d t = (refl, refl)
 all-told false n d t = (refl, refl)
 
@@ -276,11 +276,11 @@ module _ (d : Device) (io : List ℕ) (w : Whole (numbersOf d) (length io)) wher
           (unread-written ys (bufferOf d io) (sound d io w))
 
       -- all of the source, or none: 0 and its length, or 1 and 0
-      pub write-all-told : (writeAllCall d io src .number ≡ cond (lacksRoom (length src) (bufferOf d io)) 1 0) × (writeAllCall d io src .count ≡ cond (lacksRoom (length src) (bufferOf d io)) 0 (length src))
+      pub write-all-told : (writeAllCall d io src .answer ≡ cond (lacksRoom (length src) (bufferOf d io)) 1 0) × (writeAllCall d io src .count ≡ cond (lacksRoom (length src) (bufferOf d io)) 0 (length src))
       unfolding writeAllIn
       write-all-told =
           let t : Buffer = writtenAll 0 src (bufferOf d io) in
-          subst (λ (o : Moving). (o .number ≡ cond (lacksRoom (length src) (bufferOf d io)) 1 0) × (o .count ≡ cond (lacksRoom (length src) (bufferOf d io)) 0 (length src)))
+          subst (λ (o : Moving). (o .answer ≡ cond (lacksRoom (length src) (bufferOf d io)) 1 0) × (o .count ≡ cond (lacksRoom (length src) (bufferOf d io)) 0 (length src)))
           (sym (data-done 4 d io io _ w h)) (all-told (lacksRoom (length src) (bufferOf d io)) (length src) d t)
 
       pub write-all-unread : unreadBytes (bufferOf (writeAllCall d io src .device) (writeAllCall d io src .bytes))
@@ -288,7 +288,7 @@ module _ (d : Device) (io : List ℕ) (w : Whole (numbersOf d) (length io)) wher
       unfolding writeAllIn
       write-all-unread =
           let P : Moving → Type 0 = λ (o : Moving). unreadBytes (bufferOf (o .device) (o .bytes)) ≡ cond (lacksRoom (length src) (bufferOf d io)) (unreadBytes (bufferOf d io)) (unreadBytes (bufferOf d io) ++ src) in
-          let e : P (leaving 0 0 d (writtenAll 0 src (bufferOf d io))) = rw (max-eq-right zero-le) at (unread-writtenAll 0 src (bufferOf d io) (sound d io w)) in
+          let e : P (leaving (answer 0) 0 d (writtenAll 0 src (bufferOf d io))) = rw (max-eq-right zero-le) at (unread-writtenAll 0 src (bufferOf d io) (sound d io w)) in
           subst P (sym (data-done 4 d io io _ w h)) (of-picked P (lacksRoom (length src) (bufferOf d io)) (λ _. e) (λ _. e))
 
 -- ---- the bus
@@ -313,7 +313,7 @@ module _ (d : Device) (io : List ℕ) where
     by-request P p e =
         either P d io (p 10 [])
         (of-picked P (eqb (q .requesttype) 0xA1)
-        (λ counts. of-picked P (eqb (q .request) 0xFF) (e counts) (λ _. of-picked P (eqb (q .request) 0xFE) (λ _. p 0 (d .maxlun ∷ [])) (λ _. p 0 [])))
+        (λ counts. of-picked P (eqb (q .request) 0xFF) (e counts) (λ _. of-picked P (eqb (q .request) 0xFE) (λ _. p 0 (d .fixed .maxlun ∷ [])) (λ _. p 0 [])))
         (λ _. p 0 []))
 
     pub control-keeps : bufferOf (controlCall d io q .device) io ≡ bufferOf d io
@@ -325,7 +325,7 @@ module _ (d : Device) (io : List ℕ) where
     control-whole w = by-request (λ (o : Handling). Whole (numbersOf (o .device)) (length io)) (λ _ _. w) (λ _ _. whole-entered d io w)
 
     -- a request that does not count changes nothing
-    pub control-else : Whole (numbersOf d) (length io) → (q .requesttype ≡ 0xA1 → ⊥) → controlCall d io q ≡ handling 0 Kept [] d
+    pub control-else : Whole (numbersOf d) (length io) → (q .requesttype ≡ 0xA1 → ⊥) → controlCall d io q ≡ handling (answer 0) Kept [] d
     unfolding controlCall
     control-else w n = passes d io w _ _ ∙ rw (ne-eqb _ _ n)
 
@@ -346,6 +346,6 @@ module _ (d : Device) (io : List ℕ) (w : Whole (numbersOf d) (length io)) wher
   step-done h = passes d io w _ _ ∙ rw h
 
   -- 13: "decoding an empty block"
-  pub step-empty : isOffered d ≡ true → d .wrapper .blocklength ≡ 0 → stepCall d io ≡ stepping 13 []
+  pub step-empty : isOffered d ≡ true → d .wrapper .blocklength ≡ 0 → stepCall d io ≡ stepping (answer 13) []
   unfolding blockOf offering plainCall decodeCall
   step-empty h e = step-done h ∙ rw e

@@ -34,7 +34,7 @@ use Rattle.device.specs.declared.Status.the-variants.{Present}
 use Rattle.device.specs.Device.{numbersOf, isPresent, withStatus}
 use Rattle.device.specs.Broken.{Whole, isWhole}
 use Rattle.device.proofs.Wholly.{is-whole, whole-sound}
-use Rattle.calls.specs.declared.Figure.{Figure}
+use Rattle.calls.specs.declared.FirmwareStatus.{FirmwareStatus}
 use Rattle.calls.specs.declared.Stated.{Stated}
 use Rattle.calls.specs.declared.Moved.{Moved}
 use Rattle.calls.specs.declared.Request.{Request}
@@ -104,20 +104,20 @@ status-again Passed = refl
 status-again Failed = refl
 status-again PhaseError = refl
 
-module _ (d : Device) (f : Figure) {s : StatusByte} (h : csw.told s ≡ csw.statusCall (f .status)) where
+module _ (d : Device) (f : FirmwareStatus) {s : StatusByte} (h : csw.told s ≡ csw.statusCall (f .status)) where
   pub figure-refused : s ≡ Refused → {r : Stated} → r ≡ refuses d StatusRefused → statedOf r ≡ acceptedStatus d f
   unfolding acceptedStatus
   figure-refused k e = rw (e, lt-leb _ _ (status-above (f .status) (sym (ap csw.told k) ∙ h)))
 
-  pub figure-taken : {c : CommandStatus} → s ≡ Known c → {r : Residue} → r ≡ residueOf (d .wrapper .length) (f .processed)
-      → {e : Device} → e ≡ withStatus (Present c r) d → stating 0 e ≡ acceptedStatus d f
+  pub figure-taken : {c : CommandStatus} → s ≡ Known c → {r : Residue} → r ≡ residueOf (d .wrapper .length) (f .figure)
+      → {e : Device} → e ≡ withStatus (Present c r) d → stating (answer 0) e ≡ acceptedStatus d f
   unfolding acceptedStatus withFigure
   figure-taken {c} k {r} hr he =
       let known = status-accepted (f .status) c (sym (ap csw.told k) ∙ h) in
       let same : c ≡ statusOf (f .status) = status-again c ∙ ap statusOf (known .1) in
       rw (le-leb _ _ (known .0), he, hr, same)
 
-module _ (d : Device) (io : List ℕ) (f : Figure) {b : Bool} (h : b ≡ isBroken d (length io)) where
+module _ (d : Device) (io : List ℕ) (f : FirmwareStatus) {b : Bool} (h : b ≡ isBroken d (length io)) where
   pub status-broken : b ≡ true → {r : Stated} → r ≡ refuses d BrokenRecord → statedOf r ≡ setStatusCall d io f
   unfolding setStatusCall
   status-broken q e = rw e (stops d io h _ _ q)
@@ -223,7 +223,7 @@ module _ (q : ℕ) (d : Device) {r : Handled} where
   unfolding served entering
   serves-FF a e = rw (e, eq-eqb _ _ a)
 
-  pub serves-FE : (q ≡ 0xFF → ⊥) → q ≡ 0xFE → r ≡ keeps d Done (MaxLun (d .maxlun)) → handledOf r ≡ served q d
+  pub serves-FE : (q ≡ 0xFF → ⊥) → q ≡ 0xFE → r ≡ keeps d Done (MaxLun (d .fixed .maxlun)) → handledOf r ≡ served q d
   unfolding served
   serves-FE n a e = rw (e, ne-eqb _ _ n, eq-eqb _ _ a)
 
@@ -275,7 +275,7 @@ module _ (lun : ℕ) (block : List ℕ) {c : Decoded} (h : told c ≡ plainCall 
   unfolding offering
   decodes-none k e = rw (← h, k, e)
 
-  pub decodes : {x : ScsiCommand} → c ≡ scsi.Command x → stepping 0 (offered lun x ∷ []) ≡ offering lun (plainCall block)
+  pub decodes : {x : ScsiCommand} → c ≡ scsi.Command x → stepping (answer 0) (offered lun x ∷ []) ≡ offering lun (plainCall block)
   unfolding offering
   decodes k = rw (← h, k)
 

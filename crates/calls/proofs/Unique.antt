@@ -5,7 +5,7 @@ use mathlib.Core.List.{List, [], _∷_}
 use Prim.Native.Nat.{ℕ}
 use denote.Ref.{now}
 use Rattle.fields.proofs.Only.{Only, once}
-use Rattle.answers.proofs.Unique.{named, named-number}
+use Rattle.answers.proofs.Unique.{named, named-answer}
 use Rattle.calls.specs.declared.Stated.{Stated}
 use Rattle.calls.specs.declared.Moved.{Moved}
 use Rattle.calls.specs.declared.Reply.{Reply}
@@ -40,17 +40,17 @@ use Rattle.calls.proofs.command.command_step.Reads as command-step
 
 -- a status
 abbrev unstated : Stating → Stated
-unstated o = record { device = o .device; answer = named (o .number) }
+unstated o = record { device = o .device; answer = named (o .answer) }
 
 unstated-stated : (x : Stated) → unstated (statedOf x) ≡ x
-unstated-stated x = rw (named-number (x .answer))
+unstated-stated x = rw (named-answer (x .answer))
 
 -- data, beside the bytes
 abbrev unmoved : Moving → Moved
-unmoved o = record { device = o .device; report = record { answer = named (o .number); count = o .count } }
+unmoved o = record { device = o .device; report = record { answer = named (o .answer); count = o .count } }
 
 unmoved-moved : (x : Moved) (b : List ℕ) → unmoved (movedOf x b) ≡ x
-unmoved-moved x b = rw (named-number (x .report .answer))
+unmoved-moved x b = rw (named-answer (x .report .answer))
 
 moved-once : (x y : Moved) (b c : List ℕ) {o : Moving} → movedOf x b ≡ o → movedOf y c ≡ o → (x ≡ y) × (b ≡ c)
 moved-once x y b c p q =
@@ -68,17 +68,17 @@ unreplied-replied reply.Nothing = refl
 unreplied-replied (reply.MaxLun n) = refl
 
 abbrev unhandled : Handling → Handled
-unhandled o = record { device = o .device; report = record { answer = named (o .number); stalls = o .stalls; reply = unreplied (o .bytes) } }
+unhandled o = record { device = o .device; report = record { answer = named (o .answer); stalls = o .stalls; reply = unreplied (o .bytes) } }
 
 unhandled-handled : (x : Handled) → unhandled (handledOf x) ≡ x
-unhandled-handled x = rw (named-number (x .report .answer), unreplied-replied (x .report .reply))
+unhandled-handled x = rw (named-answer (x .report .answer), unreplied-replied (x .report .reply))
 
 -- a command shown
 abbrev unshown : Showing → Shown
-unshown o = record { answer = named (o .number); shown = o .shown; lun = o .lun; blocklength = o .blocklength; block = o .block }
+unshown o = record { answer = named (o .answer); shown = o .shown; lun = o .lun; blocklength = o .blocklength; block = o .block }
 
 unshown-shown : (x : Shown) → unshown (shownOf x) ≡ x
-unshown-shown x = rw (named-number (x .answer))
+unshown-shown x = rw (named-answer (x .answer))
 
 -- a step: what is offered tells the offer
 unoffered : List Offered → Offer
@@ -91,10 +91,10 @@ unoffered-offered offer.Nothing = refl
 unoffered-offered (offer.Command lun c) = refl
 
 abbrev unstepped : Stepping → Step
-unstepped o = record { answer = named (o .number); offer = unoffered (o .offers) }
+unstepped o = record { answer = named (o .answer); offer = unoffered (o .offers) }
 
 unstepped-stepped : (x : Step) → unstepped (steppedOf x) ≡ x
-unstepped-stepped x = rw (named-number (x .answer), unoffered-offered (x .offer))
+unstepped-stepped x = rw (named-answer (x .answer), unoffered-offered (x .offer))
 
 -- ---- the calls
 

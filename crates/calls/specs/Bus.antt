@@ -7,32 +7,32 @@ use Rattle.answers.specs.declared.Answer.{Answer}
 use Rattle.answers.specs.declared.Answer.the-variants.{Done}
 use Rattle.answers.specs.declared.Stalls.{Stalls}
 use Rattle.answers.specs.declared.Stalls.the-variants.{Kept, Unstalled}
-use Rattle.answers.specs.Answers.{number}
+use Rattle.answers.specs.Answers.{Answering, answer, answerOf}
 use Rattle.device.specs.declared.Device.{Device}
 use Rattle.device.specs.Device.{entering0}
+use Rattle.device.specs.Broken.{unlessBroken}
 use Rattle.calls.specs.declared.Reply.{Reply}
 use Rattle.calls.specs.declared.Reply.the-variants.{Nothing, MaxLun}
 use Rattle.calls.specs.declared.Request.{Request}
 use Rattle.calls.specs.declared.Handled.{Handled}
-use Rattle.calls.specs.Checks.{unlessBroken}
 
 -- the bytes that go back to the host
 abbrev pub replied : Reply → List ℕ
 replied Nothing = []
 replied (MaxLun n) = n ∷ []
 
--- 01's number, what is asked of both endpoints, the bytes that go back, and the record
+-- the answer, what is asked of both endpoints, the bytes that go back, and the record
 pub record Handling : Type 0 where
-  pub number : ℕ
+  pub answer : Answering
   pub stalls : Stalls
   pub bytes : List ℕ
   pub device : Device
 
-abbrev pub handling : ℕ → Stalls → List ℕ → Device → Handling
-handling number stalls bytes d = record { number = number; stalls = stalls; bytes = bytes; device = d }
+abbrev pub handling : Answering → Stalls → List ℕ → Device → Handling
+handling a stalls bytes d = record { answer = a; stalls = stalls; bytes = bytes; device = d }
 
 abbrev pub handledOf : Handled → Handling
-handledOf r = handling (number (r .report .answer)) (r .report .stalls) (replied (r .report .reply)) (r .device)
+handledOf r = handling (answerOf (r .report .answer)) (r .report .stalls) (replied (r .report .reply)) (r .device)
 
 -- what a call returns that changes nothing, and one that enters 0
 abbrev pub keeps : Device → Answer → Reply → Handled
@@ -43,20 +43,20 @@ enters0 d = record { device = entering0 d; report = record { answer = Done; stal
 
 -- "Entering 0 clears status and left and unstalls both"
 unfoldable pub entering : Device → Handling
-entering d = handling 0 Unstalled [] (entering0 d)
+entering d = handling (answer 0) Unstalled [] (entering0 d)
 
 -- "Reset enters 0."
 unfoldable pub resetCall : Device → List ℕ → Handling
-resetCall d io = unlessBroken d io (handling 10 Kept [] d) (entering d)
+resetCall d io = unlessBroken d io (handling (answer 10) Kept [] d) (entering d)
 
 -- "0xFF enters 0, 0xFE answers max LUN"
 unfoldable pub served : ℕ → Device → Handling
 served request d =
     cond (eqb request 0xFF) (entering d)
-    (cond (eqb request 0xFE) (handling 0 Kept (d .maxlun ∷ []) d) (handling 0 Kept [] d))
+    (cond (eqb request 0xFE) (handling (answer 0) Kept (d .fixed .maxlun ∷ []) d) (handling (answer 0) Kept [] d))
 
 -- "A control request counts only if device to host, class and interface (bmRequestType A1)"
 unfoldable pub controlCall : Device → List ℕ → Request → Handling
 controlCall d io q =
-    unlessBroken d io (handling 10 Kept [] d)
-    (cond (eqb (q .requesttype) 0xA1) (served (q .request) d) (handling 0 Kept [] d))
+    unlessBroken d io (handling (answer 10) Kept [] d)
+    (cond (eqb (q .requesttype) 0xA1) (served (q .request) d) (handling (answer 0) Kept [] d))

@@ -14,7 +14,7 @@ use Rattle.ring.specs.declared.State.the-variants.{CommandTransfer, CommandTran
 use Rattle.device.specs.declared.Device.{Device}
 use Rattle.device.specs.declared.Status.the-variants.{Absent, Present}
 use Rattle.device.specs.Device.{withStatus}
-use Rattle.calls.specs.declared.Figure.{Figure}
+use Rattle.calls.specs.declared.FirmwareStatus.{FirmwareStatus}
 use Rattle.calls.specs.declared.Request.{Request}
 use Rattle.calls.specs.Status.{setStatusCall}
 use Rattle.calls.specs.Data.{readCall, writeCall, writeAllCall}
@@ -38,8 +38,8 @@ device state blocklength = record {
 abbrev io : List ℕ
 io = 1 ∷ 2 ∷ 3 ∷ 4 ∷ replicate 28 5
 
-abbrev figure : ℕ → ℕ → Figure
-figure status processed = record { status = status; processed = processed }
+abbrev figure : ℕ → ℕ → FirmwareStatus
+figure status bytes = record { status = status; figure = bytes }
 
 abbrev request : ℕ → ℕ → Request
 request type number = record { requesttype = type; request = number }
@@ -50,19 +50,19 @@ table =
     case (setStatusCall (device DataTransferToHost 5) io (figure 2 500) .device .status) (Present PhaseError (record { 0 = 12 }))
     ∷ case (setStatusCall (device DataTransferToHost 5) io (figure 2 600) .device .status) (Present PhaseError (record { 0 = 0 }))
     -- 2 takes one too, though no poll ends there
-    ∷ case (setStatusCall (device DataTransferNoData 5) io (figure 0 512) .number) 0
+    ∷ case (setStatusCall (device DataTransferNoData 5) io (figure 0 512) .answer) (answer 0)
     -- a status byte above 2; a state that takes none; both leave all as it was
-    ∷ case (setStatusCall (device DataTransferToHost 5) io (figure 3 500)) (record { number = 12; device = device DataTransferToHost 5 })
-    ∷ case (setStatusCall (device CommandTransferInvalid 5) io (figure 0 500)) (record { number = 12; device = device CommandTransferInvalid 5 })
+    ∷ case (setStatusCall (device DataTransferToHost 5) io (figure 3 500)) (record { answer = answer 12; device = device DataTransferToHost 5 })
+    ∷ case (setStatusCall (device CommandTransferInvalid 5) io (figure 0 500)) (record { answer = answer 12; device = device CommandTransferInvalid 5 })
     -- 10 comes first: the lent buffer is a byte short
-    ∷ case (setStatusCall (device DataTransferToHost 5) (replicate 31 5) (figure 3 500) .number) 10
+    ∷ case (setStatusCall (device DataTransferToHost 5) (replicate 31 5) (figure 3 500) .answer) (answer 10)
     -- three are unread: two go to a destination of two, three to one of five
     ∷ case (readCall (device DataTransferFromHost 5) io (8 ∷ 8 ∷ []) .count) 2
     ∷ case (readCall (device DataTransferFromHost 5) io (8 ∷ 8 ∷ []) .bytes) (2 ∷ 3 ∷ [])
     ∷ case (readCall (device DataTransferFromHost 5) io (replicate 5 8) .count) 3
     ∷ case (readCall (device DataTransferFromHost 5) io (replicate 5 8) .bytes) (2 ∷ 3 ∷ 4 ∷ 8 ∷ 8 ∷ [])
     ∷ case (readCall (device DataTransferFromHost 5) io (replicate 5 8) .device .marks) (at 4 4)
-    ∷ case (readCall (device DataTransferToHost 5) io (8 ∷ 8 ∷ [])) (record { number = 3; count = 0; device = device DataTransferToHost 5; bytes = 8 ∷ 8 ∷ [] })
+    ∷ case (readCall (device DataTransferToHost 5) io (8 ∷ 8 ∷ [])) (record { answer = answer 3; count = 0; device = device DataTransferToHost 5; bytes = 8 ∷ 8 ∷ [] })
     -- two are left: of a source of three `write_data` takes two, `try_write_data_all` three
     ∷ case (writeCall (device DataTransferToHost 5) io (6 ∷ 7 ∷ 8 ∷ []) .count) 2
     ∷ case (writeCall (device DataTransferToHost 5) io (6 ∷ 7 ∷ 8 ∷ []) .bytes) (1 ∷ 2 ∷ 3 ∷ 4 ∷ 6 ∷ 7 ∷ replicate 26 5)
@@ -70,7 +70,7 @@ table =
     ∷ case (writeAllCall (device DataTransferToHost 5) io (6 ∷ 7 ∷ 8 ∷ []) .device .marks) (at 1 7)
     -- 29 fit after the move, and 30 do not: the move stays
     ∷ case (writeAllCall (device DataTransferToHost 5) io (replicate 29 6) .bytes) (2 ∷ 3 ∷ 4 ∷ replicate 29 6)
-    ∷ case (writeAllCall (device DataTransferToHost 5) io (replicate 30 6) .number) 1
+    ∷ case (writeAllCall (device DataTransferToHost 5) io (replicate 30 6) .answer) (answer 1)
     ∷ case (writeAllCall (device DataTransferToHost 5) io (replicate 30 6) .count) 0
     ∷ case (writeAllCall (device DataTransferToHost 5) io (replicate 30 6) .device .marks) (at 0 3)
     ∷ case (writeAllCall (device DataTransferToHost 5) io (replicate 30 6) .bytes) (2 ∷ 3 ∷ 4 ∷ 4 ∷ replicate 28 5)
@@ -81,13 +81,13 @@ table =
     -- A1 FE answers max LUN; A1 FF is a reset; 21 FF, BOT's own reset, does not count
     ∷ case (controlCall (device DataTransferToHost 5) io (request 0xA1 0xFE) .bytes) (3 ∷ [])
     ∷ case (controlCall (device DataTransferToHost 5) io (request 0xA1 0xFF)) (resetCall (device DataTransferToHost 5) io)
-    ∷ case (controlCall (device DataTransferToHost 5) io (request 0x21 0xFF)) (record { number = 0; stalls = Kept; bytes = []; device = device DataTransferToHost 5 })
+    ∷ case (controlCall (device DataTransferToHost 5) io (request 0x21 0xFF)) (record { answer = answer 0; stalls = Kept; bytes = []; device = device DataTransferToHost 5 })
     -- a command is shown in every state but 0; it is offered while no status is present
     ∷ case (commandCall (device CommandTransferInvalid 5) io) (showing (device CommandTransferInvalid 5 .wrapper))
     ∷ case (commandCall (device CommandTransfer 5) io .shown) false
-    ∷ case (stepCall (device DataTransferToHost 5) io) (stepping 0 (offered 1 (Inquiry true 128 255) ∷ []))
-    ∷ case (stepCall (withStatus (Present PhaseError (record { 0 = 0 })) (device DataTransferToHost 5)) io) (stepping 0 [])
-    ∷ case (stepCall (device CommandTransfer 5) io) (stepping 0 [])
+    ∷ case (stepCall (device DataTransferToHost 5) io) (stepping (answer 0) (offered 1 (Inquiry true 128 255) ∷ []))
+    ∷ case (stepCall (withStatus (Present PhaseError (record { 0 = 0 })) (device DataTransferToHost 5)) io) (stepping (answer 0) [])
+    ∷ case (stepCall (device CommandTransfer 5) io) (stepping (answer 0) [])
     -- 13: an empty block
-    ∷ case (stepCall (device CommandTransferInvalid 0) io) (stepping 13 [])
+    ∷ case (stepCall (device CommandTransferInvalid 0) io) (stepping (answer 13) [])
     ∷ []

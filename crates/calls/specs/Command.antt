@@ -4,37 +4,38 @@ use mathlib.Core.Bool.{Bool, true, false, cond, not, _&&_}
 use mathlib.Core.List.{List, [], _∷_, map}
 use lib.ListN.{take, replicate}
 use Rattle.answers.specs.declared.Answer.{Answer}
-use Rattle.answers.specs.Answers.{number}
+use Rattle.answers.specs.Answers.{Answering, answer, answerOf}
 use Rattle.scsi.specs.declared.ScsiCommand.{ScsiCommand}
 use Rattle.scsi.specs.Decoding.{Outcome, plainCall}
 use Rattle.wrapper.specs.declared.Wrapper.{Wrapper}
 use Rattle.device.specs.declared.Device.{Device}
 use Rattle.device.specs.Device.{isPresent}
+use Rattle.device.specs.Broken.{unlessBroken}
 use Rattle.calls.specs.declared.command.Shown.{Shown}
 use Rattle.calls.specs.declared.command.Offer.{Offer}
 use Rattle.calls.specs.declared.command.Offer.the-variants.{Nothing, Command}
 use Rattle.calls.specs.declared.command.Step.{Step}
-use Rattle.calls.specs.Checks.{unlessBroken, isIn}
+use Rattle.calls.specs.Checks.{isIn}
 
 -- ---- the command shown
 
--- 01's number, whether a command is shown, its LUN, and its block: all 16 bytes that the record keeps, and how many of them count
+-- the answer, whether a command is shown, its LUN, and its block: all 16 bytes that the record keeps, and how many of them count
 pub record Showing : Type 0 where
-  pub number : ℕ
+  pub answer : Answering
   pub shown : Bool
   pub lun : ℕ
   pub blocklength : ℕ
   pub block : List ℕ
 
 abbrev pub shownOf : Shown → Showing
-shownOf r = record { number = number (r .answer); shown = r .shown; lun = r .lun; blocklength = r .blocklength; block = r .block }
+shownOf r = record { answer = answerOf (r .answer); shown = r .shown; lun = r .lun; blocklength = r .blocklength; block = r .block }
 
 abbrev pub showing : Wrapper → Showing
-showing w = record { number = 0; shown = true; lun = w .lun; blocklength = w .blocklength; block = w .block }
+showing w = record { answer = answer 0; shown = true; lun = w .lun; blocklength = w .blocklength; block = w .block }
 
--- nothing is shown, with this number: everything else is 0
-abbrev pub hiding : ℕ → Showing
-hiding number = record { number = number; shown = false; lun = 0; blocklength = 0; block = replicate 16 0 }
+-- nothing is shown, with this answer: everything else is 0
+abbrev pub hiding : Answering → Showing
+hiding a = record { answer = a; shown = false; lun = 0; blocklength = 0; block = replicate 16 0 }
 
 abbrev pub hides : Answer → Shown
 hides answer = record { answer = answer; shown = false; lun = 0; blocklength = 0; block = replicate 16 0 }
@@ -44,7 +45,7 @@ unfoldable pub isShown : Device → Bool
 isShown d = not (isIn 0 d)
 
 unfoldable pub commandCall : Device → List ℕ → Showing
-commandCall d io = unlessBroken d io (hiding 10) (cond (isShown d) (showing (d .wrapper)) (hiding 0))
+commandCall d io = unlessBroken d io (hiding (answer 10)) (cond (isShown d) (showing (d .wrapper)) (hiding (answer 0)))
 
 -- ---- the command step
 
@@ -60,16 +61,16 @@ abbrev pub offers : Offer → List Offered
 offers Nothing = []
 offers (Command lun c) = offered lun c ∷ []
 
--- 01's number, and what is offered
+-- the answer, and what is offered
 pub record Stepping : Type 0 where
-  pub number : ℕ
+  pub answer : Answering
   pub offers : List Offered
 
-abbrev pub stepping : ℕ → List Offered → Stepping
-stepping number os = record { number = number; offers = os }
+abbrev pub stepping : Answering → List Offered → Stepping
+stepping a os = record { answer = a; offers = os }
 
 abbrev pub steppedOf : Step → Stepping
-steppedOf r = stepping (number (r .answer)) (offers (r .offer))
+steppedOf r = stepping (answerOf (r .answer)) (offers (r .offer))
 
 abbrev pub offersNone : Answer → Step
 offersNone answer = record { answer = answer; offer = Nothing }
@@ -80,7 +81,7 @@ isOffered d = isShown d && not (isPresent (d .status))
 
 -- the decoded command of a LUN; 13: "decoding an empty block"
 unfoldable pub offering : ℕ → Outcome → Stepping
-offering lun o = stepping (o .number) (map (offered lun) (o .commands))
+offering lun o = stepping (answer (o .number)) (map (offered lun) (o .commands))
 
 -- the command block: as many bytes as its length says
 unfoldable pub blockOf : Wrapper → List ℕ
@@ -89,5 +90,5 @@ blockOf w = take (w .blocklength) (w .block)
 -- "nothing offered gives 0"
 unfoldable pub stepCall : Device → List ℕ → Stepping
 stepCall d io =
-    unlessBroken d io (stepping 10 [])
-    (cond (isOffered d) (offering (d .wrapper .lun) (plainCall (blockOf (d .wrapper)))) (stepping 0 []))
+    unlessBroken d io (stepping (answer 10) [])
+    (cond (isOffered d) (offering (d .wrapper .lun) (plainCall (blockOf (d .wrapper)))) (stepping (answer 0) []))

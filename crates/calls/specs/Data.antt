@@ -7,26 +7,27 @@ use Rattle.fields.specs.Overlay.{overlay}
 use Rattle.buffer.specs.declared.Marks.{Marks}
 use Rattle.buffer.specs.Buffer.{Buffer, fitting, written, lacksRoom, writtenAll, ready, given, readOff}
 use Rattle.answers.specs.declared.Answer.{Answer}
-use Rattle.answers.specs.Answers.{number}
+use Rattle.answers.specs.Answers.{Answering, answer, answerOf}
 use Rattle.wrapper.specs.declared.counters.Left.{Left}
 use Rattle.device.specs.declared.Device.{Device}
 use Rattle.device.specs.Device.{withMarks}
+use Rattle.device.specs.Broken.{unlessBroken}
 use Rattle.calls.specs.declared.Moved.{Moved}
-use Rattle.calls.specs.Checks.{unlessBroken, isIn, bufferOf}
+use Rattle.calls.specs.Checks.{isIn, bufferOf}
 
--- 01's number, the count of bytes read or written, the record, and the bytes of what the call may write to: the destination of a
+-- the answer, the count of bytes read or written, the record, and the bytes of what the call may write to: the destination of a
 -- read, the IO buffer of a write
 pub record Moving : Type 0 where
-  pub number : ℕ
+  pub answer : Answering
   pub count : ℕ
   pub device : Device
   pub bytes : List ℕ
 
-abbrev pub moving : ℕ → ℕ → Device → List ℕ → Moving
-moving number count d bytes = record { number = number; count = count; device = d; bytes = bytes }
+abbrev pub moving : Answering → ℕ → Device → List ℕ → Moving
+moving a count d bytes = record { answer = a; count = count; device = d; bytes = bytes }
 
 abbrev pub movedOf : Moved → List ℕ → Moving
-movedOf r bytes = moving (number (r .report .answer)) (r .report .count) (r .device) bytes
+movedOf r bytes = moving (answerOf (r .report .answer)) (r .report .count) (r .device) bytes
 
 -- what a call returns that moved nothing, and one that left these marks
 abbrev pub unmoved : Device → Answer → Moved
@@ -38,16 +39,16 @@ movesTo d m answer count = record { device = withMarks m d; report = record { an
 -- 3: "read or write call in another state", and "all as before"
 unfoldable pub worksIn : ℕ → Device → List ℕ → List ℕ → Moving → Moving
 worksIn state d io bytes done =
-    unlessBroken d io (moving 10 0 d bytes)
-    (cond (isIn state d) done (moving 3 0 d bytes))
+    unlessBroken d io (moving (answer 10) 0 d bytes)
+    (cond (isIn state d) done (moving (answer 3) 0 d bytes))
 
 -- a write leaves a buffer: its marks in the record, its bytes in the IO buffer
-abbrev pub leaving : ℕ → ℕ → Device → Buffer → Moving
-leaving number count d t = moving number count (withMarks (t .marks) d) (t .bytes)
+abbrev pub leaving : Answering → ℕ → Device → Buffer → Moving
+leaving a count d t = moving a count (withMarks (t .marks) d) (t .bytes)
 
 -- "`read_data` works in 7"
 unfoldable pub readOut : Device → Buffer → List ℕ → Moving
-readOut d s dst = moving 0 (ready (length dst) s) (withMarks (readOff (length dst) s .marks) d) (overlay dst 0 (given (length dst) s))
+readOut d s dst = moving (answer 0) (ready (length dst) s) (withMarks (readOff (length dst) s .marks) d) (overlay dst 0 (given (length dst) s))
 
 abbrev pub readCall : Device → List ℕ → List ℕ → Moving
 readCall d io dst = worksIn 7 d io dst (readOut d (bufferOf d io) dst)
@@ -57,14 +58,14 @@ unfoldable pub limited : Left → List ℕ → List ℕ
 limited left src = take (left .0) src
 
 unfoldable pub writeIn : Device → Buffer → List ℕ → Moving
-writeIn d s ys = leaving 0 (fitting (length ys) s) d (written ys s)
+writeIn d s ys = leaving (answer 0) (fitting (length ys) s) d (written ys s)
 
 abbrev pub writeCall : Device → List ℕ → List ℕ → Moving
 writeCall d io src = worksIn 4 d io io (writeIn d (bufferOf d io) (limited (d .left) src))
 
 -- 1: "room, after moving, is below .. the source (`try_write_data_all`)"; "state and move reached stay"
 unfoldable pub writeAllIn : Device → Buffer → List ℕ → Moving
-writeAllIn d s src = cond (lacksRoom (length src) s) (leaving 1 0 d (writtenAll 0 src s)) (leaving 0 (length src) d (writtenAll 0 src s))
+writeAllIn d s src = cond (lacksRoom (length src) s) (leaving (answer 1) 0 d (writtenAll 0 src s)) (leaving (answer 0) (length src) d (writtenAll 0 src s))
 
 -- "`try_write_data_all` in 4, not limited by `left`"
 abbrev pub writeAllCall : Device → List ℕ → List ℕ → Moving

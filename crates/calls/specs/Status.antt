@@ -4,7 +4,7 @@ use mathlib.Core.Bool.{Bool, cond, _||_}
 use mathlib.Core.List.{List}
 use lib.Dec.{eqb, leb}
 use Rattle.answers.specs.declared.Answer.{Answer}
-use Rattle.answers.specs.Answers.{number}
+use Rattle.answers.specs.Answers.{Answering, answer, answerOf}
 use Rattle.wrapper.specs.declared.status.CommandStatus.{CommandStatus}
 use Rattle.wrapper.specs.declared.status.CommandStatus.the-variants.{Passed, Failed, PhaseError}
 use Rattle.wrapper.specs.Counters.{residueOf}
@@ -12,20 +12,20 @@ use Rattle.ring.specs.States.{stateNumber}
 use Rattle.device.specs.declared.Device.{Device}
 use Rattle.device.specs.declared.Status.the-variants.{Present}
 use Rattle.device.specs.Device.{withStatus}
-use Rattle.calls.specs.declared.Figure.{Figure}
+use Rattle.device.specs.Broken.{unlessBroken}
+use Rattle.calls.specs.declared.FirmwareStatus.{FirmwareStatus}
 use Rattle.calls.specs.declared.Stated.{Stated}
-use Rattle.calls.specs.Checks.{unlessBroken}
 
--- 01's number, and the record
+-- the answer, and the record
 pub record Stating : Type 0 where
-  pub number : ℕ
+  pub answer : Answering
   pub device : Device
 
-abbrev pub stating : ℕ → Device → Stating
-stating number d = record { number = number; device = d }
+abbrev pub stating : Answering → Device → Stating
+stating a d = record { answer = a; device = d }
 
 abbrev pub statedOf : Stated → Stating
-statedOf r = stating (number (r .answer)) (r .device)
+statedOf r = stating (answerOf (r .answer)) (r .device)
 
 -- what a call returns that took no status
 abbrev pub refuses : Device → Answer → Stated
@@ -40,15 +40,15 @@ unfoldable pub statusOf : ℕ → CommandStatus
 statusOf byte = cond (eqb byte 0) Passed (cond (eqb byte 1) Failed PhaseError)
 
 -- "a later one replaces the earlier"; "The residue is L less the firmware's figure"
-unfoldable pub withFigure : Figure → Device → Device
-withFigure f d = withStatus (Present (statusOf (f .status)) (residueOf (d .wrapper .length) (f .processed))) d
+unfoldable pub withFigure : FirmwareStatus → Device → Device
+withFigure f d = withStatus (Present (statusOf (f .status)) (residueOf (d .wrapper .length) (f .figure))) d
 
 -- 12: ".. or a status byte above 2"
-unfoldable pub acceptedStatus : Device → Figure → Stating
-acceptedStatus d f = cond (leb (f .status) 2) (stating 0 (withFigure f d)) (stating 12 d)
+unfoldable pub acceptedStatus : Device → FirmwareStatus → Stating
+acceptedStatus d f = cond (leb (f .status) 2) (stating (answer 0) (withFigure f d)) (stating (answer 12) d)
 
 -- 12: "`set_status` where the Rust panics, ..", and "all as before"
-unfoldable pub setStatusCall : Device → List ℕ → Figure → Stating
+unfoldable pub setStatusCall : Device → List ℕ → FirmwareStatus → Stating
 setStatusCall d io f =
-    unlessBroken d io (stating 10 d)
-    (cond (takesStatus (stateNumber (d .state))) (acceptedStatus d f) (stating 12 d))
+    unlessBroken d io (stating (answer 10) d)
+    (cond (takesStatus (stateNumber (d .state))) (acceptedStatus d f) (stating (answer 12) d))

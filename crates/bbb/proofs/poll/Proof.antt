@@ -1,7 +1,7 @@
 -- `bbb::poll` meets its contract: 10, 11, or open, decide and act, which `Same` shows to be 01's rule. Assumes nothing.
 use borrow.Author.Needs.{needs}
 use Rattle.device.proofs.Wholly.{tested}
-use Rattle.bbb.proofs.Polling.{first-fits, is-fitting, tells-10, tells-11, polls}
+use Rattle.bbb.proofs.Polling.{first-fits, is-fitting, broken-10, refused-11, polls}
 use Rattle.bbb.proofs.poll.Statement.{statement}
 use Rattle.bbb.proofs.poll.Tie as tie
 
@@ -37,8 +37,9 @@ go-on-requires c κs =
 changed-requires : tie.Need-changed-requires
 changed-requires c κs = search needs
 
+-- that the buffer was as long behind opening lies too far back to be found
 same-length : tie.Need-same-length
-same-length c = search needs
+same-length c = search (c .before .before .before .before .before .before .before .before .before .before .before .before .io, needs)
 
 same-length-2 : tie.Need-same-length-2
 same-length-2 c = search needs
@@ -50,7 +51,7 @@ returns c =
     let found = took .before .before .before .before in
     let test = found .before .before .before in
     let whole = test .before .before in
-    polls _ _ _ (whole .before .before .numbers-of .ensures) (whole .before .whole .ensures) (whole .if1 .taken) (test .before .fits2 .ensures) (test .if2 .taken) _
+    polls _ _ _ (whole .before .before .numbers-of .ensures) (whole .before .whole .ensures) (whole .if1 .taken) (test .before .fits2 .ensures) (test .if2 .taken) (went .go-on .result)
     (found .«open» .ensures) (went .go-on .ensures) (took .wrapper-then .ensures) (c .changed .ensures)
 
 refused-requires : tie.Need-refused-requires
@@ -59,7 +60,7 @@ refused-requires c κs = search needs
 returns-2 : tie.Need-returns-2
 returns-2 c =
     let whole = c .before .before .before in
-    tells-11 _ _ _ (whole .before .before .numbers-of .ensures) (whole .before .whole .ensures) (whole .if1 .taken) (c .before .before .fits2 .ensures) (c .before .if2 .left) (c .refused .ensures)
+    refused-11 _ _ _ (whole .before .before .numbers-of .ensures) (whole .before .whole .ensures) (whole .if1 .taken) (c .before .before .fits2 .ensures) (c .before .if2 .left) (c .refused .ensures)
 
 refused-requires-2 : tie.Need-refused-requires-2
 refused-requires-2 c κs = search needs
@@ -67,7 +68,7 @@ refused-requires-2 c κs = search needs
 returns-3 : tie.Need-returns-3
 returns-3 c =
     let whole = c .before in
-    tells-10 _ _ _ (whole .before .before .numbers-of .ensures) (whole .before .whole .ensures) (whole .if1 .left) (c .refused2 .ensures)
+    broken-10 _ _ _ (whole .before .before .numbers-of .ensures) (whole .before .whole .ensures) (whole .if1 .left) (c .refused2 .ensures)
 
 pub poll-spec : {M : Type 1} → statement M
 poll-spec = tie.close (tie.spec numbers-of-requires whole-requires fits-requires open-requires wrapper-then-requires go-on-requires changed-requires same-length same-length-2 returns refused-requires returns-2 refused-requires-2 returns-3)

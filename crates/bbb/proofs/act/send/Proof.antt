@@ -10,9 +10,6 @@ sub-refused c = search needs
 refused-requires : tie.Need-refused-requires
 refused-requires c κs = search needs
 
-plain-requires : tie.Need-plain-requires
-plain-requires c κs = search needs
-
 returns : tie.Need-returns
 returns c = search (ways, needs)
 
@@ -38,4 +35,4 @@ returns-2 : tie.Need-returns-2
 returns-2 c = search (ways, needs)
 
 pub send-spec : {M : Type 1} → statement M
-send-spec = tie.close (tie.spec sub-refused refused-requires plain-requires returns ready-requires endpoint-of-requires send-packet-requires left-then-requires same-length same-length-2 returns-2)
+send-spec = tie.close (tie.spec sub-refused refused-requires returns ready-requires endpoint-of-requires send-packet-requires left-then-requires same-length same-length-2 returns-2)

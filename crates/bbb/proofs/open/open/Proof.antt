@@ -25,11 +25,8 @@ same-length c = search needs
 returns : tie.Need-returns
 returns c = search (ways, needs)
 
-plain-requires : tie.Need-plain-requires
-plain-requires c κs = search needs
-
 returns-2 : tie.Need-returns-2
 returns-2 c = search (ways, needs)
 
 pub open-spec : {M : Type 1} → statement M
-open-spec = tie.close (tie.spec state-number-requires sub-reaches reaches-requires left-when-requires read-wrapper-requires same-length returns plain-requires returns-2)
+open-spec = tie.close (tie.spec state-number-requires sub-reaches reaches-requires left-when-requires read-wrapper-requires same-length returns returns-2)

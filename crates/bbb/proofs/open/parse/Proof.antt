@@ -31,17 +31,11 @@ part-head-of-end c = search needs
 head-of-requires : tie.Need-head-of-requires
 head-of-requires c κs = search needs
 
-plain-requires : tie.Need-plain-requires
-plain-requires c κs = search needs
-
 returns : tie.Need-returns
 returns c = search (ways, needs)
-
-plain-requires-2 : tie.Need-plain-requires-2
-plain-requires-2 c κs = search needs
 
 returns-2 : tie.Need-returns-2
 returns-2 c = search (ways, needs)
 
 pub parse-spec : {M : Type 1} → statement M
-parse-spec = tie.close (tie.spec add-end sub-valid part-valid-start part-valid-end valid-requires sub-head-of part-head-of-start part-head-of-end head-of-requires plain-requires returns plain-requires-2 returns-2)
+parse-spec = tie.close (tie.spec add-end sub-valid part-valid-start part-valid-end valid-requires sub-head-of part-head-of-start part-head-of-end head-of-requires returns returns-2)
