@@ -40,8 +40,8 @@ use Rattle.device.specs.declared.Fixed.{Fixed}
 use Rattle.device.specs.declared.Device.{Device}
 use Rattle.device.specs.Device.{isPresent, numbersOf, withMarks, withLeft, withWrapper, entering0}
 use Rattle.device.specs.Create.{creation}
-use Rattle.device.specs.Broken.{statusFits, Whole, isWhole, unlessBroken}
-use Rattle.device.proofs.Wholly.{is-whole, whole-is, whole-sound}
+use Rattle.device.specs.Broken.{statusFits, Whole}
+use Rattle.device.proofs.Wholly.{passes, either, whole-sound}
 use Rattle.bbb.specs.Poll.{Given, Polling, Point, point, bufferAt, reaching, leaving, leftThen, lowered, counting, ending, sendBy, send, offers, offeredBy, takeBy, takeData, statusPut, enterStatus, statusAwaitRule, noDataRule, toHostEndingRule, fallsShort, toHostRule, fromHostEndingRule, fromHostRule, startRule, messageAt, behind31, parseRule, readBy, readOneBy, readCbwRule, statusTransferRule, invalidRule, ruleIn, pollRule, Fits, isFitting, refusing, pollCall}
 use Rattle.bbb.proofs.Polling.{fits-all, is-fitting}
 
@@ -310,18 +310,19 @@ module _ (d : Device) (io : List ℕ) (g : Given) where
 
   -- a whole record and packets that fit: the call is the poll
   pub call-done : Whole (numbersOf d) (length io) → Fits (d .fixed .packetsize) (g .packet) (g .one) (g .two) → pollCall d io g ≡ pollRule d io g
-  unfolding pollCall unlessBroken
-  call-done w f = rw (whole-is (numbersOf d) (length io) w, ← fits-all (d .fixed .packetsize) (length (g .packet)) (length (g .one)) (length (g .two)) (f .first) (f .second), le-leb _ _ (f .into))
+  unfolding pollCall
+  call-done w f =
+      passes d io w _ _
+      ∙ rw (← fits-all (d .fixed .packetsize) (length (g .packet)) (length (g .one)) (length (g .two)) (f .first) (f .second), le-leb _ _ (f .into))
 
   -- what holds of both refusals, and of a poll of a whole record whose packets fit, holds of the call
   pub by-call : (P : Polling → Type 0) → P (refusing d io g 10) → P (refusing d io g 11) → (Whole (numbersOf d) (length io) → Fits (d .fixed .packetsize) (g .packet) (g .one) (g .two) → P (pollRule d io g)) → P (pollCall d io g)
-  unfolding pollCall unlessBroken
+  unfolding pollCall
   by-call P broken refused done =
-      of-picked P (isWhole (numbersOf d) (length io))
+      either d io P broken
       (λ w. of-picked P (isFitting (d .fixed .packetsize) (length (g .packet)) (length (g .one)) (length (g .two)))
-      (λ f. done (is-whole (numbersOf d) (length io) w) (is-fitting (d .fixed .packetsize) (g .packet) (g .one) (g .two) refl f))
+      (λ f. done w (is-fitting (d .fixed .packetsize) (g .packet) (g .one) (g .two) refl f))
       (λ _. refused))
-      (λ _. broken)
 
   -- the call leaves a whole record whole
   pub call-whole : Whole (numbersOf d) (length io) → Whole (numbersOf (pollCall d io g .device)) (length (pollCall d io g .io))

@@ -1,5 +1,4 @@
 -- What callers may use: what is so after a call, for any record, or for a whole one where it says so.
---     stops         a broken record
 --     by-..         what holds of a refusal and of what is done holds of the call, whatever the answer
 --     ..-keeps      what of the record is as before, whatever the answer
 --     ..-done       what a call comes to on a whole record, where it is accepted
@@ -27,6 +26,7 @@ use Rattle.buffer.proofs.Kept.{length-written, sound-written, length-writtenAll
 use Rattle.buffer.proofs.Room.{room-left, fitting-by-unread}
 use Rattle.buffer.proofs.Unread.{unread-written, unread-writtenAll, unread-readOff}
 use Rattle.answers.specs.declared.Stalls.the-variants.{Kept}
+use Rattle.answers.specs.Answers.{Answering, answer}
 use Rattle.wrapper.specs.Status.{statusNumber}
 use Rattle.scsi.specs.Decoding.{decodeCall, plainCall}
 use Rattle.ring.specs.declared.State.{State}
@@ -35,10 +35,10 @@ use Rattle.ring.specs.States.{stateNumber}
 use Rattle.device.specs.declared.Device.{Device}
 use Rattle.device.specs.Device.{numbersOf, isPresent, withMarks, withStatus, entering0}
 use Rattle.device.specs.Broken.{statusFits, Whole}
-use Rattle.device.proofs.Wholly.{whole-is, whole-sound}
+use Rattle.device.proofs.Wholly.{passes, either, whole-sound}
 use Rattle.calls.specs.declared.FirmwareStatus.{FirmwareStatus}
 use Rattle.calls.specs.declared.Request.{Request}
-use Rattle.calls.specs.Checks.{isBroken, unlessBroken, isIn, bufferOf}
+use Rattle.calls.specs.Checks.{isIn, bufferOf}
 use Rattle.calls.specs.Status.{Stating, stating, takesStatus, statusOf, withFigure, acceptedStatus, setStatusCall}
 use Rattle.calls.specs.Data.{Moving, moving, worksIn, leaving, readOut, readCall, limited, writeIn, writeCall, writeAllIn, writeAllCall}
 use Rattle.calls.specs.Bus.{Handling, handling, entering, resetCall, served, controlCall}
@@ -47,10 +47,6 @@ use Rattle.calls.specs.Command.{showing, isShown, commandCall, stepping,
 -- ---- a whole record
 
 module _ (d : Device) (io : List ℕ) (w : Whole (numbersOf d) (length io)) where
-  passes : {A : Type 0} (refused done : A) → unlessBroken d io refused done ≡ done
-  unfolding unlessBroken isBroken
-  passes refused done = rw (whole-is (numbersOf d) (length io) w)
-
   sound : Sound (bufferOf d io)
   sound = whole-sound (numbersOf d) io w
 
@@ -68,16 +64,6 @@ module _ (d : Device) (io : List ℕ) (w : Whole (numbersOf d) (length io)) wher
 
   whole-entered : Whole (numbersOf (entering0 d)) (length io)
   whole-entered = record { lent = w .lent; created = w .created; order = w .order; within = w .within; block = w .block; lun = w .lun; status = refl }
-
--- 10 comes first: what a call does with a broken record is its refusal
-pub stops : {A : Type 0} (d : Device) (io : List ℕ) (refused done : A) → isBroken d (length io) ≡ true → unlessBroken d io refused done ≡ refused
-unfolding unlessBroken
-stops d io refused done h = rw h
-
--- what holds of a refusal and of what is done holds of a call
-either : {A : Type 0} (P : A → Type 0) (d : Device) (io : List ℕ) {refused done : A} → P refused → P done → P (unlessBroken d io refused done)
-unfolding unlessBroken
-either P d io p q = of-picked P (isBroken d (length io)) (λ _. p) (λ _. q)
 
 -- ---- the status
 
@@ -98,8 +84,8 @@ module _ (d : Device) (io : List ℕ) (f : FirmwareStatus) where
   pub by-status : (P : Stating → Type 0) → P (stating (answer 10) d) → P (stating (answer 12) d) → (takesStatus (stateNumber (d .state)) ≡ true → f .status ≤ 2 → P (stating (answer 0) (withFigure f d))) → P (setStatusCall d io f)
   unfolding setStatusCall acceptedStatus
   by-status P broken refused done =
-      either P d io broken
-      (of-picked P (takesStatus (stateNumber (d .state))) (λ t. of-picked P (leb (f .status) 2) (λ h. done t (leb-true (f .status) 2 h)) (λ _. refused)) (λ _. refused))
+      either d io P broken
+      (λ _. of-picked P (takesStatus (stateNumber (d .state))) (λ t. of-picked P (leb (f .status) 2) (λ h. done t (leb-true (f .status) 2 h)) (λ _. refused)) (λ _. refused))
 
   -- all but the status: put the old one back, and the record is the old one
   pub status-keeps : withStatus (d .status) (setStatusCall d io f .device) ≡ d
@@ -121,9 +107,9 @@ pub record Accepted (d : Device) (f : FirmwareStatus) (o : Stating) : Type 0 whe
   pub device : o .device ≡ withFigure f d
   pub byte : f .status ≤ 2
 
-pub status-accepted : (d : Device) (io : List ℕ) (f : FirmwareStatus) → eqb (setStatusCall d io f .answer) 0 ≡ true → Accepted d f (setStatusCall d io f)
+pub status-accepted : (d : Device) (io : List ℕ) (f : FirmwareStatus) → eqb (setStatusCall d io f .answer .number) 0 ≡ true → Accepted d f (setStatusCall d io f)
 status-accepted d io f =
-    by-status d io f (λ (o : Stating). eqb (o .answer) 0 ≡ true → Accepted d f o) (λ h. absurd (clash (sym h))) (λ h. absurd (clash (sym h)))
+    by-status d io f (λ (o : Stating). eqb (o .answer .number) 0 ≡ true → Accepted d f o) (λ h. absurd (clash (sym h))) (λ h. absurd (clash (sym h)))
     (λ _ byte _. record { device = refl; byte = byte })
 
 -- which is the byte of the status that it stands for
@@ -141,9 +127,9 @@ status-later d f g = refl
 -- ---- data
 
 module _ (P : Moving → Type 0) (state : ℕ) (d : Device) (io bytes : List ℕ) (done : Moving) where
-  by-data : ((n : ℕ) → P (moving n 0 d bytes)) → P done → P (worksIn state d io bytes done)
+  by-data : ((a : Answering) → P (moving a 0 d bytes)) → P done → P (worksIn state d io bytes done)
   unfolding worksIn
-  by-data p q = either P d io (p 10) (of-picked P (isIn state d) (λ _. q) (λ _. p 3))
+  by-data p q = either d io P (p (answer 10)) (λ _. of-picked P (isIn state d) (λ _. q) (λ _. p (answer 3)))
 
 module _ (state : ℕ) (d : Device) (io bytes : List ℕ) (done : Moving) (w : Whole (numbersOf d) (length io)) where
   pub data-done : isIn state d ≡ true → worksIn state d io bytes done ≡ done
@@ -195,11 +181,11 @@ write-all-within d io src =
     most : (n : ℕ) → max 0 n ≡ n
     most n = max-eq-right zero-le
 
--- the number and the count of all or nothing
-all-told : (b : Bool) (n : ℕ) (d : Device) (t : Buffer)
-    → (cond b (leaving (answer 1) 0 d t) (leaving (answer 0) n d t) .answer ≡ cond b 1 0) × (cond b (leaving (answer 1) 0 d t) (leaving (answer 0) n d t) .count ≡ cond b 0 n)
-all-told true n d t = (refl, refl)
-all-told false n d t = (refl, refl)
+-- the answer and the count of all or nothing
+all-answer : (b : Bool) (n : ℕ) (d : Device) (t : Buffer)
+    → (cond b (leaving (answer 1) 0 d t) (leaving (answer 0) n d t) .answer ≡ cond b (answer 1) (answer 0)) × (cond b (leaving (answer 1) 0 d t) (leaving (answer 0) n d t) .count ≡ cond b 0 n)
+all-answer true n d t = (refl, refl)
+all-answer false n d t = (refl, refl)
 
 -- on a whole record
 module _ (d : Device) (io : List ℕ) (w : Whole (numbersOf d) (length io)) where
@@ -276,12 +262,12 @@ module _ (d : Device) (io : List ℕ) (w : Whole (numbersOf d) (length io)) wher
           (unread-written ys (bufferOf d io) (sound d io w))
 
       -- all of the source, or none: 0 and its length, or 1 and 0
-      pub write-all-told : (writeAllCall d io src .answer ≡ cond (lacksRoom (length src) (bufferOf d io)) 1 0) × (writeAllCall d io src .count ≡ cond (lacksRoom (length src) (bufferOf d io)) 0 (length src))
+      pub write-all-answer : (writeAllCall d io src .answer ≡ cond (lacksRoom (length src) (bufferOf d io)) (answer 1) (answer 0)) × (writeAllCall d io src .count ≡ cond (lacksRoom (length src) (bufferOf d io)) 0 (length src))
       unfolding writeAllIn
-      write-all-told =
+      write-all-answer =
           let t : Buffer = writtenAll 0 src (bufferOf d io) in
-          subst (λ (o : Moving). (o .answer ≡ cond (lacksRoom (length src) (bufferOf d io)) 1 0) × (o .count ≡ cond (lacksRoom (length src) (bufferOf d io)) 0 (length src)))
-          (sym (data-done 4 d io io _ w h)) (all-told (lacksRoom (length src) (bufferOf d io)) (length src) d t)
+          subst (λ (o : Moving). (o .answer ≡ cond (lacksRoom (length src) (bufferOf d io)) (answer 1) (answer 0)) × (o .count ≡ cond (lacksRoom (length src) (bufferOf d io)) 0 (length src)))
+          (sym (data-done 4 d io io _ w h)) (all-answer (lacksRoom (length src) (bufferOf d io)) (length src) d t)
 
       pub write-all-unread : unreadBytes (bufferOf (writeAllCall d io src .device) (writeAllCall d io src .bytes))
           ≡ cond (lacksRoom (length src) (bufferOf d io)) (unreadBytes (bufferOf d io)) (unreadBytes (bufferOf d io) ++ src)
@@ -297,7 +283,7 @@ module _ (d : Device) (io : List ℕ) where
   -- "it does not empty the buffer": the marks stay, and so do the unread bytes
   pub reset-keeps : bufferOf (resetCall d io .device) io ≡ bufferOf d io
   unfolding resetCall entering
-  reset-keeps = either (λ (o : Handling). bufferOf (o .device) io ≡ bufferOf d io) d io refl refl
+  reset-keeps = either d io (λ (o : Handling). bufferOf (o .device) io ≡ bufferOf d io) refl (λ _. refl)
 
   pub reset-done : Whole (numbersOf d) (length io) → resetCall d io ≡ entering d
   unfolding resetCall
@@ -305,16 +291,16 @@ module _ (d : Device) (io : List ℕ) where
 
   pub reset-whole : Whole (numbersOf d) (length io) → Whole (numbersOf (resetCall d io .device)) (length io)
   unfolding resetCall entering
-  reset-whole w = either (λ (o : Handling). Whole (numbersOf (o .device)) (length io)) d io w (whole-entered d io w)
+  reset-whole w = either d io (λ (o : Handling). Whole (numbersOf (o .device)) (length io)) w (whole-entered d io)
 
   module _ (q : Request) where
-    pub by-request : (P : Handling → Type 0) → ((n : ℕ) (bytes : List ℕ) → P (handling n Kept bytes d)) → (eqb (q .requesttype) 0xA1 ≡ true → eqb (q .request) 0xFF ≡ true → P (entering d)) → P (controlCall d io q)
+    pub by-request : (P : Handling → Type 0) → ((a : Answering) (bytes : List ℕ) → P (handling a Kept bytes d)) → (eqb (q .requesttype) 0xA1 ≡ true → eqb (q .request) 0xFF ≡ true → P (entering d)) → P (controlCall d io q)
     unfolding controlCall served
     by-request P p e =
-        either P d io (p 10 [])
-        (of-picked P (eqb (q .requesttype) 0xA1)
-        (λ counts. of-picked P (eqb (q .request) 0xFF) (e counts) (λ _. of-picked P (eqb (q .request) 0xFE) (λ _. p 0 (d .fixed .maxlun ∷ [])) (λ _. p 0 [])))
-        (λ _. p 0 []))
+        either d io P (p (answer 10) [])
+        (λ _. of-picked P (eqb (q .requesttype) 0xA1)
+        (λ counts. of-picked P (eqb (q .request) 0xFF) (e counts) (λ _. of-picked P (eqb (q .request) 0xFE) (λ _. p (answer 0) (d .fixed .maxlun ∷ [])) (λ _. p (answer 0) [])))
+        (λ _. p (answer 0) []))
 
     pub control-keeps : bufferOf (controlCall d io q .device) io ≡ bufferOf d io
     unfolding entering

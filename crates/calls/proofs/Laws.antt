@@ -10,10 +10,12 @@ use lib.ListN.{length, take, length-take}
 use lib.Seq.{length-take-le, take-take, take-length}
 use borrow.Author.Tests.{eq-eqb, ne-eqb, le-leb, lt-leb}
 use Rattle.fields.specs.Overlay.{overlay}
-use Rattle.fields.proofs.Bools.{not-false}
+use Rattle.fields.proofs.Bools.{not-true, not-false}
 use Rattle.buffer.specs.declared.Marks.{Marks}
 use Rattle.buffer.specs.Buffer.{Buffer, Sound, Leaves, buffer, fitting, written, lacksRoom, writtenAll, ready, given, readOff}
 use Rattle.answers.specs.declared.Answer.the-variants.{Done, IoBufferOverflow, InvalidState, BrokenRecord, StatusRefused, EmptyBlock}
+use Rattle.answers.specs.declared.Stalls.the-variants.{Unstalled}
+use Rattle.answers.specs.Answers.{Answering, answer}
 use Rattle.wrapper.specs.declared.counters.Left.{Left}
 use Rattle.wrapper.specs.declared.counters.Residue.{Residue}
 use Rattle.wrapper.specs.declared.status.CommandStatus.{CommandStatus}
@@ -31,9 +33,9 @@ use Rattle.ring.specs.States.{stateNumber}
 use Rattle.device.specs.declared.Device.{Device}
 use Rattle.device.specs.declared.Numbers.{Numbers}
 use Rattle.device.specs.declared.Status.the-variants.{Present}
-use Rattle.device.specs.Device.{numbersOf, isPresent, withStatus}
-use Rattle.device.specs.Broken.{Whole, isWhole}
-use Rattle.device.proofs.Wholly.{is-whole, whole-sound}
+use Rattle.device.specs.Device.{numbersOf, isPresent, withStatus, entering0}
+use Rattle.device.specs.Broken.{Whole, isWhole, unlessBroken}
+use Rattle.device.proofs.Wholly.{is-whole, whole-sound, passes, stops}
 use Rattle.calls.specs.declared.FirmwareStatus.{FirmwareStatus}
 use Rattle.calls.specs.declared.Stated.{Stated}
 use Rattle.calls.specs.declared.Moved.{Moved}
@@ -42,7 +44,7 @@ use Rattle.calls.specs.declared.Reply.the-variants.{Nothing, MaxLun}
 use Rattle.calls.specs.declared.Handled.{Handled}
 use Rattle.calls.specs.declared.command.Shown.{Shown}
 use Rattle.calls.specs.declared.command.Step.{Step}
-use Rattle.calls.specs.Checks.{isBroken, unlessBroken, isIn, bufferOf}
+use Rattle.calls.specs.Checks.{isIn, bufferOf}
 use Rattle.calls.specs.Status.{stating, statedOf, refuses, takesStatus, statusOf, withFigure, acceptedStatus, setStatusCall}
 use Rattle.calls.specs.Data.{Moving, movedOf, unmoved, movesTo, worksIn, leaving, readOut, limited, writeIn, writeAllIn}
 use Rattle.calls.specs.Bus.{handledOf, keeps, enters0, entering, resetCall, served, controlCall}
@@ -50,8 +52,7 @@ use Rattle.calls.specs.Command.{shownOf, showing, hides, isShown, comman
 
 -- ---- the record
 
-pub judges : (d : Device) (len : ℕ) {n : Numbers} {b : Bool} → n ≡ numbersOf d → b ≡ isWhole n len → not b ≡ isBroken d len
-unfolding isBroken
+pub judges : (d : Device) (len : ℕ) {n : Numbers} {b : Bool} → n ≡ numbersOf d → b ≡ isWhole n len → not b ≡ not (isWhole (numbersOf d) len)
 judges d len hn hb = ap not (hb ∙ ap (λ (x : Numbers). isWhole x len) hn)
 
 pub stands : (n : ℕ) (d : Device) {k : ℕ} → k ≡ stateNumber (d .state) → eqb k n ≡ isIn n d
@@ -59,25 +60,22 @@ unfolding isIn
 stands n d h = ap (λ (x : ℕ). eqb x n) h
 
 -- what a record that is not broken gives
-module _ (d : Device) (len : ℕ) {b : Bool} (h : b ≡ isBroken d len) (q : b ≡ false) where
+module _ (d : Device) (len : ℕ) {b : Bool} (h : b ≡ not (isWhole (numbersOf d) len)) (q : b ≡ false) where
   whole-then : Whole (numbersOf d) len
-  unfolding isBroken
   whole-then = is-whole (numbersOf d) len (not-false (isWhole (numbersOf d) len) (sym h ∙ q))
 
   pub block-fits : d .wrapper .blocklength ≤ 16
   block-fits = whole-then .block
 
-module _ (d : Device) (io : List ℕ) {b : Bool} (h : b ≡ isBroken d (length io)) where
+module _ (d : Device) (io : List ℕ) {b : Bool} (h : b ≡ not (isWhole (numbersOf d) (length io))) where
   pub sound-then : b ≡ false → Sound (bufferOf d io)
   sound-then q = whole-sound (numbersOf d) io (whole-then d (length io) h q)
 
-  stops : {A : Type 0} (refused done : A) → b ≡ true → refused ≡ unlessBroken d io refused done
-  unfolding unlessBroken
-  stops refused done q = rw (← h, q)
+  breaks : {A : Type 0} (refused done : A) → b ≡ true → refused ≡ unlessBroken d io refused done
+  breaks refused done q = sym (stops d io (not-true _ (sym h ∙ q)) refused done)
 
   goes-on : {A : Type 0} (refused : A) {x done : A} → b ≡ false → x ≡ done → x ≡ unlessBroken d io refused done
-  unfolding unlessBroken
-  goes-on refused q e = rw (← h, q) e
+  goes-on refused {x} {done} q e = e ∙ sym (passes d io (whole-then d (length io) h q) refused done)
 
 -- ---- the status
 
@@ -117,10 +115,10 @@ module _ (d : Device) (f : FirmwareStatus) {s : StatusByte} (h : csw.told s ≡ 
       let same : c ≡ statusOf (f .status) = status-again c ∙ ap statusOf (known .1) in
       rw (le-leb _ _ (known .0), he, hr, same)
 
-module _ (d : Device) (io : List ℕ) (f : FirmwareStatus) {b : Bool} (h : b ≡ isBroken d (length io)) where
+module _ (d : Device) (io : List ℕ) (f : FirmwareStatus) {b : Bool} (h : b ≡ not (isWhole (numbersOf d) (length io))) where
   pub status-broken : b ≡ true → {r : Stated} → r ≡ refuses d BrokenRecord → statedOf r ≡ setStatusCall d io f
   unfolding setStatusCall
-  status-broken q e = rw e (stops d io h _ _ q)
+  status-broken q e = rw e (breaks d io h _ _ q)
 
   module _ (q : b ≡ false) {n : ℕ} (hn : n ≡ stateNumber (d .state)) {t : Bool} (ht : t ≡ takesStatus n) where
     pub status-taken : t ≡ true → (r : Stated) → statedOf r ≡ acceptedStatus d f → statedOf r ≡ setStatusCall d io f
@@ -133,10 +131,10 @@ module _ (d : Device) (io : List ℕ) (f : FirmwareStatus) {b : Bool} (h : b ≡
 
 -- ---- data
 
-module _ (state : ℕ) (d : Device) (io bytes : List ℕ) (done : Moving) {b : Bool} (h : b ≡ isBroken d (length io)) where
+module _ (state : ℕ) (d : Device) (io bytes : List ℕ) (done : Moving) {b : Bool} (h : b ≡ not (isWhole (numbersOf d) (length io))) where
   pub data-broken : b ≡ true → {r : Moved} → r ≡ unmoved d BrokenRecord → movedOf r bytes ≡ worksIn state d io bytes done
   unfolding worksIn
-  data-broken q e = rw e (stops d io h _ _ q)
+  data-broken q e = rw e (breaks d io h _ _ q)
 
   module _ (q : b ≡ false) {t : Bool} (ht : t ≡ isIn state d) where
     pub data-elsewhere : t ≡ false → {r : Moved} → r ≡ unmoved d InvalidState → movedOf r bytes ≡ worksIn state d io bytes done
@@ -167,15 +165,15 @@ module _ (left : Left) (src : List ℕ) {n : ℕ} (h : n ≡ min (left .0) (leng
       ∙ take-length (take a src)
 
 -- what a write leaves
-left-by : (number count : ℕ) (d : Device) {io : List ℕ} {m : Marks} {t : Buffer} → Leaves (buffer io m) t → leaving number count d (buffer io m) ≡ leaving number count d t
-left-by number count d h = ap (leaving number count d) (h .same)
+left-by : (a : Answering) (count : ℕ) (d : Device) {io : List ℕ} {m : Marks} {t : Buffer} → Leaves (buffer io m) t → leaving a count d (buffer io m) ≡ leaving a count d t
+left-by a count d h = ap (leaving a count d) (h .same)
 
 pub writes : (d : Device) (s : Buffer) (src : List ℕ) {n k : ℕ} {m : Marks} {io : List ℕ} {r : Moved} → n ≡ min (d .left .0) (length src)
     → k ≡ fitting (length (take n src)) s → Leaves (buffer io m) (written (take n src) s) → r ≡ movesTo d m Done k → movedOf r io ≡ writeIn d s (limited (d .left) src)
 unfolding writeIn
 writes d s src {n} {k} {m} {io} hn hk hm hr =
     let e : take n src ≡ limited (d .left) src = cut (d .left) src hn in
-    rw (hr, hk, e) (left-by 0 (fitting (length (limited (d .left) src)) s) d (rw e at hm))
+    rw (hr, hk, e) (left-by (answer 0) (fitting (length (limited (d .left) src)) s) d (rw e at hm))
 
 flipped : (a x : Bool) → x ≡ not a → not x ≡ a
 flipped true x h = rw h
@@ -189,18 +187,18 @@ module _ (d : Device) (s : Buffer) (src : List ℕ) {b : Bool} (hb : b ≡ not (
   module _ {m : Marks} {io : List ℕ} (hm : Leaves (buffer io m) (writtenAll 0 src s)) {r : Moved} where
     pub writes-all : b ≡ true → r ≡ movesTo d m Done (length src) → movedOf r io ≡ writeAllIn d s src
     unfolding writeAllIn
-    writes-all q hr = rw (hr, ← lacks q) (left-by 0 (length src) d hm)
+    writes-all q hr = rw (hr, ← lacks q) (left-by (answer 0) (length src) d hm)
 
     pub overflows : b ≡ false → r ≡ movesTo d m IoBufferOverflow 0 → movedOf r io ≡ writeAllIn d s src
     unfolding writeAllIn
-    overflows q hr = rw (hr, ← lacks q) (left-by 1 0 d hm)
+    overflows q hr = rw (hr, ← lacks q) (left-by (answer 1) 0 d hm)
 
 -- ---- the bus
 
-module _ (d : Device) (io : List ℕ) {b : Bool} (h : b ≡ isBroken d (length io)) where
+module _ (d : Device) (io : List ℕ) {b : Bool} (h : b ≡ not (isWhole (numbersOf d) (length io))) where
   pub reset-broken : b ≡ true → {r : Handled} → r ≡ keeps d BrokenRecord Nothing → handledOf r ≡ resetCall d io
   unfolding resetCall
-  reset-broken q e = rw e (stops d io h _ _ q)
+  reset-broken q e = rw e (breaks d io h _ _ q)
 
   pub resets : b ≡ false → {r : Handled} → r ≡ enters0 d → handledOf r ≡ resetCall d io
   unfolding resetCall entering
@@ -208,7 +206,7 @@ module _ (d : Device) (io : List ℕ) {b : Bool} (h : b ≡ isBroken d (length i
 
   pub control-broken : (q : Request) → b ≡ true → {r : Handled} → r ≡ keeps d BrokenRecord Nothing → handledOf r ≡ controlCall d io q
   unfolding controlCall
-  control-broken q p e = rw e (stops d io h _ _ p)
+  control-broken q p e = rw e (breaks d io h _ _ p)
 
   pub control-counts : (q : Request) → b ≡ false → q .requesttype ≡ 0xA1 → (r : Handled) → handledOf r ≡ served (q .request) d → handledOf r ≡ controlCall d io q
   unfolding controlCall
@@ -217,6 +215,9 @@ module _ (d : Device) (io : List ℕ) {b : Bool} (h : b ≡ isBroken d (length i
   pub control-else : (q : Request) → b ≡ false → (q .requesttype ≡ 0xA1 → ⊥) → {r : Handled} → r ≡ keeps d Done Nothing → handledOf r ≡ controlCall d io q
   unfolding controlCall
   control-else q p a e = rw e (goes-on d io h _ p (rw (ne-eqb _ _ a)))
+
+pub enters : (d : Device) {e : Device} → e ≡ entering0 d → _≡_ {A = Handled} (record { device = e; report = record { answer = Done; stalls = Unstalled; reply = Nothing } }) (enters0 d)
+enters d h = rw h
 
 module _ (q : ℕ) (d : Device) {r : Handled} where
   pub serves-FF : q ≡ 0xFF → r ≡ enters0 d → handledOf r ≡ served q d
@@ -233,10 +234,10 @@ module _ (q : ℕ) (d : Device) {r : Handled} where
 
 -- ---- the command
 
-module _ (d : Device) (io : List ℕ) {b : Bool} (h : b ≡ isBroken d (length io)) where
+module _ (d : Device) (io : List ℕ) {b : Bool} (h : b ≡ not (isWhole (numbersOf d) (length io))) where
   pub command-broken : b ≡ true → {r : Shown} → r ≡ hides BrokenRecord → shownOf r ≡ commandCall d io
   unfolding commandCall
-  command-broken q e = rw e (stops d io h _ _ q)
+  command-broken q e = rw e (breaks d io h _ _ q)
 
   module _ (q : b ≡ false) {t : Bool} (ht : t ≡ isIn 0 d) where
     pub command-hidden : t ≡ true → {r : Shown} → r ≡ hides Done → shownOf r ≡ commandCall d io
@@ -249,7 +250,7 @@ module _ (d : Device) (io : List ℕ) {b : Bool} (h : b ≡ isBroken d (length i
 
   pub step-broken : b ≡ true → {r : Step} → r ≡ offersNone BrokenRecord → steppedOf r ≡ stepCall d io
   unfolding stepCall
-  step-broken q e = rw e (stops d io h _ _ q)
+  step-broken q e = rw e (breaks d io h _ _ q)
 
   module _ (q : b ≡ false) {t : Bool} (ht : t ≡ isOffered d) where
     pub step-offers : t ≡ true → (r : Step) → steppedOf r ≡ offering (d .wrapper .lun) (plainCall (take (d .wrapper .blocklength) (d .wrapper .block)))
@@ -279,4 +280,4 @@ module _ (lun : ℕ) (block : List ℕ) {c : Decoded} (h : told c ≡ plainCall 
   unfolding offering
   decodes k = rw (← h, k)
 
-pub ruleset ways = (judges, stands, block-fits, sound-then, takes-in-2, takes-in-4, takes-in-5, takes-in-7, figure-refused, figure-taken, status-broken, status-taken, status-elsewhere, data-broken, data-elsewhere, data-done, reads, writes, writes-all, overflows, reset-broken, resets, control-broken, control-counts, control-else, serves-FF, serves-FE, serves-else, command-broken, command-hidden, command-shown, step-broken, step-offers, step-offers-not, offers-not, offers-by, decodes-none, decodes)
+pub ruleset ways = (judges, stands, block-fits, sound-then, takes-in-2, takes-in-4, takes-in-5, takes-in-7, figure-refused, figure-taken, status-broken, status-taken, status-elsewhere, data-broken, data-elsewhere, data-done, reads, writes, writes-all, overflows, enters, reset-broken, resets, control-broken, control-counts, control-else, serves-FF, serves-FE, serves-else, command-broken, command-hidden, command-shown, step-broken, step-offers, step-offers-not, offers-not, offers-by, decodes-none, decodes)

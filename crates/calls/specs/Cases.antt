@@ -6,6 +6,7 @@ use lib.ListN.{replicate}
 use Rattle.fields.specs.Case.{Case, case}
 use Rattle.buffer.specs.Buffer.{at}
 use Rattle.answers.specs.declared.Stalls.the-variants.{Kept}
+use Rattle.answers.specs.Answers.{answer}
 use Rattle.wrapper.specs.declared.DataDirection.the-variants.{In}
 use Rattle.wrapper.specs.declared.status.CommandStatus.the-variants.{PhaseError}
 use Rattle.scsi.specs.declared.ScsiCommand.the-variants.{Inquiry}
@@ -14,6 +15,7 @@ use Rattle.ring.specs.declared.State.the-variants.{CommandTransfer, CommandTran
 use Rattle.device.specs.declared.Device.{Device}
 use Rattle.device.specs.declared.Status.the-variants.{Absent, Present}
 use Rattle.device.specs.Device.{withStatus}
+use Rattle.device.specs.Create.{fixed}
 use Rattle.calls.specs.declared.FirmwareStatus.{FirmwareStatus}
 use Rattle.calls.specs.declared.Request.{Request}
 use Rattle.calls.specs.Status.{setStatusCall}
@@ -25,9 +27,7 @@ use Rattle.calls.specs.Command.{showing, offered, stepping, commandCall,
 -- 80 00 FF, for LUN 1, with a block of so many bytes
 abbrev device : State → ℕ → Device
 device state blocklength = record {
-  packetsize = 8;
-  maxlun = 3;
-  size = 32;
+  fixed = fixed 8 3 32;
   state = state;
   marks = at 1 4;
   wrapper = record { tag = 7; length = 512; direction = In; lun = 1; blocklength = blocklength; block = 0x12 ∷ 0x01 ∷ 0x80 ∷ 0x00 ∷ 0xFF ∷ replicate 11 9 };

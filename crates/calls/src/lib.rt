@@ -10,6 +10,7 @@ use buffer::marked;
 use device::Device;
 use device::Status;
 use device::numbers_of;
+use device::rebuilt;
 use device::whole;
 use fields::least;
 use ring::State;
@@ -19,17 +20,19 @@ use wrapper::counters::residue_of;
 use wrapper::status::StatusByte;
 use wrapper::status::status_of;
 ghost use mathlib.Core.Path.{_≡_};
+ghost use mathlib.Core.Bool.{not};
 ghost use Prim.Native.Nat.{min};
-ghost use Rattle.device.specs.Device.{withStatus};
-ghost use Rattle.calls.specs.Checks.{isBroken, isIn};
+ghost use Rattle.device.specs.Device.{numbersOf, withStatus};
+ghost use Rattle.device.specs.Broken.{isWhole};
+ghost use Rattle.calls.specs.Checks.{isIn};
 ghost use Rattle.calls.specs.Status.{statedOf, refuses, takesStatus, acceptedStatus, setStatusCall};
 ghost use Rattle.calls.specs.Data.{unmoved, movesTo, movedOf, readCall, writeCall, writeAllCall};
 ghost use Rattle.calls.specs.Bus.{keeps, enters0, handledOf, served, resetCall, controlCall};
 
-// A status byte, and how many bytes the firmware dealt with.
-pub struct Figure {
+// A status byte, and the firmware's figure: how many bytes it dealt with.
+pub struct FirmwareStatus {
     pub status: u8,
-    pub processed: u32,
+    pub figure: u32,
 }
 
 pub struct Stated {
@@ -75,7 +78,7 @@ pub struct Handled {
 
 // Whether the record is broken, over an IO buffer of so many bytes.
 pub(crate) fn broken(device: Device, len: usize) -> bool
-    ensures { λ r. ⌜ r ≡ isBroken device len ⌝ }
+    ensures { λ r. ⌜ r ≡ not (isWhole (numbersOf device) len) ⌝ }
 {
     !whole(numbers_of(device), len)
 }
@@ -95,16 +98,7 @@ fn with_status(device: Device, status: Status) -> Device
     let marks = device.marks;
     let wrapper = device.wrapper;
     let left = device.left;
-    Device {
-        packetsize: device.packetsize,
-        maxlun: device.maxlun,
-        size: device.size,
-        state: state,
-        marks: marks,
-        wrapper: wrapper,
-        status: status,
-        left: left,
-    }
+    rebuilt(device, state, marks, wrapper, status, left)
 }
 
 // ---- the status
@@ -136,15 +130,15 @@ fn untaken(device: Device, answer: Answer) -> Stated
 }
 
 // In a state that takes one: bytes above 2 are refused.
-fn accept(device: Device, figure: Figure) -> Stated
-    ensures { λ r. ⌜ statedOf r ≡ acceptedStatus device figure ⌝ }
+fn accept(device: Device, given: FirmwareStatus) -> Stated
+    ensures { λ r. ⌜ statedOf r ≡ acceptedStatus device given ⌝ }
 {
-    let byte = status_of(figure.status);
+    let byte = status_of(given.status);
     match byte {
         StatusByte::Refused => untaken(device, Answer::StatusRefused),
         StatusByte::Known(status) => {
             let w = device.wrapper;
-            let residue = residue_of(w.length, figure.processed);
+            let residue = residue_of(w.length, given.figure);
             let d = with_status(device, Status::Present(status, residue));
             Stated {
                 device: d,
@@ -155,15 +149,15 @@ fn accept(device: Device, figure: Figure) -> Stated
 }
 
 // The status of the command; a later one replaces the earlier.
-pub fn set_status(device: Device, io: &[u8], figure: Figure) -> Stated
-    ensures { λ r. ⌜ statedOf r ≡ setStatusCall device (now (io .entry)) figure ⌝ }
+pub fn set_status(device: Device, io: &[u8], given: FirmwareStatus) -> Stated
+    ensures { λ r. ⌜ statedOf r ≡ setStatusCall device (now (io .entry)) given ⌝ }
 {
     if broken(device, io.len()) {
         return untaken(device, Answer::BrokenRecord);
     }
     let state = device.state;
     if takes_status(state_number(state)) {
-        return accept(device, figure);
+        return accept(device, given);
     }
     untaken(device, Answer::StatusRefused)
 }
@@ -272,19 +266,18 @@ fn kept(device: Device, answer: Answer, reply: Reply) -> Handled
 fn enter(device: Device) -> Handled
     ensures { λ r. ⌜ r ≡ enters0 device ⌝ }
 {
-    let unread = device.marks;
+    let marks = device.marks;
     let wrapper = device.wrapper;
+    let d = rebuilt(
+        device,
+        State::CommandTransfer,
+        marks,
+        wrapper,
+        Status::Absent,
+        Left(0),
+    );
     Handled {
-        device: Device {
-            packetsize: device.packetsize,
-            maxlun: device.maxlun,
-            size: device.size,
-            state: State::CommandTransfer,
-            marks: unread,
-            wrapper: wrapper,
-            status: Status::Absent,
-            left: Left(0),
-        },
+        device: d,
         report: Controlled {
             answer: Answer::Done,
             stalls: Stalls::Unstalled,
@@ -311,7 +304,7 @@ fn serve(device: Device, request: u8) -> Handled
         return enter(device);
     }
     if request == 0xFE {
-        return kept(device, Answer::Done, Reply::MaxLun(device.maxlun));
+        return kept(device, Answer::Done, Reply::MaxLun(device.fixed.maxlun));
     }
     kept(device, Answer::Done, Reply::Nothing)
 }

@@ -1,5 +1,6 @@
 -- What follows for a whole record.
 --     is-whole, whole-is    the test says whether a record is whole
+--     passes, stops, either what a call that checks 10 first comes to
 --     whole-sound           its marks are sound over the lent buffer
 --     absent-in-0           in 0 no status is present
 --     wrapper-fits, packet-fits, packet-bounds   the buffer holds a wrapper and a packet, and P is 8 to 64
@@ -12,14 +13,15 @@ use native.Mathlib.Omega.{arith}
 use lib.Dec.{eqb, ltb, leb}
 use lib.ListN.{length}
 use borrow.Author.Tests.{eq-eqb, eqb-true, leb-true, le-leb, ltb-false}
-use Rattle.fields.proofs.Bools.{and-left, and-right, not-true}
+use Rattle.fields.proofs.Bools.{and-left, and-right, not-true, of-picked}
 use Rattle.buffer.specs.Buffer.{Sound, isSound, buffer}
 use Rattle.ring.specs.declared.State.the-variants.{CommandTransfer}
 use Rattle.device.specs.declared.Fixed.{Fixed}
+use Rattle.device.specs.declared.Device.{Device}
 use Rattle.device.specs.declared.Numbers.{Numbers}
-use Rattle.device.specs.Device.{isPresent}
+use Rattle.device.specs.Device.{isPresent, numbersOf}
 use Rattle.device.specs.Create.{isPacketSize, creation}
-use Rattle.device.specs.Broken.{commandFits, statusFits, Whole, isWhole}
+use Rattle.device.specs.Broken.{commandFits, statusFits, Whole, isWhole, unlessBroken}
 
 -- the rules, as facts, from the tests
 whole-by : (n : Numbers) (len : ℕ) → eqb (n .fixed .size) len ≡ true → eqb (creation (n .fixed)) 0 ≡ true → isSound (n .fixed .size) (n .marks) ≡ true
@@ -60,6 +62,22 @@ whole-sound n io w = record { order = w .order; within = omega (arith, w .within
 
 pub absent-in-0 : (n : Numbers) (len : ℕ) → Whole n len → n .state ≡ CommandTransfer → isPresent (n .status) ≡ false
 absent-in-0 n len w e = not-true (isPresent (n .status)) (rw e at (w .status))
+
+-- ---- 10 comes first
+
+module _ {A : Type 0} (d : Device) (io : List ℕ) where
+  pub passes : Whole (numbersOf d) (length io) → (refused done : A) → unlessBroken d io refused done ≡ done
+  unfolding unlessBroken
+  passes w refused done = rw (whole-is (numbersOf d) (length io) w)
+
+  pub stops : isWhole (numbersOf d) (length io) ≡ false → (refused done : A) → unlessBroken d io refused done ≡ refused
+  unfolding unlessBroken
+  stops h refused done = rw h
+
+  -- what holds of a refusal, and of what is done with a whole record, holds of the call
+  pub either : (P : A → Type 0) {refused done : A} → P refused → (Whole (numbersOf d) (length io) → P done) → P (unlessBroken d io refused done)
+  unfolding unlessBroken
+  either P p q = of-picked P (isWhole (numbersOf d) (length io)) (λ e. q (is-whole (numbersOf d) (length io) e)) (λ _. p)
 
 -- ---- the packet size and the buffer
 

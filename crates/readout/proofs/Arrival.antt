@@ -8,7 +8,7 @@ use lib.Dec.{eqb}
 use lib.ListN.{length, length-append}
 use Rattle.fields.proofs.Bools.{clash}
 use Rattle.buffer.specs.Buffer.{unreadBytes}
-use Rattle.answers.specs.Answers.{no}
+use Rattle.answers.specs.Answers.{answer}
 use Rattle.ring.specs.declared.State.the-variants.{CommandTransfer, StatusTransfer}
 use Rattle.ring.specs.States.{stateNumber}
 use Rattle.device.specs.declared.Device.{Device}
@@ -53,11 +53,11 @@ module _ (p : ℕ) (m : List ℕ) (s : Socket) (a : Arriving p m s) where
       shown o (idle i) few =
           shown-in-0 o (ap (λ (d : Device). d .state) (i .device) ∙ f .state) (i .unread ∙ f .unread ∙ sym (rw (i .taken, f .taken) (append-nil m))) (rw (i .sent)) (rw (i .taken, f .taken))
       shown o (short room serving e under) few =
-          rw e (shown-in-0 (ends g (arrived g x) (no 0)) (f .state) (read-unread g x (f .sound) (f .small) room serving ∙ rw (f .unread, f .taken)) refl (rw (f .taken) (append-nil (g .one))))
+          rw e (shown-in-0 (ends g (arrived g x) (answer 0)) (f .state) (read-unread g x (f .sound) (f .small) room serving ∙ rw (f .unread, f .taken)) refl (rw (f .taken) (append-nil (g .one))))
       shown o (ripe room serving e many) few =
           absurd (omega (arith, length-append m (g .one), rw (ripe-first g x o e) at few, from-count f))
 
-    rule-shown : Fits (s .device .packetsize) (g .packet) (g .one) (g .two) → length (m ++ firstOf (packetsOf g (pollRule (s .device) (s .io) g))) < 31 → Shown (pollRule (s .device) (s .io) g)
+    rule-shown : Fits (s .device .fixed .packetsize) (g .packet) (g .one) (g .two) → length (m ++ firstOf (packetsOf g (pollRule (s .device) (s .io) g))) < 31 → Shown (pollRule (s .device) (s .io) g)
     rule-shown fits few = by-reading p m s a g fits (λ x f r. shown x f (pollRule (s .device) (s .io) g) r few)
 
     -- a poll, refused or not
@@ -71,7 +71,7 @@ module _ (p : ℕ) (m : List ℕ) (s : Socket) (a : Arriving p m s) where
         record {
           arriving = record {
             whole = call-whole (s .device) (s .io) g (a .whole);
-            packetsize = call-sizes (s .device) (s .io) g .packetsize ∙ a .packetsize;
+            packetsize = call-sizes (s .device) (s .io) g .fixed .packetsize ∙ a .fixed .packetsize;
             waits = here .state;
             unread = here .unread;
             none-in-3 = here .none-in-3;
@@ -93,7 +93,7 @@ module _ (p : ℕ) (m : List ℕ) (s : Socket) (a : Arriving p m s) where
   reset-arrives n = record {
     arriving = record {
       whole = record { lent = a .whole .lent; created = a .whole .created; order = a .whole .order; within = a .whole .within; block = a .whole .block; lun = a .whole .lun; status = refl };
-      packetsize = a .packetsize;
+      packetsize = a .fixed .packetsize;
       waits = refl;
       unread = rw append-nil (a .unread);
       none-in-3 = λ in3. absurd (apart refl in3);

@@ -38,8 +38,8 @@ takes-due DataTransferFromHostEnding p left n takes = refl
 module _ (w : Wrapper) (p : ℕ) where
   pub some-due : (s : Socket) (got put : List ℕ) → Transfer w p got put s → takesStatus (stateNumber (s .device .state)) ≡ true → 0 < due s
   some-due s got put t takes =
-      let size : 8 ≤ s .device .packetsize = packet-bounds (s .device .packetsize) (packet-known (numbersOf (s .device)) (length (s .io)) (t .whole)) .0 in
-      omega (arith, takes-due (s .device .state) (s .device .packetsize) (s .device .left .0) (length (unreadIn s)) takes, ceiling-some (s .device .packetsize) 13 (omega arith) (omega arith))
+      let size : 8 ≤ s .device .fixed .packetsize = packet-bounds (s .device .fixed .packetsize) (packet-known (numbersOf (s .device)) (length (s .io)) (t .whole)) .0 in
+      omega (arith, takes-due (s .device .state) (s .device .fixed .packetsize) (s .device .left .0) (length (unreadIn s)) takes, ceiling-some (s .device .fixed .packetsize) 13 (omega arith) (omega arith))
 
   -- ---- up to the last accepted status
 

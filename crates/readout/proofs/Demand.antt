@@ -54,7 +54,7 @@ dataLength Out l = 0
 dataLength In l = l
 dataLength NotExpected l = 0
 
-pub waits-arriving : (s : Socket) → Between s → Arriving (s .device .packetsize) [] s
+pub waits-arriving : (s : Socket) → Between s → Arriving (s .device .fixed .packetsize) [] s
 waits-arriving s b = record {
   whole = b .whole;
   packetsize = refl;
@@ -108,13 +108,13 @@ module _ (t : Story) (u : Supposed t) where
 
   -- ---- its status
 
-  earlier-put : putIn (history t) (t .start) ≡ putIn (toStatus t) (t .start) ++ (shows (status (t .figure)) (reached t) .put ++ putIn (t .after) (told t))
+  earlier-put : putIn (history t) (t .start) ≡ putIn (toStatus t) (t .start) ++ (shows (status (t .given)) (reached t) .put ++ putIn (t .after) (told t))
   unfolding all
-  earlier-put = all-append (λ (o : Shows). o .put) (toStatus t) (status (t .figure) ∷ t .after) (t .start)
+  earlier-put = all-append (λ (o : Shows). o .put) (toStatus t) (status (t .given) ∷ t .after) (t .start)
 
   few-before : length (putIn (toStatus t) (t .start)) ≤ L t
   few-before =
-      let rest : List ℕ = shows (status (t .figure)) (reached t) .put ++ putIn (t .after) (told t) in
+      let rest : List ℕ = shows (status (t .given)) (reached t) .put ++ putIn (t .after) (told t) in
       omega (arith, u .few, ap length earlier-put, length-append (putIn (toStatus t) (t .start)) rest)
 
   met-before : Before (wrapper t) (P t) (sentIn (toWrapper t) (t .start)) (putIn (toWrapper t) (t .start)) (t .before) (parsed t)
@@ -131,13 +131,13 @@ module _ (t : Story) (u : Supposed t) where
   here = status-accepted (reached t .device) (reached t .io) (t .figure) (u .accepted)
 
   -- the record with it
-  told-is : told t .device ≡ withFigure (t .figure) (reached t .device)
+  told-is : told t .device ≡ withFigure (t .given) (reached t .device)
   unfolding shows
   told-is = here .device
 
-  told-status : told t .device .status ≡ Present (statusOf (t .figure .status)) (residueOf (L t) (t .figure .processed))
+  told-status : told t .device .status ≡ Present (statusOf (t .given .status)) (residueOf (L t) (t .given .figure))
   unfolding withFigure
-  told-status = ap (λ (d : Device). d .status) told-is ∙ ap (λ (w : Wrapper). Present (statusOf (t .figure .status)) (residueOf (w .length) (t .figure .processed))) (arrived-there .wrapper)
+  told-status = ap (λ (d : Device). d .status) told-is ∙ ap (λ (w : Wrapper). Present (statusOf (t .given .status)) (residueOf (w .length) (t .given .figure))) (arrived-there .wrapper)
 
   takes : takesStatus (stateNumber (reached t .device .state)) ≡ true
   takes = rw reached-is (met-before .takes)
@@ -149,31 +149,31 @@ module _ (t : Story) (u : Supposed t) where
       let d : Device = reached t .device in
       let same-state : told t .device .state ≡ d .state = ap (λ (d : Device). d .state) told-is in
       let same-left : told t .device .left .0 ≡ R t = ap (λ (d : Device). d .left .0) told-is in
-      let same-size : told t .device .packetsize ≡ P t = ap (λ (d : Device). d .packetsize) told-is ∙ arrived-there .packetsize in
-      takes-due (told t .device .state) (told t .device .packetsize) (told t .device .left .0) (length (unreadIn (told t))) (rw same-state takes) ∙ rw (same-left, same-size)
+      let same-size : told t .device .fixed .packetsize ≡ P t = ap (λ (d : Device). d .fixed .packetsize) told-is ∙ arrived-there .fixed .packetsize in
+      takes-due (told t .device .state) (told t .device .fixed .packetsize) (told t .device .left .0) (length (unreadIn (told t))) (rw same-state takes) ∙ rw (same-left, same-size)
 
   -- the transfer goes on with it
-  with-status : Transfer (wrapper t) (P t) (sentIn (toStatus t) (t .start) ++ shows (status (t .figure)) (reached t) .sent) (putIn (toStatus t) (t .start) ++ shows (status (t .figure)) (reached t) .put) (told t)
+  with-status : Transfer (wrapper t) (P t) (sentIn (toStatus t) (t .start) ++ shows (status (t .given)) (reached t) .sent) (putIn (toStatus t) (t .start) ++ shows (status (t .given)) (reached t) .put) (told t)
   unfolding isReset
-  with-status = event-steps (wrapper t) (P t) _ _ few-before (reached t) arrived-there (some-due (wrapper t) (P t) (reached t) _ _ arrived-there takes) (status (t .figure)) refl .transfer
+  with-status = event-steps (wrapper t) (P t) _ _ few-before (reached t) arrived-there (some-due (wrapper t) (P t) (reached t) _ _ arrived-there takes) (status (t .given)) refl .transfer
 
   -- ---- behind it
 
   ended-is : ended t ≡ run (t .after) (told t)
   unfolding run
-  ended-is = run-append (toStatus t) (status (t .figure) ∷ t .after) (t .start)
+  ended-is = run-append (toStatus t) (status (t .given) ∷ t .after) (t .start)
 
-  host-is : host t ≡ (sentIn (toStatus t) (t .start) ++ shows (status (t .figure)) (reached t) .sent) ++ sentIn (t .after) (told t)
+  host-is : host t ≡ (sentIn (toStatus t) (t .start) ++ shows (status (t .given)) (reached t) .sent) ++ sentIn (t .after) (told t)
   unfolding all
-  host-is = all-append (λ (o : Shows). o .sent) (toStatus t) (status (t .figure) ∷ t .after) (t .start) ∙ sym (append-assoc (sentIn (toStatus t) (t .start)) _ (sentIn (t .after) (told t)))
+  host-is = all-append (λ (o : Shows). o .sent) (toStatus t) (status (t .given) ∷ t .after) (t .start) ∙ sym (append-assoc (sentIn (toStatus t) (t .start)) _ (sentIn (t .after) (told t)))
 
-  firmware-is : firmware t ≡ (putIn (toStatus t) (t .start) ++ shows (status (t .figure)) (reached t) .put) ++ putIn (t .after) (told t)
+  firmware-is : firmware t ≡ (putIn (toStatus t) (t .start) ++ shows (status (t .given)) (reached t) .put) ++ putIn (t .after) (told t)
   firmware-is = earlier-put ∙ sym (append-assoc (putIn (toStatus t) (t .start)) _ (putIn (t .after) (told t)))
 
   -- The end of a story with fewer served polls: the invariant, the status, and what is due.
   record Sum : Type 0 where
     transfer : Transfer (wrapper t) (P t) (host t) (firmware t) (ended t)
-    status : ended t .device .status ≡ Present (statusOf (t .figure .status)) (residueOf (L t) (t .figure .processed))
+    status : ended t .device .status ≡ Present (statusOf (t .given .status)) (residueOf (L t) (t .given .figure))
     count : due (ended t) + servedSince t ≡ number t
 
   sum : servedSince t < number t → Sum
@@ -216,8 +216,8 @@ module _ (t : Story) (u : Supposed t) where
   -- ---- what is promised
 
   -- the status that is promised is the one that is present
-  the-status : bytesFor (wrapper t .tag) (Present (statusOf (t .figure .status)) (residueOf (L t) (t .figure .processed))) ≡ theStatus t
-  the-status = rw (status-byte (t .figure .status) (here .byte))
+  the-status : bytesFor (wrapper t .tag) (Present (statusOf (t .given .status)) (residueOf (L t) (t .given .figure))) ≡ theStatus t
+  the-status = rw (status-byte (t .given .status) (here .byte))
 
   positive : 0 < P t
   positive = omega (arith, packet-bounds (P t) (packet-known (numbersOf (t .start .device)) (length (t .start .io)) (u .between .whole)) .0)
@@ -228,7 +228,7 @@ module _ (t : Story) (u : Supposed t) where
       let k : Device = ended t .device in
       let more : 0 < due (ended t) = omega (arith, z .count) in
       let o : Owes (wrapper t) (host t) (firmware t) (k .status) =
-      owes (wrapper t) (host t) (firmware t) (k .packetsize) (rw (z .transfer .packetsize) positive) (k .state) (k .status) (k .left .0) (unreadIn (ended t)) _ _ (z .status) (z .transfer .phase) more in
+      owes (wrapper t) (host t) (firmware t) (k .fixed .packetsize) (rw (z .transfer .fixed .packetsize) positive) (k .state) (k .status) (k .left .0) (unreadIn (ended t)) _ _ (z .status) (z .transfer .phase) more in
       record { rest = o .rest; some = o .some; prefix = o .whole ∙ rw (z .status, the-status) }
 
   ends : servedSince t + 1 ≡ number t → (g : Given) → Later (poll g) (ended t) → served (poll g) (ended t) ≡ 1 → Ends t g
@@ -238,10 +238,10 @@ module _ (t : Story) (u : Supposed t) where
       let st : Steps (wrapper t) (P t) (host t) (firmware t) e (accepts (poll g) e) (served (poll g) e) (shows (poll g) e) =
       event-steps (wrapper t) (P t) (host t) (firmware t) (u .few) e (z .transfer) (omega (arith, z .count)) (poll g) (later .no-reset) in
       let o : Socket = next (poll g) e in
-      let same : o .device .status ≡ Present (statusOf (t .figure .status)) (residueOf (L t) (t .figure .processed)) = st .status (later .no-status) ∙ z .status in
+      let same : o .device .status ≡ Present (statusOf (t .given .status)) (residueOf (L t) (t .given .figure)) = st .status (later .no-status) ∙ z .status in
       let none-due : due o ≡ 0 = omega (arith, st .count (rw (z .status)) (later .full), z .count) in
       let r : Rests (wrapper t) (host t ++ shows (poll g) e .sent) (firmware t ++ shows (poll g) e .put) (o .device .state) (o .device .status) (unreadIn o) =
-      rests (wrapper t) _ _ (o .device .packetsize) (rw (st .transfer .packetsize) positive) (o .device .state) (o .device .status) (o .device .left .0) (unreadIn o) _ _ same (st .transfer .phase) none-due in
+      rests (wrapper t) _ _ (o .device .fixed .packetsize) (rw (st .transfer .fixed .packetsize) positive) (o .device .state) (o .device .status) (o .device .left .0) (unreadIn o) _ _ same (st .transfer .phase) none-due in
       let bytes : host t ++ shows (poll g) e .sent ≡ theData t ++ theStatus t =
       r .whole ∙ ap₂ (λ (ys zs : List ℕ). dataOf (wrapper t .direction) (L t) ys ++ zs) (ap (λ (l : List ℕ). firmware t ++ l) (poll-puts g e) ∙ append-nil (firmware t)) (ap (bytesFor (wrapper t .tag)) same ∙ the-status) in
       record {
@@ -252,7 +252,7 @@ module _ (t : Story) (u : Supposed t) where
 
 -- for a read L bytes and 13, otherwise 13
 pub promised-length : (t : Story) → length (firmware t) ≤ L t → length (theData t ++ theStatus t) ≡ dataLength (wrapper t .direction) (L t) + 13
-promised-length t few = length-append (theData t) (theStatus t) ∙ ap₂ _+_ (by (wrapper t .direction)) (length-status (wrapper t .tag) (residueOf (L t) (t .figure .processed)) (t .figure .status))
+promised-length t few = length-append (theData t) (theStatus t) ∙ ap₂ _+_ (by (wrapper t .direction)) (length-status (wrapper t .tag) (residueOf (L t) (t .given .figure)) (t .given .status))
   where
     by : (q : DataDirection) → length (dataOf q (L t) (firmware t)) ≡ dataLength q (L t)
     by Out = refl

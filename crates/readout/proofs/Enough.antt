@@ -20,7 +20,7 @@ use Rattle.device.specs.Broken.{Whole, isWhole}
 use Rattle.device.proofs.Wholly.{is-whole, whole-is}
 use Rattle.bbb.specs.Poll.{pollCall}
 use Rattle.bbb.proofs.Keeping.{call-whole}
-use Rattle.calls.specs.Checks.{isBroken, unlessBroken, bufferOf}
+use Rattle.calls.specs.Checks.{bufferOf}
 use Rattle.calls.specs.Status.{takesStatus, setStatusCall}
 use Rattle.calls.specs.Data.{worksIn}
 use Rattle.calls.specs.Bus.{entering, resetCall, controlCall}
@@ -37,7 +37,7 @@ WholeIn s = Whole (numbersOf (s .device)) (length (s .io))
 
 -- it stays as it is, and takes nothing
 refused : (e : Event) (s : Socket) → isWhole (numbersOf (s .device)) (length (s .io)) ≡ false → (next e s ≡ s) × (shows e s .taken ≡ [])
-unfolding shows pollCall setStatusCall worksIn resetCall controlCall unlessBroken isBroken
+unfolding shows pollCall setStatusCall worksIn resetCall controlCall unlessBroken
 refused (poll g) s h = (rw h, rw h)
 refused (status f) s h = (rw h, refl)
 refused (write src) s h = (rw h, refl)
@@ -85,7 +85,7 @@ abbrev SameCommand : Event → Socket → Type 0
 SameCommand e s = takesStatus (stateNumber (next e s .device .state)) ≡ true
 
 pub no-reset-follows : (e : Event) (s : Socket) → WholeIn s → SameCommand e s → isReset e ≡ false
-unfolding shows isReset takesStatus entering resetCall controlCall bus.served unlessBroken isBroken
+unfolding shows isReset takesStatus entering resetCall controlCall bus.served unlessBroken
 no-reset-follows (poll g) s w same = refl
 no-reset-follows (status f) s w same = refl
 no-reset-follows (write src) s w same = refl
@@ -112,7 +112,7 @@ pub record Enough (t : Story) : Type 0 where
   pub unfinished : length (arrivedIn (t .arrival) (t .start)) < 31
   pub valid : Valid (message t)
   pub same-command : Throughout SameCommand (t .before) (parsed t)
-  pub accepted : accepts (status (t .figure)) (reached t) ≡ true
+  pub accepted : accepts (status (t .given)) (reached t) ≡ true
   pub later : Throughout Later (t .after) (told t)
   pub few : length (firmware t) ≤ L t
 

@@ -14,7 +14,7 @@ use borrow.Author.Tests.{eqb-false}
 use Rattle.fields.specs.Case.{Case, case, AllHold}
 use Rattle.fields.proofs.Case.{by-computing}
 use Rattle.bbb.specs.Poll.{Given, invalidRule}
-use Rattle.calls.specs.declared.Figure.{Figure}
+use Rattle.calls.specs.declared.FirmwareStatus.{FirmwareStatus}
 use Rattle.calls.specs.Data.{writeAllIn}
 use Rattle.calls.specs.Bus.{entering, resetCall, controlCall}
 use Rattle.calls.specs.Bus as bus
@@ -51,18 +51,18 @@ abbrev writing : ℕ → List ℕ
 writing l = cbw 9 0 l
 
 -- a status byte, and the number of bytes processed
-abbrev figure : ℕ → ℕ → Figure
-figure byte processed = record { status = byte; processed = processed }
+abbrev figure : ℕ → ℕ → FirmwareStatus
+figure byte bytes = record { status = byte; figure = bytes }
 
 -- P 32, where a wrapper is one packet: from some socket, and from a new device
-abbrev from : Socket → List ℕ → List Event → Figure → List Event → Story
+abbrev from : Socket → List ℕ → List Event → FirmwareStatus → List Event → Story
 from s bytes before f after = record { start = s; arrival = []; completing = taking 32 bytes; before = before; figure = f; after = after }
 
-abbrev in32 : List ℕ → List Event → Figure → List Event → Story
+abbrev in32 : List ℕ → List Event → FirmwareStatus → List Event → Story
 in32 = from (new 32 64)
 
 -- P 8, where it is four
-abbrev in8 : List ℕ → List Event → Figure → List Event → Story
+abbrev in8 : List ℕ → List Event → FirmwareStatus → List Event → Story
 in8 bytes before f after = record { start = new 8 64; arrival = three bytes; completing = fourth bytes; before = before; figure = f; after = after }
 
 -- ---- the socket at the start

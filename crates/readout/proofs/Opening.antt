@@ -150,7 +150,7 @@ module _ (p : ℕ) (m : List ℕ) (s : Socket) (a : Arriving p m s) (few : lengt
       let whole : Whole (numbersOf (pollCall (s .device) (s .io) g .device)) (length (pollCall (s .device) (s .io) g .io)) = call-whole (s .device) (s .io) g (a .whole) in
       let takes : takesStatus (stateNumber (pollCall (s .device) (s .io) g .device .state)) ≡ true = absent-takes (b .leads .phase) (rw (b .leads .status) (b .absent)) (whole .status) in
       record {
-        transfer = record { whole = whole; packetsize = call-sizes (s .device) (s .io) g .packetsize ∙ a .packetsize; wrapper = b .leads .wrapper; phase = b .leads .phase };
+        transfer = record { whole = whole; packetsize = call-sizes (s .device) (s .io) g .fixed .packetsize ∙ a .fixed .packetsize; wrapper = b .leads .wrapper; phase = b .leads .phase };
         takes = takes;
         wire = b .leads .wire takes;
       }

@@ -54,7 +54,7 @@ is-full n [] h = tt
 is-full n (packet ∷ packets) h = (eqb-true _ _ (and-left (eqb (length packet) n) (isFull n packets) h), is-full n packets (and-right (eqb (length packet) n) (isFull n packets) h))
 
 pub fills : Event → Socket → Bool
-fills e s = isFull (min (s .device .packetsize) (s .device .left .0)) (shows e s .taken)
+fills e s = isFull (min (s .device .fixed .packetsize) (s .device .left .0)) (shows e s .taken)
 
 -- at each event of a history
 throughout : (Event → Socket → Bool) → List Event → Socket → Bool
@@ -115,7 +115,7 @@ test t unfinished = ltb (length (arrivedIn (t .arrival) (t .start))) 31
 test t valid = isValid (message t)
 test t no-reset-before = throughout keeps (t .before) (parsed t)
 test t same-command = throughout stays (t .before) (parsed t)
-test t accepted = accepts (status (t .figure)) (reached t)
+test t accepted = accepts (status (t .given)) (reached t)
 test t no-reset = throughout keeps (t .after) (told t)
 test t no-status = throughout leaves (t .after) (told t)
 test t full = throughout fills (t .after) (told t)

@@ -18,7 +18,7 @@ use Rattle.buffer.proofs.Kept.{length-unread}
 use Rattle.buffer.proofs.Room.{lacks-by-unread}
 use Rattle.answers.specs.declared.Endpoint.{Endpoint}
 use Rattle.answers.specs.declared.Endpoint.the-variants.{Served, Busy, Failed}
-use Rattle.answers.specs.Answers.{no, serves, answeredBy}
+use Rattle.answers.specs.Answers.{answer, serves, answeredBy}
 use Rattle.ring.specs.declared.State.the-variants.{StatusTransfer, DataTransferToHost, DataTransferToHostStatusAwait, DataTransferFromHost, DataTransferFromHostEnding}
 use Rattle.ring.specs.States.{stateNumber}
 use Rattle.wrapper.specs.declared.DataDirection.the-variants.{Out, In}
@@ -36,7 +36,7 @@ use Rattle.device.specs.Device.{numbersOf, isPresent}
 use Rattle.device.specs.Broken.{Whole}
 use Rattle.bbb.specs.Poll.{Given, Polling, Point, bufferAt, reaching, leaving, ends, statusBy, sendStatus, dataBy, sendData, offers, takeBy, takeData, enterStatus, statusAwaitRule, toHostEndingRule, fallsShort, toHostRule, fromHostEndingRule, fromHostRule, pollRule, Fits}
 use Rattle.bbb.proofs.Keeping.{follows-filled, follows-status, Sizes, poll-sizes}
-use Rattle.bbb.proofs.After.{P, inFor, outFor, offered, bufferAfter, Idle, data-unread, data-sent, data-left, data-told, data-unserved, status-unread, status-sent, status-told, status-unserved, fill-exact, topped, stated, stated-unread, stated-sound, take-left, take-taken, take-told, take-unserved}
+use Rattle.bbb.proofs.After.{P, inFor, outFor, offered, bufferAfter, Idle, data-unread, data-sent, data-left, data-told, data-unserved, status-unread, status-sent, status-told, status-unserved, fill-exact, topped, stated, stated-unread, stated-sound, take-left, take-taken, take-answer, take-unserved}
 use Rattle.calls.specs.Status.{takesStatus}
 use Rattle.readout.specs.History.{isServed, socket}
 use Rattle.readout.specs.Demand.{Full, ceiling, filledTo, dataOf}
@@ -52,14 +52,14 @@ abbrev pub packetsOf : Given → Polling → List (List ℕ)
 packetsOf g o = take (o .taken) (g .one ∷ g .two ∷ [])
 
 -- the packet buffer holds all that a poll sent
-pub poll-long : (d : Device) (io : List ℕ) (g : Given) → Whole (numbersOf d) (length io) → Fits (d .packetsize) (g .packet) (g .one) (g .two) → length (bytesOf (pollRule d io g)) ≡ pollRule d io g .sent
+pub poll-long : (d : Device) (io : List ℕ) (g : Given) → Whole (numbersOf d) (length io) → Fits (d .fixed .packetsize) (g .packet) (g .one) (g .two) → length (bytesOf (pollRule d io g)) ≡ pollRule d io g .sent
 poll-long d io g whole fits =
     let z : Sizes d (length io) (length (g .packet)) (pollRule d io g) = poll-sizes d io g whole (fits .into) in
     length-take-le (pollRule d io g .sent) (pollRule d io g .packet) (omega (arith, z .sent, z .packet, fits .into))
 
 -- 1 for a served poll
 abbrev pub one : Polling → ℕ
-one o = cond (isServed (o .told .number)) 1 0
+one o = cond (isServed (o .answer .number)) 1 0
 
 -- served polls due where the status is not yet put in
 abbrev pub owing : Point → ℕ
@@ -136,12 +136,12 @@ module _ (w : Wrapper) (got put : List ℕ) (g : Given) where
     status-falls long =
         let n : ℕ = length (unreadBytes (bufferAt x)) in
         let m : ℕ = length (unreadBytes (bufferAfter (sendStatus g x))) in
-        let parts : length (bytesOf (sendStatus g x)) + m ≡ n = sym (length-append (bytesOf (sendStatus g x)) (unreadBytes (bufferAfter (sendStatus g x)))) ∙ ap length (status-unread g x (fit .sound)) in
+        let parts : length (bytesOf (sendStatus g x)) + m ≡ n = sym (length-append (bytesOf (sendStatus g x)) (unreadBytes (bufferAfter (sendStatus g x)))) ∙ ap length (send-unread false g x (fit .sound)) in
         let known : n ≡ unread (bufferAt x) = length-unread (bufferAt x) (fit .sound) in
         cases (serves (inFor g))
-        (λ serving. rw (status-told g x serving) (ceiling-falls (P x) n m (fit .some) some (omega (arith, status-sent g x serving))))
+        (λ serving. rw (send-answer false g x serving) (ceiling-falls (P x) n m (fit .some) some (omega (arith, send-sent false g x serving))))
         (λ idle.
-        let e : sendStatus g x ≡ ends g x (answeredBy (inFor g)) = status-unserved g x idle (λ (none : unread (bufferAt x) ≡ 0). omega arith) in
+        let e : sendStatus g x ≡ ends g x (answeredBy (inFor g)) = send-unserved false g x idle (λ (none : unread (bufferAt x) ≡ 0). omega arith) in
         rw (e, unserved (inFor g) idle) (add-zero _))
 
     pub leads-status : Goes x (ceiling (length (unreadBytes (bufferAt x))) (P x)) (sendStatus g x)
@@ -149,7 +149,7 @@ module _ (w : Wrapper) (got put : List ℕ) (g : Given) where
     leads-status long = record {
       wrapper = fit .wrapper;
       status = refl;
-      phase = sending s r in3 here (append-assoc got (bytesOf (sendStatus g x)) _ ∙ ap (λ (ys : List ℕ). got ++ ys) (status-unread g x (fit .sound)) ∙ all);
+      phase = sending s r in3 here (append-assoc got (bytesOf (sendStatus g x)) _ ∙ ap (λ (ys : List ℕ). got ++ ys) (send-unread false g x (fit .sound)) ∙ all);
       count = λ _ _. rw in3 (status-falls long);
       wire = λ takes. absurd (clash (sym (rw in3 at takes)));
     }
@@ -172,7 +172,7 @@ module _ (w : Wrapper) (got put : List ℕ) (g : Given) where
         subst (λ (k : ℕ). Leads w got put g (x .taken) (P x) (x .device .status) (x .device .left .0) k (enterStatus g x)) n
         (leads-status (stated x) fit-stated s r here refl (rw (put-in, all)) (omega arith) long)
 
-    leads-wait : isPresent (x .device .status) ≡ false → Goes x (owing x) (ends g (reaching DataTransferToHostStatusAwait x) (no 0))
+    leads-wait : isPresent (x .device .status) ≡ false → Goes x (owing x) (ends g (reaching DataTransferToHostStatusAwait x) (answer 0))
     leads-wait absent long = record { wrapper = fit .wrapper; status = refl; phase = waiting refl none (append-nil got ∙ all); count = λ present. absurd (clash (sym present ∙ absent)); wire = λ _. still (x .device .left .0) (no-later g (x .taken)) }
 
     pub leads-await : Goes x (owing x) (statusAwaitRule g x)
@@ -201,7 +201,7 @@ module _ (w : Wrapper) (got put : List ℕ) (g : Given) where
 
       -- the bytes of the packet, those unread behind it, and how many they are
       topped-split : bytesOf (sendData g (topped x)) ++ unreadBytes (bufferAfter (sendData g (topped x))) ≡ xs ++ replicate fill 0xFF
-      topped-split = data-unread g (topped x) topped-sound ∙ topped-unread
+      topped-split = send-unread true g (topped x) topped-sound ∙ topped-unread
 
       record Figures : Type 0 where
         parts : length (bytesOf (sendData g (topped x))) + length (unreadBytes (bufferAfter (sendData g (topped x)))) ≡ length xs + fill
@@ -228,11 +228,11 @@ module _ (w : Wrapper) (got put : List ℕ) (g : Given) where
           let f : Figures = figures in
           cases (serves (inFor g))
           (λ serving.
-          let sent : sendData g (topped x) .sent ≡ min (P x) left = data-sent g (topped x) serving ∙ ap (min (P x)) (f .known) ∙ omega (arith, f .filled, f .within) in
-          rw (data-told g (topped x) serving)
+          let sent : sendData g (topped x) .sent ≡ min (P x) left = send-sent true g (topped x) serving ∙ ap (min (P x)) (f .known) ∙ omega (arith, f .filled, f .within) in
+          rw (send-answer true g (topped x) serving)
           (omega (arith, ceiling-falls (P x) left (sendData g (topped x) .device .left .0) (fit .some) (f .least) (data-left g (topped x) ∙ omega (arith, sent)))))
           (λ idle.
-          let e : sendData g (topped x) ≡ ends g (topped x) (answeredBy (inFor g)) = data-unserved g (topped x) idle (λ (none : unread (bufferAt (topped x)) ≡ 0). omega (arith, f .known, f .filled, f .least, fit .some)) in
+          let e : sendData g (topped x) ≡ ends g (topped x) (answeredBy (inFor g)) = send-unserved true g (topped x) idle (λ (none : unread (bufferAt (topped x)) ≡ 0). omega (arith, f .known, f .filled, f .least, fit .some)) in
           rw (e, unserved (inFor g) idle) (add-zero _))
 
       fill-bytes : (l : ℕ) → l + length (bytesOf (sendData g (topped x))) ≡ left → (got ++ bytesOf (sendData g (topped x))) ++ filledTo l (unreadBytes (bufferAfter (sendData g (topped x)))) ≡ filledTo (w .length) put
@@ -284,7 +284,7 @@ module _ (w : Wrapper) (got put : List ℕ) (g : Given) where
     to-fill = filled-behind _ (x .device .left .0) (w .length) got (unreadBytes (bufferAt x)) sum ∙ ap (filledTo (w .length)) same
 
     module _ (absent : isPresent (x .device .status) ≡ false) where
-      leads-rest : Goes x (owing x) (ends g (reaching DataTransferToHost x) (no 4))
+      leads-rest : Goes x (owing x) (ends g (reaching DataTransferToHost x) (answer 4))
       leads-rest long = record {
         wrapper = fit .wrapper;
         status = refl;
@@ -299,7 +299,7 @@ module _ (w : Wrapper) (got put : List ℕ) (g : Given) where
           let y : Point = reaching DataTransferToHost x in
           let ys : List ℕ = bytesOf (sendData g y) in
           let rest : List ℕ = unreadBytes (bufferAfter (sendData g y)) in
-          let split : ys ++ rest ≡ unreadBytes (bufferAt x) = data-unread g y (fit .sound) in
+          let split : ys ++ rest ≡ unreadBytes (bufferAt x) = send-unread true g y (fit .sound) in
           let parts : length ys + length rest ≡ length (unreadBytes (bufferAt x)) = sym (length-append ys rest) ∙ ap length split in
           let none : length (laterBytes (x .taken) g (sendData g y)) ≡ 0 = no-later g (x .taken) in
           record {
@@ -339,10 +339,10 @@ module _ (w : Wrapper) (got put : List ℕ) (g : Given) where
           cases (serves (outFor g dropped))
           (λ serving.
           let whole : length (g .one) ≡ min (P x) (x .device .left .0) = (rw (take-taken g dropped sound fits room serving, first) at full) .0 in
-          rw (take-told g dropped sound fits room serving)
+          rw (take-answer g dropped sound fits room serving)
           (omega (arith, ceiling-falls (P x) (x .device .left .0) (takeData g dropped .device .left .0) (fit .some) (omega (arith, more)) (take-left g dropped sound fits room serving ∙ rw it-is (omega (arith, whole))))))
           (λ idle.
-          let u : (takeData g dropped .told ≡ answeredBy (outFor g dropped)) × Idle g dropped (takeData g dropped) = take-unserved g dropped sound fits room idle in
+          let u : (takeData g dropped .answer ≡ answeredBy (outFor g dropped)) × Idle g dropped (takeData g dropped) = take-unserved g dropped sound fits room idle in
           let kept : takeData g dropped .device .left .0 ≡ x .device .left .0 = ap (λ (d : Device). d .left .0) (u .1 .device) in
           rw (u .0, unserved (outFor g dropped) idle, kept) (add-zero _))
 

@@ -25,13 +25,13 @@ use Rattle.device.specs.Broken.{Whole}
 use Rattle.device.proofs.Wholly.{whole-sound, wrapper-fits, packet-fits, packet-known, packet-bounds}
 use Rattle.bbb.specs.Poll.{Given, Polling, Point, point, bufferAt, sendStatus, statusTransferRule, ruleIn, pollRule, Fits, refusing, pollCall}
 use Rattle.bbb.proofs.Keeping.{by-call, call-whole, call-sizes}
-use Rattle.calls.specs.declared.Figure.{Figure}
+use Rattle.calls.specs.declared.FirmwareStatus.{FirmwareStatus}
 use Rattle.calls.specs.declared.Request.{Request}
 use Rattle.calls.specs.Checks.{isIn, bufferOf}
 use Rattle.calls.specs.Status.{Stating, takesStatus, withFigure}
 use Rattle.calls.specs.Data.{Moving, limited, readCall, writeCall, writeAllCall}
 use Rattle.calls.specs.Bus.{Handling}
-use Rattle.calls.proofs.After.{by-status, status-whole, data-elsewhere, read-keeps, read-whole, write-keeps, write-whole, write-most, write-unread, write-all-keeps, write-all-whole, write-all-told, write-all-unread, by-request}
+use Rattle.calls.proofs.After.{by-status, status-whole, data-elsewhere, read-keeps, read-whole, write-keeps, write-whole, write-most, write-unread, write-all-keeps, write-all-whole, write-all-answer, write-all-unread, by-request}
 use Rattle.readout.specs.History.{Socket, socket, Event, poll, status, write, writeAll, read, reset, control, command, commandStep, Shows, ofStatus, ofBus, shows, isServed, isPoll, served, isReset, isStatus, accepts}
 use Rattle.readout.specs.Demand.{Full, ceiling}
 use Rattle.readout.proofs.Ceiling.{ceiling-none}
@@ -43,7 +43,7 @@ use Rattle.readout.proofs.Rules.{bytesOf, poll-long, still, Fit, Leads,
 pub record Steps (w : Wrapper) (p : ℕ) (got put : List ℕ) (s : Socket) (accepted : Bool) (k : ℕ) (o : Shows) : Type 0 where
   pub transfer : Transfer w p (got ++ o .sent) (put ++ o .put) (o .socket)
   pub status : accepted ≡ false → o .socket .device .status ≡ s .device .status
-  pub count : isPresent (s .device .status) ≡ true → Full (min (s .device .packetsize) (s .device .left .0)) (o .taken) → due (o .socket) + k ≡ due s
+  pub count : isPresent (s .device .status) ≡ true → Full (min (s .device .fixed .packetsize) (s .device .left .0)) (o .taken) → due (o .socket) + k ≡ due s
   pub wire : takesStatus (stateNumber (o .socket .device .state)) ≡ true → o .socket .device .left .0 ≡ s .device .left .0 - (length (o .sent) + length (flatten (o .taken)))
 
 -- where nothing crosses the wire, left stays
@@ -58,7 +58,7 @@ module _ (w : Wrapper) (p : ℕ) (got put : List ℕ) (few : length put ≤ w .l
   start = point (s .device) (s .io) 0 false
 
   abbrev GoesOn : Polling → Type 0
-  GoesOn o = Leads w got put g 0 (s .device .packetsize) (s .device .status) (s .device .left .0) (due s) o
+  GoesOn o = Leads w got put g 0 (s .device .fixed .packetsize) (s .device .status) (s .device .left .0) (due s) o
 
   fit : Fit w start
   fit =
@@ -66,14 +66,14 @@ module _ (w : Wrapper) (p : ℕ) (got put : List ℕ) (few : length put ≤ w .l
       let len = length (s .io) in
       record {
         sound = whole-sound n (s .io) (t .whole);
-        some = omega (arith, packet-bounds (s .device .packetsize) (packet-known n len (t .whole)) .0);
+        some = omega (arith, packet-bounds (s .device .fixed .packetsize) (packet-known n len (t .whole)) .0);
         packet = packet-fits n len (t .whole);
         status = omega (arith, wrapper-fits n len (t .whole));
         wrapper = t .wrapper;
       }
 
   -- by the state in which it starts
-  module _ (fits : Fits (s .device .packetsize) (g .packet) (g .one) (g .two)) where
+  module _ (fits : Fits (s .device .fixed .packetsize) (g .packet) (g .one) (g .two)) where
     -- in 3 something is unread
     unread-some : s .device .state ≡ StatusTransfer → 0 < length (unreadIn s)
     unread-some e =
@@ -81,16 +81,16 @@ module _ (w : Wrapper) (p : ℕ) (got put : List ℕ) (few : length put ≤ w .l
         cases (eqb n 0)
         (λ h.
         let none : n ≡ 0 = eqb-true n 0 h in
-        let z : 0 < ceiling 0 (s .device .packetsize) = rw (e, none) at unfinished in
-        absurd (omega (arith, ceiling-none (s .device .packetsize) (fit .some))))
+        let z : 0 < ceiling 0 (s .device .fixed .packetsize) = rw (e, none) at unfinished in
+        absurd (omega (arith, ceiling-none (s .device .fixed .packetsize) (fit .some))))
         (λ h. omega (arith, eqb-false n 0 h))
 
     -- the poll as a rule of the state σ
     abbrev GoesIn : State → Type 0
     GoesIn σ = length (bytesOf (ruleIn σ g start)) ≡ ruleIn σ g start .sent
-        → Leads w got put g 0 (s .device .packetsize) (s .device .status) (s .device .left .0) (dueIn σ (s .device .packetsize) (s .device .left .0) (length (unreadIn s))) (ruleIn σ g start)
+        → Leads w got put g 0 (s .device .fixed .packetsize) (s .device .status) (s .device .left .0) (dueIn σ (s .device .fixed .packetsize) (s .device .left .0) (length (unreadIn s))) (ruleIn σ g start)
 
-    in-3 : s .device .state ≡ StatusTransfer → (length (bytesOf (sendStatus g start)) ≡ sendStatus g start .sent → Leads w got put g 0 (s .device .packetsize) (s .device .status) (s .device .left .0) (ceiling (length (unreadIn s)) (s .device .packetsize)) (sendStatus g start))
+    in-3 : s .device .state ≡ StatusTransfer → (length (bytesOf (sendStatus g start)) ≡ sendStatus g start .sent → Leads w got put g 0 (s .device .fixed .packetsize) (s .device .status) (s .device .left .0) (ceiling (length (unreadIn s)) (s .device .fixed .packetsize)) (sendStatus g start))
         → GoesIn StatusTransfer
     unfolding ruleIn statusTransferRule
     in-3 e sends =
@@ -125,7 +125,7 @@ module _ (w : Wrapper) (p : ℕ) (got put : List ℕ) (few : length put ≤ w .l
       record {
         transfer = record {
           whole = call-whole (s .device) (s .io) g (t .whole);
-          packetsize = call-sizes (s .device) (s .io) g .packetsize ∙ t .packetsize;
+          packetsize = call-sizes (s .device) (s .io) g .fixed .packetsize ∙ t .fixed .packetsize;
           wrapper = l .wrapper;
           phase = rw append-nil (l .phase);
         };
@@ -151,14 +151,14 @@ module _ (w : Wrapper) (p : ℕ) (got put : List ℕ) (s : Socket) (t : Transfer
   restated σ st takes (fromHostEnding e dir none) = fromHostEnding e dir none
   restated σ st takes (sending c r e here all) = absurd (clash (sym (rw e at takes)))
 
-  status-steps : (f : Figure) → Steps w p got put s (accepts (status f) s) (served (status f) s) (shows (status f) s)
+  status-steps : (f : FirmwareStatus) → Steps w p got put s (accepts (status f) s) (served (status f) s) (shows (status f) s)
   unfolding shows served isPoll accepts isStatus withFigure
   status-steps f =
       by-status (s .device) (s .io) f
       (λ (o : Stating). Whole (numbersOf (o .device)) (length (s .io)) → Steps w p got put s (eqb (o .number) 0) 0 (ofStatus (s .io) o))
       (λ _. unchanged 10 false) (λ _. unchanged 12 false)
       (λ takes _ whole. record {
-        transfer = record { whole = whole; packetsize = t .packetsize; wrapper = t .wrapper; phase = rw (append-nil, append-nil) (restated (s .device .state) _ takes (t .phase)) };
+        transfer = record { whole = whole; packetsize = t .fixed .packetsize; wrapper = t .wrapper; phase = rw (append-nil, append-nil) (restated (s .device .state) _ takes (t .phase)) };
         status = λ refused. absurd (clash refused);
         count = λ _ _. add-zero _;
         wire = λ _. nothing-moved (s .device .left .0);
@@ -183,20 +183,20 @@ module _ (w : Wrapper) (p : ℕ) (got put : List ℕ) (s : Socket) (t : Transfer
     same-left : d .left .0 ≡ s .device .left .0
     same-left = ap (λ (x : Device). x .left .0) keeps
 
-    same-packetsize : d .packetsize ≡ s .device .packetsize
-    same-packetsize = ap (λ (x : Device). x .packetsize) keeps
+    same-packetsize : d .fixed .packetsize ≡ s .device .fixed .packetsize
+    same-packetsize = ap (λ (x : Device). x .fixed .packetsize) keeps
 
     marked : (σ : State) → s .device .state ≡ σ → (n : ℕ) (ys : List ℕ) → Phase w got (put ++ ys) σ (s .device .status) (s .device .left .0) (unreadBytes (bufferOf d io)) → ((k m : ℕ) → dueIn σ p (s .device .left .0) k ≡ dueIn σ p (s .device .left .0) m)
         → Steps w p got put s false 0 (record { socket = socket d io; number = n; taken = []; sent = []; put = ys })
     marked σ at-σ n ys phase level = record {
       transfer = record {
         whole = whole;
-        packetsize = same-packetsize ∙ t .packetsize;
+        packetsize = same-packetsize ∙ t .fixed .packetsize;
         wrapper = ap (λ (x : Device). x .wrapper) keeps ∙ t .wrapper;
         phase = rw (append-nil, same-state, same-status, same-left, at-σ) phase;
       };
       status = λ _. same-status;
-      count = λ _ _. rw (same-state, same-left, same-packetsize, at-σ, t .packetsize) (add-zero _ ∙ level _ _);
+      count = λ _ _. rw (same-state, same-left, same-packetsize, at-σ, t .fixed .packetsize) (add-zero _ ∙ level _ _);
       wire = λ _. same-left ∙ nothing-moved (s .device .left .0);
     }
 
@@ -253,7 +253,7 @@ module _ (w : Wrapper) (p : ℕ) (got put : List ℕ) (s : Socket) (t : Transfer
       let o : Moving = writeAllCall d io src in
       cases (isIn 4 d)
       (λ in4.
-      let counted : o .count ≡ cond (lacksRoom (length src) (bufferOf d io)) 0 (length src) = write-all-told d io (t .whole) src in4 .1 in
+      let counted : o .count ≡ cond (lacksRoom (length src) (bufferOf d io)) 0 (length src) = write-all-answer d io (t .whole) src in4 .1 in
       put-in (o .device) (o .bytes) (write-all-keeps d io src) (write-all-whole d io (t .whole) src) in4 _ (take (o .count) src)
       (write-all-unread d io (t .whole) src in4 ∙ cases (lacksRoom (length src) (bufferOf d io)) (λ full. rw (counted, full) (sym (append-nil (unreadIn s)))) (λ room. rw (counted, room, take-length))) (d .state) refl (t .phase))
       (λ elsewhere. rw (data-elsewhere 4 d io io _ (t .whole) elsewhere) (unchanged 3 false))

@@ -43,7 +43,7 @@ unreadIn s = unreadBytes (bufferOf (s .device) (s .io))
 
 pub record Transfer (w : Wrapper) (p : ℕ) (got put : List ℕ) (s : Socket) : Type 0 where
   pub whole : Whole (numbersOf (s .device)) (length (s .io))
-  pub packetsize : s .device .packetsize ≡ p
+  pub packetsize : s .device .fixed .packetsize ≡ p
   pub wrapper : s .device .wrapper ≡ w
   pub phase : Phase w got put (s .device .state) (s .device .status) (s .device .left .0) (unreadIn s)
 
@@ -60,4 +60,4 @@ dueIn DataTransferFromHost p left unread = ceiling left p + ceiling 13 p
 dueIn DataTransferFromHostEnding p left unread = ceiling left p + ceiling 13 p
 
 abbrev pub due : Socket → ℕ
-due s = dueIn (s .device .state) (s .device .packetsize) (s .device .left .0) (length (unreadIn s))
+due s = dueIn (s .device .state) (s .device .fixed .packetsize) (s .device .left .0) (length (unreadIn s))

@@ -11,7 +11,7 @@ use lib.ListN.{length, take}
 use Rattle.fields.proofs.Bools.{clash}
 use Rattle.buffer.specs.Buffer.{Sound, unread, unreadBytes, lacksRoom}
 use Rattle.buffer.proofs.Kept.{length-unread}
-use Rattle.answers.specs.Answers.{no, serves}
+use Rattle.answers.specs.Answers.{answer, serves}
 use Rattle.ring.specs.declared.State.{State}
 use Rattle.ring.specs.declared.State.the-variants.{CommandTransfer, CommandTransferInvalid, DataTransferNoData, StatusTransfer, DataTransferToHost, DataTransferToHostStatusAwait, DataTransferToHostEnding, DataTransferFromHost, DataTransferFromHostEnding}
 use Rattle.ring.specs.States.{stateNumber}
@@ -30,7 +30,7 @@ use Rattle.readout.proofs.Rules.{packetsOf}
 -- Of a wrapper m came so far: it is unread, in 0; in 3, with the whole status out, nothing came.
 pub record Arriving (p : ℕ) (m : List ℕ) (s : Socket) : Type 0 where
   pub whole : Whole (numbersOf (s .device)) (length (s .io))
-  pub packetsize : s .device .packetsize ≡ p
+  pub packetsize : s .device .fixed .packetsize ≡ p
   pub waits : waitsIn (s .device .state) ≡ true
   pub unread : unreadIn s ≡ m
   pub none-in-3 : s .device .state ≡ StatusTransfer → m ≡ []
@@ -71,7 +71,7 @@ from-count {x = x} f = sym (length-unread (bufferAt x) (f .sound)) ∙ ap length
 -- What comes of it: nothing; a packet, and fewer than 31 bytes are unread; or as many, and they are parsed.
 pub data Reads (g : Given) (x : Point) (o : Polling) : Type 0 where
   idle : Idle g x o → Reads g x o
-  short : lacksRoom (P x) (bufferAt x) ≡ false → serves (firstFor g) ≡ true → o ≡ ends g (arrived g x) (no 0) → unread (bufferAt x) + length (g .one) < 31 → Reads g x o
+  short : lacksRoom (P x) (bufferAt x) ≡ false → serves (firstFor g) ≡ true → o ≡ ends g (arrived g x) (answer 0) → unread (bufferAt x) + length (g .one) < 31 → Reads g x o
   ripe : lacksRoom (P x) (bufferAt x) ≡ false → serves (firstFor g) ≡ true → o ≡ parseRule g (arrived g x) → 31 ≤ unread (bufferAt x) + length (g .one) → Reads g x o
 
 reads : (g : Given) (x : Point) → Sound (bufferAt x) → length (g .one) ≤ P x → Reads g x (readCbwRule g x)
@@ -95,7 +95,7 @@ ripe-first g x o e = first-of (o .taken) (g .one) (g .two) (rw e (parse-taken g 
 
 -- ---- a poll of a device that waits
 
-module _ (p : ℕ) (m : List ℕ) (s : Socket) (a : Arriving p m s) (g : Given) (fits : Fits (s .device .packetsize) (g .packet) (g .one) (g .two)) where
+module _ (p : ℕ) (m : List ℕ) (s : Socket) (a : Arriving p m s) (g : Given) (fits : Fits (s .device .fixed .packetsize) (g .packet) (g .one) (g .two)) where
   abbrev start : Point
   start = point (s .device) (s .io) 0 false
 
@@ -106,14 +106,14 @@ module _ (p : ℕ) (m : List ℕ) (s : Socket) (a : Arriving p m s) (g : Given) 
   marks-sound = whole-sound (numbersOf (s .device)) (s .io) (a .whole)
 
   -- a point with the record's marks reads what is unread
-  from : (d : Device) (unstalled : Bool) → d .packetsize ≡ s .device .packetsize → d .marks ≡ s .device .marks → d .state ≡ CommandTransfer → isPresent (d .status) ≡ false → From m g (point d (s .io) 0 unstalled)
+  from : (d : Device) (unstalled : Bool) → d .fixed .packetsize ≡ s .device .fixed .packetsize → d .marks ≡ s .device .marks → d .state ≡ CommandTransfer → isPresent (d .status) ≡ false → From m g (point d (s .io) 0 unstalled)
   from d unstalled size marks state absent =
       let n = numbersOf (s .device) in
       let len = length (s .io) in
       record {
         sound = rw marks marks-sound;
         small = rw size (fits .first);
-        some = rw size (omega (arith, packet-bounds (s .device .packetsize) (packet-known n len (a .whole)) .0));
+        some = rw size (omega (arith, packet-bounds (s .device .fixed .packetsize) (packet-known n len (a .whole)) .0));
         packet = rw size (packet-fits n len (a .whole));
         wide = wrapper-fits n len (a .whole);
         unread = rw marks (a .unread);

@@ -8,29 +8,29 @@ use lib.ListN.{length}
 use Rattle.fields.proofs.Bools.{of-picked}
 use Rattle.buffer.specs.Buffer.{Buffer, buffer, at, unread, lacksRoom}
 use Rattle.answers.specs.declared.Endpoint.{Endpoint}
-use Rattle.answers.specs.Answers.{Told, endpointOf, serves}
+use Rattle.answers.specs.Answers.{Answering, endpointOf, serves}
 use Rattle.ring.specs.declared.State.{State}
 use Rattle.ring.specs.declared.State.the-variants.{CommandTransfer, CommandTransferInvalid, DataTransferNoData, StatusTransfer, DataTransferToHost, DataTransferToHostStatusAwait, DataTransferToHostEnding, DataTransferFromHost, DataTransferFromHostEnding}
 use Rattle.wrapper.specs.Wrapper.{isValid, wrapperOf}
-use Rattle.packets.specs.Packets.{readTold, takesOne, received}
+use Rattle.packets.specs.Packets.{readAnswer, takesOne, received}
 use Rattle.packets.proofs.Laws.{answers-0}
 use Rattle.device.specs.Device.{numbersOf, isPresent}
 use Rattle.device.specs.Broken.{Whole}
 use Rattle.bbb.specs.Poll.{Given, Polling, Point, point, bufferAt, reaching, leaving, counting, sendStatus, sendData, offeredBy, takeBy, takeData, enterStatus, statusAwaitRule, noDataRule, toHostEndingRule, fallsShort, toHostRule, fromHostEndingRule, fromHostRule, ordered, startRule, messageAt, behind31, parseRule, readBy, readOneBy, readCbwRule, entering, statusTransferRule, invalidRule, ruleIn, pollRule, pollCall}
 use Rattle.bbb.proofs.Keeping.{by-direction, call-done}
-use Rattle.bbb.proofs.After.{P, firstFor, outFor, topped, stated, data-told, status-told}
+use Rattle.bbb.proofs.After.{P, firstFor, outFor, topped, stated, send-answer}
 use Rattle.readout.specs.History.{Socket, poll, shows, isServed, isPoll, served}
 use Rattle.readout.specs.Demand.{Willing}
 
 -- it answers 0, 1 or 4
 abbrev Does : Polling → Type 0
-Does o = isServed (o .told .number) ≡ true
+Does o = isServed (o .answer .number) ≡ true
 
 module _ (g : Given) (first : serves (endpointOf (g .turn .first)) ≡ true) (second : serves (endpointOf (g .turn .second)) ≡ true) (into : serves (endpointOf (g .turn .write)) ≡ true) where
   -- a read answers 0 or 1
-  read-does : (p : ℕ) (e : Endpoint) (s : Buffer) → serves e ≡ true → isServed (readTold p e s .number) ≡ true
-  unfolding readTold isServed
-  read-does p e s serving = of-picked (λ (t : Told). isServed (t .number) ≡ true) (lacksRoom p s) (λ _. refl) (λ _. rw (answers-0 e serving))
+  read-does : (p : ℕ) (e : Endpoint) (s : Buffer) → serves e ≡ true → isServed (readAnswer p e s .number) ≡ true
+  unfolding readAnswer isServed
+  read-does p e s serving = of-picked (λ (t : Answering). isServed (t .number) ≡ true) (lacksRoom p s) (λ _. refl) (λ _. rw (answers-0 e serving))
 
   offered-serves : (n : ℕ) → serves (offeredBy n (g .turn)) ≡ true
   unfolding offeredBy
@@ -39,11 +39,11 @@ module _ (g : Given) (first : serves (endpointOf (g .turn .first)) ≡ true) (se
   module _ (x : Point) where
     status-does : Does (sendStatus g x)
     unfolding isServed
-    status-does = rw (status-told g x into)
+    status-does = rw (send-answer false g x into)
 
     data-does : Does (sendData g x)
     unfolding isServed
-    data-does = rw (data-told g x into)
+    data-does = rw (send-answer true g x into)
 
     take-does : Does (takeData g x)
     unfolding takeData takeBy

@@ -4,7 +4,7 @@ use mathlib.Core.List.{List, [], _∷_, _++_}
 use Prim.Native.Nat.{ℕ, _+_}
 use lib.ListN.{length, replicate, take, drop}
 use Rattle.fields.specs.Case.{Case, case}
-use Rattle.device.specs.Create.{newDevice}
+use Rattle.device.specs.Create.{fixed, newDevice}
 use Rattle.bbb.specs.Poll.{Given, given}
 use Rattle.readout.specs.History.{Socket, socket, Event, poll, status, write, read, commandStep, Shows, shows, next, all}
 use Rattle.readout.specs.Demand.{Story, told, ended, L, R, number, firmware, host, servedSince, crossed, ceiling, theData, theStatus}
@@ -29,7 +29,7 @@ busy n = given (replicate n 7) [] [] (record { first = 1; second = 1; write = 1 
 
 -- a new device, and an IO buffer of zeros
 abbrev pub new : ℕ → ℕ → Socket
-new p size = socket (newDevice p 0 size) (replicate size 0)
+new p size = socket (newDevice (fixed p 0 size)) (replicate size 0)
 
 -- a wrapper with this tag and these flags, LUN 0 and a block of 6 zeros, which declares L below 256 bytes
 abbrev pub cbw : ℕ → ℕ → ℕ → List ℕ
@@ -56,7 +56,7 @@ read64 = record {
   arrival = [];
   completing = taking 64 (wrapper 130);
   before = [];
-  figure = record { status = 0; processed = 0 };
+  given = record { status = 0; figure = 0 };
   after = poll (sending 64) ∷ poll (busy 64) ∷ poll (sending 64) ∷ poll (sending 63) ∷ poll (sending 64) ∷ [];
 }
 
@@ -67,7 +67,7 @@ bare8 = record {
   arrival = three (wrapper 0);
   completing = fourth (wrapper 0);
   before = [];
-  figure = record { status = 0; processed = 0 };
+  given = record { status = 0; figure = 0 };
   after = poll (busy 8) ∷ poll (sending 8) ∷ poll (sending 7) ∷ [];
 }
 
@@ -78,7 +78,7 @@ short8 = record {
   arrival = three (wrapper 10);
   completing = fourth (wrapper 10);
   before = write (1 ∷ 2 ∷ 3 ∷ 4 ∷ []) ∷ [];
-  figure = record { status = 0; processed = 4 };
+  given = record { status = 0; figure = 4 };
   after = poll (sending 8) ∷ poll (busy 8) ∷ poll (sending 8) ∷ poll (sending 7) ∷ poll (sending 8) ∷ [];
 }
 
@@ -92,8 +92,8 @@ write8 = record {
   start = next (poll (sending 8)) (ended short8);
   arrival = poll (taking 8 (take 8 (from-host 20))) ∷ poll (taking 8 (take 8 (drop 8 (from-host 20)))) ∷ commandStep ∷ poll (sending 8) ∷ poll (taking 8 (take 8 (drop 16 (from-host 20)))) ∷ [];
   completing = takingTwo 8 (drop 24 (from-host 20)) (replicate 8 3);
-  before = read (0 ∷ 0 ∷ []) ∷ status (record { status = 2; processed = 5 }) ∷ [];
-  figure = record { status = 1; processed = 8 };
+  before = read (0 ∷ 0 ∷ []) ∷ status (record { status = 2; figure = 5 }) ∷ [];
+  given = record { status = 1; figure = 8 };
   after = poll (taking 8 (replicate 8 3)) ∷ poll (sending 8) ∷ poll (taking 8 (replicate 4 3)) ∷ poll (sending 8) ∷ [];
 }
 
@@ -105,7 +105,7 @@ full8 = record {
   arrival = three (wrapper 20);
   completing = fourth (wrapper 20);
   before = commandStep ∷ write (1 ∷ 2 ∷ 3 ∷ 4 ∷ 5 ∷ 6 ∷ 7 ∷ 8 ∷ []) ∷ poll (sending 8) ∷ write (9 ∷ 10 ∷ 11 ∷ 12 ∷ 13 ∷ 14 ∷ 15 ∷ 16 ∷ []) ∷ poll (busy 8) ∷ poll (sending 8) ∷ [];
-  figure = record { status = 0; processed = 20 };
+  given = record { status = 0; figure = 20 };
   after = write (17 ∷ 18 ∷ 19 ∷ 20 ∷ []) ∷ poll (sending 8) ∷ poll (busy 8) ∷ poll (sending 8) ∷ [];
 }
 

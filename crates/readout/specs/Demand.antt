@@ -19,7 +19,7 @@ use Rattle.wrapper.specs.Wrapper.{Valid, wrapperOf}
 use Rattle.device.specs.Device.{numbersOf}
 use Rattle.device.specs.Broken.{Whole}
 use Rattle.bbb.specs.Poll.{Given, Fits}
-use Rattle.calls.specs.declared.Figure.{Figure}
+use Rattle.calls.specs.declared.FirmwareStatus.{FirmwareStatus}
 use Rattle.calls.specs.Checks.{bufferOf}
 use Rattle.calls.specs.Status.{takesStatus}
 use Rattle.readout.specs.History.{Socket, Event, poll, status, shows, next, run, sentIn, putIn, takenIn, arrivedIn, served, servedIn, isReset, accepts, Throughout}
@@ -33,7 +33,7 @@ pub record Story : Type 0 where
   pub arrival : List Event
   pub completing : Given
   pub before : List Event
-  pub figure : Figure
+  pub given : FirmwareStatus
   pub after : List Event
 
 -- the history up to its wrapper, up to its last status, and all of it
@@ -44,7 +44,7 @@ abbrev pub toStatus : Story → List Event
 toStatus t = toWrapper t ++ t .before
 
 abbrev pub history : Story → List Event
-history t = toStatus t ++ (status (t .figure) ∷ t .after)
+history t = toStatus t ++ (status (t .given) ∷ t .after)
 
 -- the socket when the wrapper was parsed, when its last status comes, with that status, and at the end
 abbrev pub parsed : Story → Socket
@@ -53,8 +53,8 @@ parsed t = run (toWrapper t) (t .start)
 abbrev pub reached : Story → Socket
 reached t = run (toStatus t) (t .start)
 
-abbrev pub told : Story → Socket
-told t = next (status (t .figure)) (reached t)
+abbrev pub answer : Story → Socket
+told t = next (status (t .given)) (reached t)
 
 abbrev pub ended : Story → Socket
 ended t = run (history t) (t .start)
@@ -71,7 +71,7 @@ L t = wrapper t .length
 
 -- "P being the packet size"; R: "When its status is accepted with R data bytes left"
 abbrev pub P : Story → ℕ
-P t = t .start .device .packetsize
+P t = t .start .device .fixed .packetsize
 
 abbrev pub R : Story → ℕ
 R t = reached t .device .left .0
@@ -125,7 +125,7 @@ Full n (packet ∷ packets) = (length packet ≡ n) × Full n packets
 pub record Later (e : Event) (s : Socket) : Type 0 where
   pub no-reset : isReset e ≡ false
   pub no-status : accepts e s ≡ false
-  pub full : Full (min (s .device .packetsize) (s .device .left .0)) (shows e s .taken)
+  pub full : Full (min (s .device .fixed .packetsize) (s .device .left .0)) (shows e s .taken)
 
 pub record Supposed (t : Story) : Type 0 where
   pub between : Between (t .start)
@@ -134,7 +134,7 @@ pub record Supposed (t : Story) : Type 0 where
   pub valid : Valid (message t)
   -- "No reset follows"; "its status is accepted"
   pub earlier : Throughout Earlier (t .before) (parsed t)
-  pub accepted : accepts (status (t .figure)) (reached t) ≡ true
+  pub accepted : accepts (status (t .given)) (reached t) ≡ true
   pub later : Throughout Later (t .after) (told t)
   -- "the firmware puts in at most L bytes"
   pub few : length (firmware t) ≤ L t
@@ -166,7 +166,7 @@ theData t = dataOf (wrapper t .direction) (L t) (firmware t)
 
 -- "one status with that tag and the residue of the last accepted status", and its byte
 abbrev pub theStatus : Story → List ℕ
-theStatus t = statusBytes (wrapper t .tag) (residueOf (L t) (t .figure .processed)) (t .figure .status)
+theStatus t = statusBytes (wrapper t .tag) (residueOf (L t) (t .given .figure)) (t .given .status)
 
 -- The last status byte is not out: what the host got goes on, by one byte or more, to what it is to get.
 pub record NotYet (t : Story) : Type 0 where
@@ -183,7 +183,7 @@ pub record Ends (t : Story) (g : Given) : Type 0 where
 
 -- A poll whose packets fit and whose endpoints all do their part.
 pub record Willing (g : Given) (s : Socket) : Type 0 where
-  pub fits : Fits (s .device .packetsize) (g .packet) (g .one) (g .two)
+  pub fits : Fits (s .device .fixed .packetsize) (g .packet) (g .one) (g .two)
   pub first : serves (endpointOf (g .turn .first)) ≡ true
   pub second : serves (endpointOf (g .turn .second)) ≡ true
   pub write : serves (endpointOf (g .turn .write)) ≡ true

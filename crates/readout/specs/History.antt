@@ -7,7 +7,7 @@ use lib.Dec.{eqb}
 use lib.ListN.{take}
 use Rattle.device.specs.declared.Device.{Device}
 use Rattle.bbb.specs.Poll.{Given, Polling, pollCall}
-use Rattle.calls.specs.declared.Figure.{Figure}
+use Rattle.calls.specs.declared.FirmwareStatus.{FirmwareStatus}
 use Rattle.calls.specs.declared.Request.{Request}
 use Rattle.calls.specs.Status.{Stating, setStatusCall}
 use Rattle.calls.specs.Data.{Moving, readCall, writeCall, writeAllCall}
@@ -27,7 +27,7 @@ pub data Event : Type 0 where
   -- a poll, with what the endpoints answer and offer, and with its packet buffer
   poll : Given → Event
   -- a status byte with the firmware's figure
-  status : Figure → Event
+  status : FirmwareStatus → Event
   -- `write_data` and `try_write_data_all`, with their source; `read_data`, with its destination
   write : List ℕ → Event
   writeAll : List ℕ → Event
@@ -50,7 +50,7 @@ pub record Shows : Type 0 where
 
 -- of the two packets offered so many were taken; "The packet buffer holds the sent bytes in front"
 abbrev pub ofPoll : Given → Polling → Shows
-ofPoll g o = record { socket = socket (o .device) (o .io); number = o .told .number; taken = take (o .taken) (g .one ∷ g .two ∷ []); sent = take (o .sent) (o .packet); put = [] }
+ofPoll g o = record { socket = socket (o .device) (o .io); number = o .answer .number; taken = take (o .taken) (g .one ∷ g .two ∷ []); sent = take (o .sent) (o .packet); put = [] }
 
 abbrev pub ofStatus : List ℕ → Stating → Shows
 ofStatus io o = record { socket = socket (o .device) io; number = o .number; taken = []; sent = []; put = [] }

@@ -1,7 +1,7 @@
 -- `calls::write_data` meets its contract: a source cut to min(left, its length) is cut to left. Assumes nothing.
 use mathlib.Core.Path.{sym}
 use borrow.Author.Needs.{needs}
-use Rattle.calls.proofs.Laws.{length-cut, ways}
+use Rattle.calls.proofs.Laws.{length-cut, data-done, writes, ways}
 use Rattle.calls.proofs.write_data.Statement.{statement}
 use Rattle.calls.proofs.write_data.Tie as tie
 
@@ -35,8 +35,14 @@ left-at-requires c κs = search needs
 same-length : tie.Need-same-length
 same-length c = search needs
 
+-- the tests lie too far back to be found
 returns-2 : tie.Need-returns-2
-returns-2 c = search (ways, needs)
+returns-2 c =
+    let put = c .before .before .before .before in
+    let least = put .before .before .before in
+    let test = least .before .before .before .before in
+    data-done _ _ _ _ _ (test .before .before .before .broken .ensures) (test .before .before .if1 .left) (test .before .is-in .ensures) (test .if2 .taken)
+    (writes _ _ _ (least .least .ensures) (put .write .ensures .0) (put .write .ensures .1) (c .left-at .ensures))
 
 refused-requires-2 : tie.Need-refused-requires-2
 refused-requires-2 c κs = search needs

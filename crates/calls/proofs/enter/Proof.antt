@@ -1,0 +1,8 @@
+-- `calls::enter` meets its contract: the record rebuilt. Assumes nothing.
+use borrow.Author.Needs.{needs}
+use Rattle.calls.proofs.Laws.{ways}
+use Rattle.calls.proofs.enter.Statement.{statement}
+use Rattle.calls.proofs.enter.Tie as tie
+
+pub enter-spec : {M : Type 1} → statement M
+enter-spec = tie.close (tie.spec (λ c κs. search needs) (λ c. search (ways, needs)))
