@@ -1,14 +1,10 @@
 -- No second answer satisfies a promise: what the `ensures` of an exported call says is true of one answer alone, and of one content of
 -- each lent slice at exit. `Post` is the contract itself, as the check reads it. Assumes nothing.
-use mathlib.Core.Path.{_≡_, refl, sym, ap, _∙_}
-use mathlib.Core.List.{List}
-use Prim.Native.Nat.{ℕ}
+use mathlib.Core.Path.{refl, sym, ap, _∙_}
 use denote.Ref.{now}
 use Rattle.fields.proofs.Only.{Only}
-use Rattle.codechost.specs.Decode.{Shown, shown}
+use Rattle.scsi.proofs.Unique.{shown-once}
 use Rattle.codechost.specs.Layout.{Parse, parse, Status}
-use Rattle.codechost.proofs.decode.put_command.Kinds as put-command-kinds
-use Rattle.codechost.proofs.decode.put_command.Reads as put-command
 use Rattle.codechost.proofs.decode.scsi_decode.Kinds as scsi-decode-kinds
 use Rattle.codechost.proofs.decode.scsi_decode.Reads as scsi-decode
 use Rattle.codechost.proofs.decode.scsi_decode_told.Kinds as scsi-decode-told-kinds
@@ -19,12 +15,6 @@ use Rattle.codechost.proofs.layout.wrapper_status.Kinds as wrapper-stat
 use Rattle.codechost.proofs.layout.wrapper_status.Reads as wrapper-status
 use Rattle.codechost.proofs.layout.wrapper_verdict.Kinds as wrapper-verdict-kinds
 use Rattle.codechost.proofs.layout.wrapper_verdict.Reads as wrapper-verdict
-
-shown-once : {n k : ℕ} {l m : List ℕ} → shown n l ≡ shown k m → (n ≡ k) × (l ≡ m)
-shown-once e = (ap (λ (s : Shown). s .number) e, ap (λ (s : Shown). s .lent) e)
-
-pub put-command-only : Only 1 put-command-kinds.ps put-command-kinds.r put-command.Post (λ κs s. now (s .0))
-put-command-only κs a x y s t p q = (refl, p ∙ sym q)
 
 pub scsi-decode-only : Only 2 scsi-decode-kinds.ps scsi-decode-kinds.r scsi-decode.Post (λ κs s. now (s .1 .0))
 scsi-decode-only κs a x y s t p q = shown-once (p ∙ sym q)

@@ -1,4 +1,4 @@
--- What a caller in C or Rust sees of the wrapper, the status and the verdict. Assumes nothing: these are definitions.
+-- What a caller in C or Rust sees of the wrapper and the status. Assumes nothing: these are definitions.
 use Prim.Native.Nat.{ℕ}
 use mathlib.Core.Bool.{Bool, cond, _&&_}
 use mathlib.Core.List.{List, [], _∷_}

@@ -3,7 +3,7 @@ use buffer::span::put;
 use wrapper::Wrapper;
 use wrapper::direction_number;
 use wrapper::status::StatusByte;
-use wrapper::verdict::Verdict;
+use wrapper::verdict::verdict_number;
 ghost use mathlib.Core.Path.{_≡_};
 ghost use lib.ListN.{length};
 ghost use Rattle.wrapper.specs.Verdict.{verdictOf, verdictNumber};
@@ -75,10 +75,5 @@ pub extern "C" fn wrapper_status(
 pub extern "C" fn wrapper_verdict(message: &[u8], maxlun: u8) -> u32
     ensures { λ r. ⌜ r ≡ verdictNumber (verdictOf maxlun (now (message .entry))) ⌝ }
 {
-    let v = wrapper::verdict::verdict_on(message, maxlun);
-    match v {
-        Verdict::Invalid => 0,
-        Verdict::ValidOnly => 1,
-        Verdict::Meaningful => 2,
-    }
+    verdict_number(message, maxlun)
 }

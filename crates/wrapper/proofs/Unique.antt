@@ -36,6 +36,8 @@ use Rattle.wrapper.proofs.parse.Kinds as parse-kinds
 use Rattle.wrapper.proofs.parse.Reads as parse
 use Rattle.wrapper.proofs.verdict.verdict_on.Kinds as verdict-on-kinds
 use Rattle.wrapper.proofs.verdict.verdict_on.Reads as verdict-on
+use Rattle.wrapper.proofs.verdict.verdict_number.Kinds as verdict-number-kinds
+use Rattle.wrapper.proofs.verdict.verdict_number.Reads as verdict-number
 
 -- document 01's number, and the status's own, tell the answer
 untold : Taken → StatusByte
@@ -89,3 +91,6 @@ parse-only κs a x y s t p q = (p ∙ sym q, refl)
 
 pub verdict-on-only : Only 1 verdict-on-kinds.ps verdict-on-kinds.r verdict-on.Post (λ κs s. tt {0})
 verdict-on-only κs a x y s t p q = (p ∙ sym q, refl)
+
+pub verdict-number-only : Only 1 verdict-number-kinds.ps verdict-number-kinds.r verdict-number.Post (λ κs s. tt {0})
+verdict-number-only κs a x y s t p q = (p ∙ sym q, refl)

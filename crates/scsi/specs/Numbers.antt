@@ -1,15 +1,15 @@
--- What a caller in C or Rust sees of the decoder: 01's number as the result, and six numbers for the command.
+-- A command as six numbers, and what a caller in C or Rust sees of the decoder: 01's number as the result, and those six.
 -- Assumes nothing: these are definitions.
 use Prim.Native.Nat.{ℕ}
 use mathlib.Core.Bool.{Bool, true, false, cond}
 use mathlib.Core.List.{List, [], _∷_}
 use lib.Dec.{eqb, leb}
 use lib.ListN.{length}
 use Rattle.scsi.specs.declared.PageControl.{PageControl}
 use Rattle.scsi.specs.declared.PageControl.the-variants.{CurrentValues, ChangeableValues, DefaultValues, SavedValues}
 use Rattle.scsi.specs.declared.ScsiCommand.{ScsiCommand}
 use Rattle.scsi.specs.declared.ScsiCommand.the-variants.{Unknown, Inquiry, TestUnitReady, RequestSense, ModeSense6, ModeSense10, ReadCapacity10, ReadCapacity16, Read, Write, ReadFormatCapacities}
 use Rattle.scsi.specs.Decoding.{Outcome, decodeCall, plainCall}
 
 -- a flag is 0 or 1; SPC's numbers of PAGE CONTROL
 abbrev pub flagNumber : Bool → ℕ
