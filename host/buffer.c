@@ -14,7 +14,7 @@ void *memset(void *, int, size_t);
 int memcmp(const void *, const void *, size_t);
 _Noreturn void exit(int);
 
-/* crates/bufferhost: a slice is a pointer and then a length; marks are read mark, write mark and count */
+/* crates/leafhost: a slice is a pointer and then a length; marks are read mark, write mark and count */
 uint32_t buffer_available(const uint8_t *io, size_t io_len, size_t *marks, size_t marks_len);
 uint32_t buffer_clean(const uint8_t *io, size_t io_len, size_t *marks, size_t marks_len);
 uint32_t buffer_shift(uint8_t *io, size_t io_len, size_t *marks, size_t marks_len);

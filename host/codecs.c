@@ -17,7 +17,7 @@ void *memset(void *, int, size_t);
 int strcmp(const char *, const char *);
 _Noreturn void exit(int);
 
-/* crates/codechost: a slice is a pointer and then a length */
+/* crates/leafhost: a slice is a pointer and then a length */
 uint32_t scsi_decode(const uint8_t *block, size_t block_len, uint64_t *command, size_t command_len);
 uint32_t scsi_decode_told(const uint8_t *block, size_t block_len, uint32_t extended, uint64_t *command, size_t command_len);
 uint32_t wrapper_parse(const uint8_t *message, size_t message_len, uint32_t *fields, size_t fields_len, uint8_t *block,

@@ -16,7 +16,7 @@ use native.Mathlib.Omega.{arith}
 use lib.Dec.{eqb, leb}
 use lib.ListN.{length, take, drop, length-take}
 use lib.Seq.{length-take-le, take-take}
-use borrow.Author.Tests.{eqb-true, eqb-false, ne-eqb, le-leb, leb-true}
+use borrow.Author.Tests.{ne-eqb, le-leb, leb-true}
 use borrow.Table.Steps.{cases}
 use Rattle.fields.specs.Overlay.{overlay}
 use Rattle.fields.proofs.Bools.{and-left, of-picked, clash}
@@ -27,7 +27,6 @@ use Rattle.buffer.proofs.Room.{room-left, fitting-by-unread}
 use Rattle.buffer.proofs.Unread.{unread-written, unread-writtenAll, unread-readOff}
 use Rattle.answers.specs.declared.Stalls.the-variants.{Kept}
 use Rattle.answers.specs.Answers.{Answering, answer}
-use Rattle.wrapper.specs.Status.{statusNumber}
 use Rattle.scsi.specs.Decoding.{decodeCall, plainCall}
 use Rattle.ring.specs.declared.State.{State}
 use Rattle.ring.specs.declared.State.the-variants.{CommandTransfer, CommandTransferInvalid, DataTransferNoData, StatusTransfer, DataTransferToHost, DataTransferToHostStatusAwait, DataTransferToHostEnding, DataTransferFromHost, DataTransferFromHostEnding}
@@ -39,7 +38,7 @@ use Rattle.device.proofs.Wholly.{passes, either, whole-sound}
 use Rattle.calls.specs.declared.FirmwareStatus.{FirmwareStatus}
 use Rattle.calls.specs.declared.Request.{Request}
 use Rattle.calls.specs.Checks.{isIn, bufferOf}
-use Rattle.calls.specs.Status.{Stating, stating, takesStatus, statusOf, withFigure, acceptedStatus, setStatusCall}
+use Rattle.calls.specs.Status.{Stating, stating, takesStatus, withFigure, acceptedStatus, setStatusCall}
 use Rattle.calls.specs.Data.{Moving, moving, worksIn, leaving, readOut, readCall, limited, writeIn, writeCall, writeAllIn, writeAllCall}
 use Rattle.calls.specs.Bus.{Handling, handling, entering, resetCall, served, controlCall}
 use Rattle.calls.specs.Command.{showing, isShown, commandCall, stepping, isOffered, offering, blockOf, stepCall}
@@ -111,13 +110,6 @@ pub status-accepted : (d : Device) (io : List ℕ) (f : FirmwareStatus) → eqb 
 status-accepted d io f =
     by-status d io f (λ (o : Stating). eqb (o .answer .number) 0 ≡ true → Accepted d f o) (λ h. absurd (clash (sym h))) (λ h. absurd (clash (sym h)))
     (λ _ byte _. record { device = refl; byte = byte })
-
--- which is the byte of the status that it stands for
-pub status-byte : (b : ℕ) → b ≤ 2 → statusNumber (statusOf b) ≡ b
-unfolding statusOf
-status-byte b h =
-    cases (eqb b 0) (λ e. rw e (sym (eqb-true b 0 e)))
-    (λ e. cases (eqb b 1) (λ k. rw (e, k) (sym (eqb-true b 1 k))) (λ k. rw (e, k) (omega (arith, eqb-false b 0 e, eqb-false b 1 k))))
 
 -- "a later one replaces the earlier"
 pub status-later : (d : Device) (f g : FirmwareStatus) → withFigure f (withFigure g d) ≡ withFigure f d

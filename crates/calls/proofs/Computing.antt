@@ -3,11 +3,11 @@ use Rattle.wrapper.proofs.Computing as wrapper
 use Rattle.scsi.proofs.Computing as scsi
 use Rattle.device.proofs.Computing as device
 use Rattle.calls.specs.Checks.{isIn}
-use Rattle.calls.specs.Status.{takesStatus, statusOf, withFigure, acceptedStatus, setStatusCall}
+use Rattle.calls.specs.Status.{takesStatus, withFigure, acceptedStatus, setStatusCall}
 use Rattle.calls.specs.Data.{worksIn, readOut, limited, writeIn, writeAllIn}
 use Rattle.calls.specs.Bus.{entering, resetCall, served, controlCall}
 use Rattle.calls.specs.Command.{isShown, commandCall, isOffered, offering, blockOf, stepCall}
 
 unfoldable pub computing : Unit {0}
-unfolding isIn takesStatus statusOf withFigure acceptedStatus setStatusCall worksIn readOut limited writeIn writeAllIn entering resetCall served controlCall isShown commandCall isOffered offering blockOf stepCall wrapper.computing scsi.computing device.computing
+unfolding isIn takesStatus withFigure acceptedStatus setStatusCall worksIn readOut limited writeIn writeAllIn entering resetCall served controlCall isShown commandCall isOffered offering blockOf stepCall wrapper.computing scsi.computing device.computing
 computing = tt

@@ -19,12 +19,12 @@ use Rattle.answers.specs.Answers.{Answering, answer}
 use Rattle.wrapper.specs.declared.counters.Left.{Left}
 use Rattle.wrapper.specs.declared.counters.Residue.{Residue}
 use Rattle.wrapper.specs.declared.status.CommandStatus.{CommandStatus}
-use Rattle.wrapper.specs.declared.status.CommandStatus.the-variants.{Passed, Failed, PhaseError}
 use Rattle.wrapper.specs.declared.status.StatusByte.{StatusByte}
 use Rattle.wrapper.specs.declared.status.StatusByte.the-variants.{Known, Refused}
 use Rattle.wrapper.specs.Counters.{residueOf}
 use Rattle.wrapper.specs.Status as csw
 use Rattle.wrapper.proofs.Csw.{status-accepted, status-above}
+use Rattle.wrapper.proofs.Numbers.{status-back}
 use Rattle.scsi.specs.declared.Decoded.{Decoded}
 use Rattle.scsi.specs.declared.Decoded.the-variants as scsi
 use Rattle.scsi.specs.declared.ScsiCommand.{ScsiCommand}
@@ -45,7 +45,7 @@ use Rattle.calls.specs.declared.Handled.{Handled}
 use Rattle.calls.specs.declared.command.Shown.{Shown}
 use Rattle.calls.specs.declared.command.Step.{Step}
 use Rattle.calls.specs.Checks.{isIn, bufferOf}
-use Rattle.calls.specs.Status.{stating, statedOf, refuses, takesStatus, statusOf, withFigure, acceptedStatus, setStatusCall}
+use Rattle.calls.specs.Status.{stating, statedOf, refuses, takesStatus, withFigure, acceptedStatus, setStatusCall}
 use Rattle.calls.specs.Data.{Moving, movedOf, unmoved, movesTo, worksIn, leaving, readOut, limited, writeIn, writeAllIn}
 use Rattle.calls.specs.Bus.{handledOf, keeps, enters0, entering, resetCall, served, controlCall}
 use Rattle.calls.specs.Command.{shownOf, showing, hides, isShown, commandCall, offered, steppedOf, stepping, offersNone, isOffered, offering, blockOf, stepCall}
@@ -96,12 +96,6 @@ module _ (s : ℕ) where
   unfolding takesStatus
   takes-in-7 n m k = rw (ne-eqb _ _ n, ne-eqb _ _ m, ne-eqb _ _ k)
 
-status-again : (s : CommandStatus) → s ≡ statusOf (csw.statusNumber s)
-unfolding statusOf
-status-again Passed = refl
-status-again Failed = refl
-status-again PhaseError = refl
-
 module _ (d : Device) (f : FirmwareStatus) {s : StatusByte} (h : csw.told s ≡ csw.statusCall (f .status)) where
   pub figure-refused : s ≡ Refused → {r : Stated} → r ≡ refuses d StatusRefused → statedOf r ≡ acceptedStatus d f
   unfolding acceptedStatus
@@ -112,7 +106,7 @@ module _ (d : Device) (f : FirmwareStatus) {s : StatusByte} (h : csw.told s ≡ 
   unfolding acceptedStatus withFigure
   figure-taken {c} k {r} hr he =
       let known = status-accepted (f .status) c (sym (ap csw.told k) ∙ h) in
-      let same : c ≡ statusOf (f .status) = status-again c ∙ ap statusOf (known .1) in
+      let same : c ≡ csw.statusOfNumber (f .status) = sym (status-back c) ∙ ap csw.statusOfNumber (known .1) in
       rw (le-leb _ _ (known .0), he, hr, same)
 
 module _ (d : Device) (io : List ℕ) (f : FirmwareStatus) {b : Bool} (h : b ≡ not (isWhole (numbersOf d) (length io))) where

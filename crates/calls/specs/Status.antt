@@ -5,9 +5,8 @@ use mathlib.Core.List.{List}
 use lib.Dec.{eqb, leb}
 use Rattle.answers.specs.declared.Answer.{Answer}
 use Rattle.answers.specs.Answers.{Answering, answer, answerOf}
-use Rattle.wrapper.specs.declared.status.CommandStatus.{CommandStatus}
-use Rattle.wrapper.specs.declared.status.CommandStatus.the-variants.{Passed, Failed, PhaseError}
 use Rattle.wrapper.specs.Counters.{residueOf}
+use Rattle.wrapper.specs.Status.{statusOfNumber}
 use Rattle.ring.specs.States.{stateNumber}
 use Rattle.device.specs.declared.Device.{Device}
 use Rattle.device.specs.declared.Status.the-variants.{Present}
@@ -35,13 +34,9 @@ refuses d answer = record { device = d; answer = answer }
 unfoldable pub takesStatus : ℕ → Bool
 takesStatus state = eqb state 2 || (eqb state 4 || (eqb state 5 || eqb state 7))
 
--- "`CommandStatus`, as in BOT: 0 passed, 1 failed, 2 phase error."
-unfoldable pub statusOf : ℕ → CommandStatus
-statusOf byte = cond (eqb byte 0) Passed (cond (eqb byte 1) Failed PhaseError)
-
 -- "a later one replaces the earlier"; "The residue is L less the firmware's figure"
 unfoldable pub withFigure : FirmwareStatus → Device → Device
-withFigure f d = withStatus (Present (statusOf (f .status)) (residueOf (d .wrapper .length) (f .figure))) d
+withFigure f d = withStatus (Present (statusOfNumber (f .status)) (residueOf (d .wrapper .length) (f .figure))) d
 
 -- 12: ".. or a status byte above 2"
 unfoldable pub acceptedStatus : Device → FirmwareStatus → Stating

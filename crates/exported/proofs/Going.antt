@@ -26,7 +26,8 @@ use Rattle.answers.specs.Answers.{no, endpointOf}
 use Rattle.ring.specs.declared.State.{State}
 use Rattle.ring.specs.declared.State.the-variants as ring
 use Rattle.ring.specs.declared.State.the-variants.{DataTransferToHost, DataTransferToHostEnding, DataTransferFromHost}
-use Rattle.ring.specs.States.{stateNumber}
+use Rattle.ring.specs.States.{stateNumber, stateOfNumber}
+use Rattle.ring.proofs.Numbers.{state-number}
 use Rattle.wrapper.specs.declared.counters.Left.{Left}
 use Rattle.wrapper.specs.Counters.{fallen}
 use Rattle.packets.specs.Packets.{handed, readTold, takesOne, brought, received, accepted, sentCount, sentOff, sentInto}
@@ -40,8 +41,8 @@ use Rattle.device.proofs.Wholly.{whole-sound, size-most, packet-known, packet-b
 use Rattle.bbb.specs.Poll.{Given, Polling, Fits, isFitting, point, sendData, dataBy, takeData, takeBy, offers, offeredBy, toHostEndingRule, toHostRule, fromHostRule, ruleIn, pollRule, pollCall}
 use Rattle.bbb.proofs.Keeping.{call-done}
 use Rattle.recordbytes.specs.Layout as field
-use Rattle.recordbytes.specs.Record.{stateOf, statusBy, statusAt, marksAt, wrapperAt, deviceAt, storeState, storeMarks, storeLeft}
-use Rattle.recordbytes.proofs.Stored.{state-number, known-is}
+use Rattle.recordbytes.specs.Record.{statusBy, statusAt, marksAt, wrapperAt, deviceAt, storeState, storeMarks, storeLeft}
+use Rattle.recordbytes.proofs.Stored.{known-is}
 use Rattle.exported.specs.Word.{word}
 use Rattle.exported.specs.Onward.{Steady, Ready, sendsIn, Sending, MaySend, Taking, MayTake, bufferOf, SendsOn, TakesOn}
 
@@ -110,7 +111,7 @@ module _ (r : List ℕ) where
   -- neither 10 nor 11
   module _ (len packet one two : ℕ) (long : length r ≡ 52) (s : Steady r len) (state : get field.state r ≤ 8) (flag : get field.present r ≤ 1)
       (order : get field.readMark r ≤ get field.writeMark r) (within : get field.writeMark r ≤ len)
-      (suits : statusFits (stateOf (get field.state r)) (isPresent (statusAt r)) ≡ true) (fits : isFitting (get field.packetSize r) packet one two ≡ true) where
+      (suits : statusFits (stateOfNumber (get field.state r)) (isPresent (statusAt r)) ≡ true) (fits : isFitting (get field.packetSize r) packet one two ≡ true) where
     is-ready : Ready r len packet one two
     unfolding deviceAt marksAt wrapperAt
     is-ready = record {
@@ -129,9 +130,9 @@ module _ (r : List ℕ) where
       let known : get field.state r ≤ 8 = sends-known (get field.state r) sends in
       let flag : get field.present r ≡ 1 = sym ef ∙ one-there in
       let there : isPresent (statusAt r) ≡ true = flag-present flag in
-      let in-one : sendsIn (stateNumber (stateOf (get field.state r))) ≡ true = rw (state-number (get field.state r) known) sends in
-      let suits : statusFits (stateOf (get field.state r)) (isPresent (statusAt r)) ≡ true =
-      rw there (sending-in (λ (x : State). statusFits x true ≡ true) (stateOf (get field.state r)) in-one refl refl) in
+      let in-one : sendsIn (stateNumber (stateOfNumber (get field.state r))) ≡ true = rw (state-number (get field.state r) known) sends in
+      let suits : statusFits (stateOfNumber (get field.state r)) (isPresent (statusAt r)) ≡ true =
+      rw there (sending-in (λ (x : State). statusFits x true ≡ true) (stateOfNumber (get field.state r)) in-one refl refl) in
       record {
         ready = is-ready len packet one two long (steady (not-false s qs)) known (omega (arith, flag)) (omega (arith, er, et, order)) (omega (arith, et, within)) suits (rw ep at (sym ev ∙ qv));
         sends = record { present = there; state = in-one; served = served; left = omega (arith, ep, el, some); unread = omega (arith, ep, er, et, order) };
@@ -141,7 +142,7 @@ module _ (r : List ℕ) where
       → length r ≡ 52 → state ≡ get field.state r → state ≡ 7 → flag ≡ get field.present r → flag ≡ 0 → first ≡ 0
       → left ≡ get field.left r → (left ≡ 0 → ⊥) → (s ≡ true → Steady r len) → not s ≡ false → p ≡ get field.packetSize r
       → to ≡ get field.writeMark r → to + p ≤ len → from ≡ get field.readMark r → from ≤ to → v ≡ isFitting p packet one two → v ≡ true → MayTake r len packet one two first
-  unfolding deviceAt marksAt stateOf
+  unfolding deviceAt marksAt stateOfNumber
   may-take len packet one two first {s = s} long es seven ef none-there served el some steady qs ep et room er order ev qv =
       let state : get field.state r ≡ 7 = sym es ∙ seven in
       let flag : get field.present r ≡ 0 = sym ef ∙ none-there in

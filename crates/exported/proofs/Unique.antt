@@ -6,7 +6,7 @@ use mathlib.Core.List.{List}
 use Prim.Native.Nat.{ℕ}
 use denote.Ref.{now}
 use Rattle.fields.proofs.Only.{Only}
-use Rattle.codechost.specs.Decode as codec
+use Rattle.scsi.proofs.Unique as scsi
 use Rattle.exported.specs.Calls.{Left, leaves, Moved, moves, Polled, polls}
 use Rattle.exported.specs.Command.{Shown, shows}
 use Rattle.exported.proofs.held.Kinds as held-kinds
@@ -59,9 +59,6 @@ polled-once e = (ap (λ (o : Polled). o .result) e, ap (λ (o : Polled). polls 0
 shown-once : {n k : ℕ} {l m : List ℕ} → shows n l ≡ shows k m → (n ≡ k) × (l ≡ m)
 shown-once e = (ap (λ (o : Shown). o .result) e, ap (λ (o : Shown). o .lent) e)
 
-decoded-once : {n k : ℕ} {l m : List ℕ} → codec.shown n l ≡ codec.shown k m → (n ≡ k) × (l ≡ m)
-decoded-once e = (ap (λ (o : codec.Shown). o .number) e, ap (λ (o : codec.Shown). o .lent) e)
-
 -- ---- inner functions
 
 pub held-only : Only 1 held-kinds.ps held-kinds.r held.Post (λ κs s. tt {0})
@@ -104,10 +101,10 @@ pub souk-command-step-only : Only 3 souk-command-step-kinds.ps souk-command-step
 souk-command-step-only κs a x y s t p q = shown-once (p ∙ sym q)
 
 pub souk-decode-only : Only 2 souk-decode-kinds.ps souk-decode-kinds.r souk-decode.Post (λ κs s. now (s .1 .0))
-souk-decode-only κs a x y s t p q = decoded-once (p ∙ sym q)
+souk-decode-only κs a x y s t p q = scsi.shown-once (p ∙ sym q)
 
 pub souk-decode-told-only : Only 2 souk-decode-told-kinds.ps souk-decode-told-kinds.r souk-decode-told.Post (λ κs s. now (s .1 .1 .0))
-souk-decode-told-only κs a x y s t p q = decoded-once (p ∙ sym q)
+souk-decode-told-only κs a x y s t p q = scsi.shown-once (p ∙ sym q)
 
 pub souk-verdict-only : Only 1 souk-verdict-kinds.ps souk-verdict-kinds.r souk-verdict.Post (λ κs s. tt {0})
 souk-verdict-only κs a x y s t p q = (p ∙ sym q, refl)

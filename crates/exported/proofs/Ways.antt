@@ -34,7 +34,7 @@ use Rattle.calls.specs.declared.command.Offer.the-variants.{Nothing as None}
 use Rattle.calls.specs.declared.command.Step.{Step}
 use Rattle.calls.specs.Command.{shownOf, commandCall, Stepping, offers, steppedOf, stepCall}
 use Rattle.scsi.specs.declared.ScsiCommand.{ScsiCommand}
-use Rattle.codechost.specs.Decode.{numbers}
+use Rattle.scsi.specs.Numbers.{numbers}
 use Rattle.device.specs.declared.create.Created.{Created}
 use Rattle.device.specs.Create.{creation, Creation, createdOf, createCall}
 use Rattle.calls.proofs.After.{by-request, stops, status-keeps, read-keeps, read-whole, read-within, write-keeps, write-whole, write-within, write-all-keeps, write-all-whole, write-all-within}

@@ -6,7 +6,7 @@ use lib.Dec.{eqb}
 use lib.ListN.{length}
 use Rattle.device.specs.declared.Device.{Device}
 use Rattle.calls.specs.Command.{Showing, commandCall, Offered, stepCall}
-use Rattle.codechost.specs.Decode.{flagNumber, numbers}
+use Rattle.scsi.specs.Numbers.{flagNumber, numbers}
 use Rattle.exported.specs.Word.{word, plain}
 use Rattle.exported.specs.Record.{onDevice}
 

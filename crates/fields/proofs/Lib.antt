@@ -1,5 +1,6 @@
 -- Laws for the proofs of every crate.
 --     Bools, Seq    tests and lists
+--     UpTo          every number up to a given one
 --     Overlay       a list laid over a part of another, and the loops that do it
 --     Field         numbers in bytes: one law for each width
 --     Case          how a table of cases is shown to hold; tables can be joined
@@ -10,6 +11,7 @@
 --     Cases         the cases of specs/Cases.antt hold
 pub mod Bools
 pub mod Seq
+pub mod UpTo
 pub mod Overlay
 pub mod Field
 pub mod Case

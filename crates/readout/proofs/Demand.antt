@@ -14,15 +14,17 @@ use Rattle.wrapper.specs.declared.DataDirection.{DataDirection}
 use Rattle.wrapper.specs.declared.DataDirection.the-variants.{Out, In, NotExpected}
 use Rattle.wrapper.specs.declared.Wrapper.{Wrapper}
 use Rattle.wrapper.specs.Counters.{residueOf}
+use Rattle.wrapper.specs.Status.{statusOfNumber}
 use Rattle.wrapper.proofs.Csw.{length-status}
+use Rattle.wrapper.proofs.Numbers.{status-number}
 use Rattle.device.specs.declared.Device.{Device}
 use Rattle.device.specs.declared.Status.the-variants.{Present}
 use Rattle.device.specs.Device.{numbersOf}
 use Rattle.device.proofs.Wholly.{whole-sound, packet-known, packet-bounds}
 use Rattle.bbb.specs.Poll.{Given}
 use Rattle.calls.specs.Checks.{bufferOf}
-use Rattle.calls.specs.Status.{takesStatus, statusOf, withFigure, setStatusCall}
-use Rattle.calls.proofs.After.{Accepted, status-accepted, status-byte}
+use Rattle.calls.specs.Status.{takesStatus, withFigure, setStatusCall}
+use Rattle.calls.proofs.After.{Accepted, status-accepted}
 use Rattle.readout.specs.History.{Socket, Event, poll, status, Shows, shows, next, run, all, sentIn, putIn, takenIn, firstOf, arrivedIn, served, isReset, isStatus, accepts}
 use Rattle.readout.specs.Demand.{Story, toWrapper, toStatus, history, parsed, reached, told, ended, message, wrapper, L, P, R, host, firmware, servedSince, crossed, Between, Later, Supposed, number, dataOf, theData, theStatus, NotYet, Ends, Demand}
 use Rattle.readout.proofs.Filled.{length-filled}
@@ -135,9 +137,9 @@ module _ (t : Story) (u : Supposed t) where
   unfolding shows
   told-is = here .device
 
-  told-status : told t .device .status ≡ Present (statusOf (t .given .status)) (residueOf (L t) (t .given .figure))
+  told-status : told t .device .status ≡ Present (statusOfNumber (t .given .status)) (residueOf (L t) (t .given .figure))
   unfolding withFigure
-  told-status = ap (λ (d : Device). d .status) told-is ∙ ap (λ (w : Wrapper). Present (statusOf (t .given .status)) (residueOf (w .length) (t .given .figure))) (arrived-there .wrapper)
+  told-status = ap (λ (d : Device). d .status) told-is ∙ ap (λ (w : Wrapper). Present (statusOfNumber (t .given .status)) (residueOf (w .length) (t .given .figure))) (arrived-there .wrapper)
 
   takes : takesStatus (stateNumber (reached t .device .state)) ≡ true
   takes = rw reached-is (met-before .takes)
@@ -173,7 +175,7 @@ module _ (t : Story) (u : Supposed t) where
   -- The end of a story with fewer served polls: the invariant, the status, and what is due.
   record Sum : Type 0 where
     transfer : Transfer (wrapper t) (P t) (host t) (firmware t) (ended t)
-    status : ended t .device .status ≡ Present (statusOf (t .given .status)) (residueOf (L t) (t .given .figure))
+    status : ended t .device .status ≡ Present (statusOfNumber (t .given .status)) (residueOf (L t) (t .given .figure))
     count : due (ended t) + servedSince t ≡ number t
 
   sum : servedSince t < number t → Sum
@@ -216,8 +218,8 @@ module _ (t : Story) (u : Supposed t) where
   -- ---- what is promised
 
   -- the status that is promised is the one that is present
-  the-status : bytesFor (wrapper t .tag) (Present (statusOf (t .given .status)) (residueOf (L t) (t .given .figure))) ≡ theStatus t
-  the-status = rw (status-byte (t .given .status) (here .byte))
+  the-status : bytesFor (wrapper t .tag) (Present (statusOfNumber (t .given .status)) (residueOf (L t) (t .given .figure))) ≡ theStatus t
+  the-status = rw (status-number (t .given .status) (here .byte))
 
   positive : 0 < P t
   positive = omega (arith, packet-bounds (P t) (packet-known (numbersOf (t .start .device)) (length (t .start .io)) (u .between .whole)) .0)
@@ -238,7 +240,7 @@ module _ (t : Story) (u : Supposed t) where
       let st : Steps (wrapper t) (P t) (host t) (firmware t) e (accepts (poll g) e) (served (poll g) e) (shows (poll g) e) =
       event-steps (wrapper t) (P t) (host t) (firmware t) (u .few) e (z .transfer) (omega (arith, z .count)) (poll g) (later .no-reset) in
       let o : Socket = next (poll g) e in
-      let same : o .device .status ≡ Present (statusOf (t .given .status)) (residueOf (L t) (t .given .figure)) = st .status (later .no-status) ∙ z .status in
+      let same : o .device .status ≡ Present (statusOfNumber (t .given .status)) (residueOf (L t) (t .given .figure)) = st .status (later .no-status) ∙ z .status in
       let none-due : due o ≡ 0 = omega (arith, st .count (rw (z .status)) (later .full), z .count) in
       let r : Rests (wrapper t) (host t ++ shows (poll g) e .sent) (firmware t ++ shows (poll g) e .put) (o .device .state) (o .device .status) (unreadIn o) =
       rests (wrapper t) _ _ (o .device .fixed .packetsize) (rw (st .transfer .fixed .packetsize) positive) (o .device .state) (o .device .status) (o .device .left .0) (unreadIn o) _ _ same (st .transfer .phase) none-due in

@@ -18,7 +18,7 @@ use Rattle.fields.specs.Field.{Field, bytesAt, counted, ordered, get}
 use Rattle.fields.proofs.Overlay.{length-overlay, part-before}
 use Rattle.buffer.specs.declared.Marks.{Marks}
 use Rattle.ring.specs.declared.State.{State}
-use Rattle.ring.specs.States.{stateNumber}
+use Rattle.ring.specs.States.{stateNumber, stateOfNumber}
 use Rattle.wrapper.specs.declared.Wrapper.{Wrapper}
 use Rattle.wrapper.specs.declared.counters.Left.{Left}
 use Rattle.wrapper.specs.Status.{statusNumber}
@@ -27,7 +27,7 @@ use Rattle.device.specs.declared.Status.{Status}
 use Rattle.device.specs.declared.Status.the-variants.{Absent, Present}
 use Rattle.device.specs.Device.{inState, withMarks, withStatus, withWrapper, withLeft}
 use Rattle.recordbytes.specs.Layout as field
-use Rattle.recordbytes.specs.Record.{stateOf, statusAt, marksAt, wrapperAt, deviceAt, storeState, storeMarks, storeLeft, storeStatus, storeWrapper, storeDevice}
+use Rattle.recordbytes.specs.Record.{statusAt, marksAt, wrapperAt, deviceAt, storeState, storeMarks, storeLeft, storeStatus, storeWrapper, storeDevice}
 use Rattle.recordbytes.proofs.Storing.{isApart}
 use Rattle.recordbytes.proofs.Stored.{Write, write, storeAll, areWithin, areApart, length-all, get-elsewhere, Known, state-kept, marks-kept, left-kept, status-kept, wrapper-kept}
 
@@ -37,7 +37,7 @@ module _ (r : List ℕ) (k : Known r) (ws : List Write) (within : areWithin 52 w
   reads : (g : Field) → areApart g ws ≡ true → get g (storeAll ws r) ≡ get g r
   reads g a = get-elsewhere 52 g ws r (k .long) within a
 
-  state-behind : areApart field.state ws ≡ true → storeState (stateOf (get field.state r)) (storeAll ws r) ≡ storeAll ws r
+  state-behind : areApart field.state ws ≡ true → storeState (stateOfNumber (get field.state r)) (storeAll ws r) ≡ storeAll ws r
   state-behind a = rw (reads field.state a) at (state-kept (storeAll ws r) (rw (reads field.state a) (k .state)))
 
   marks-behind : areApart field.readMark ws ≡ true → areApart field.writeMark ws ≡ true → storeMarks (marksAt r) (storeAll ws r) ≡ storeAll ws r
@@ -82,7 +82,7 @@ module _ (r : List ℕ) (long : length r ≡ field.recordSize) (w : Wrapper) (si
 
 module _ (r : List ℕ) (k : Known r) where
   abbrev state₀ : State
-  state₀ = stateOf (get field.state r)
+  state₀ = stateOfNumber (get field.state r)
 
   abbrev left₀ : Left
   left₀ = record { 0 = get field.left r }

@@ -11,20 +11,19 @@ use Rattle.fields.specs.Field.{bytesAt, get}
 use Rattle.fields.proofs.Seq.{listed, part-listed}
 use Rattle.buffer.specs.declared.Marks.{Marks}
 use Rattle.ring.specs.declared.State.{State}
-use Rattle.ring.specs.declared.State.the-variants.{DataTransferFromHostEnding}
+use Rattle.ring.specs.States.{stateOfNumber}
 use Rattle.wrapper.specs.declared.DataDirection.{DataDirection}
-use Rattle.wrapper.specs.declared.DataDirection.the-variants.{Out}
 use Rattle.wrapper.specs.declared.Wrapper.{Wrapper}
 use Rattle.wrapper.specs.declared.status.CommandStatus.{CommandStatus}
-use Rattle.wrapper.specs.declared.status.CommandStatus.the-variants.{PhaseError}
+use Rattle.wrapper.specs.Status.{statusOfNumber}
+use Rattle.wrapper.specs.Wrapper.{directionOfNumber}
 use Rattle.device.specs.declared.Device.{Device}
 use Rattle.device.specs.declared.Numbers.{Numbers}
 use Rattle.device.specs.declared.Status.{Status}
 use Rattle.device.specs.declared.Status.the-variants.{Absent, Present}
 use Rattle.device.specs.Device.{numbersOf}
-use Rattle.calls.specs.Status.{statusOf}
 use Rattle.recordbytes.specs.Layout as field
-use Rattle.recordbytes.specs.Record.{isKnown, stateOf, directionOf, statusBy, statusAt, marksAt, wrapperAt, deviceAt}
+use Rattle.recordbytes.specs.Record.{isKnown, statusBy, statusAt, marksAt, wrapperAt, deviceAt}
 
 -- ---- whether bytes are a record
 
@@ -52,28 +51,14 @@ module _ (r : List ℕ) where
         unfolding isKnown
         by-direction hb ed = rw (eq-eqb _ _ h, ← es, le-leb _ _ hs, ← ep, le-leb _ _ hp, ← eb, le-leb _ _ hb, ← ed)
 
--- ---- numbers
-
--- none of the numbers before the last
-pub the-last-state : (n : ℕ) → ((((((((Unit {0} × (n ≡ 0 → ⊥)) × (n ≡ 1 → ⊥)) × (n ≡ 2 → ⊥)) × (n ≡ 3 → ⊥)) × (n ≡ 4 → ⊥)) × (n ≡ 5 → ⊥)) × (n ≡ 6 → ⊥)) × (n ≡ 7 → ⊥)) → DataTransferFromHostEnding ≡ stateOf n
-unfolding stateOf
-the-last-state n m =
-    rw (ne-eqb _ 0 (m .0 .0 .0 .0 .0 .0 .0 .1), ne-eqb _ 1 (m .0 .0 .0 .0 .0 .0 .1), ne-eqb _ 2 (m .0 .0 .0 .0 .0 .1), ne-eqb _ 3 (m .0 .0 .0 .0 .1), ne-eqb _ 4 (m .0 .0 .0 .1), ne-eqb _ 5 (m .0 .0 .1), ne-eqb _ 6 (m .0 .1), ne-eqb _ 7 (m .1))
-
-pub the-last-direction : (n : ℕ) → ((Unit {0} × (n ≡ 0 → ⊥)) × (n ≡ 1 → ⊥)) → Out ≡ directionOf n
-unfolding directionOf
-the-last-direction n m = rw (ne-eqb _ 0 (m .0 .1), ne-eqb _ 1 (m .1))
-
-pub the-last-status : (n : ℕ) → ((Unit {0} × (n ≡ 0 → ⊥)) × (n ≡ 1 → ⊥)) → PhaseError ≡ statusOf n
-unfolding statusOf
-the-last-status n m = rw (ne-eqb _ 0 (m .0 .1), ne-eqb _ 1 (m .1))
+-- ---- the status
 
 module _ (flag byte residue : ℕ) where
   pub no-status-there : flag ≡ 0 → Absent ≡ statusBy flag byte residue
   unfolding statusBy
   no-status-there e = rw (eq-eqb _ _ e)
 
-  pub status-there : (flag ≡ 0 → ⊥) → {s : CommandStatus} → s ≡ statusOf byte → Present s (record { 0 = residue }) ≡ statusBy flag byte residue
+  pub status-there : (flag ≡ 0 → ⊥) → {s : CommandStatus} → s ≡ statusOfNumber byte → Present s (record { 0 = residue }) ≡ statusBy flag byte residue
   unfolding statusBy
   status-there n e = rw (ne-eqb _ _ n, e)
 
@@ -92,13 +77,13 @@ module _ (r : List ℕ) where
   unfolding bytesAt
   reads-block h = sym (part-listed r 36 16 (omega arith))
 
-  pub reads-wrapper : {n t l u b : ℕ} {d : DataDirection} {k : List ℕ} → n ≡ get field.direction r → d ≡ directionOf n → k ≡ bytesAt field.block r
+  pub reads-wrapper : {n t l u b : ℕ} {d : DataDirection} {k : List ℕ} → n ≡ get field.direction r → d ≡ directionOfNumber n → k ≡ bytesAt field.block r
       → t ≡ get field.tag r → l ≡ get field.declared r → u ≡ get field.lun r → b ≡ get field.blockLength r
       → _≡_ {A = Wrapper} (record { tag = t; length = l; direction = d; lun = u; blocklength = b; block = k }) (wrapperAt r)
   unfolding wrapperAt
   reads-wrapper en ed ek et el eu eb = rw (ed, en, ek, et, el, eu, eb)
 
-  pub reads-device : {n p m size l : ℕ} {s : State} {marks : Marks} {w : Wrapper} {status : Status} → n ≡ get field.state r → s ≡ stateOf n → marks ≡ marksAt r → w ≡ wrapperAt r → status ≡ statusAt r
+  pub reads-device : {n p m size l : ℕ} {s : State} {marks : Marks} {w : Wrapper} {status : Status} → n ≡ get field.state r → s ≡ stateOfNumber n → marks ≡ marksAt r → w ≡ wrapperAt r → status ≡ statusAt r
       → p ≡ get field.packetSize r → m ≡ get field.maxLun r → size ≡ get field.size r → l ≡ get field.left r
       → _≡_ {A = Device} (record { packetsize = p; maxlun = m; size = size; state = s; marks = marks; wrapper = w; status = status; left = record { 0 = l } }) (deviceAt r)
   unfolding deviceAt
@@ -107,4 +92,4 @@ module _ (r : List ℕ) where
   pub reads-numbers : {d : Device} {x : Numbers} → d ≡ deviceAt r → x ≡ numbersOf d → x ≡ numbersOf (deviceAt r)
   reads-numbers ed ex = rw (← ed, ex)
 
-pub ruleset ways = (not-52, no-state, no-flag, no-status, by-direction, the-last-state, the-last-direction, the-last-status, no-status-there, status-there, reads-status, reads-marks, reads-block, reads-wrapper, reads-device, reads-numbers)
+pub ruleset ways = (not-52, no-state, no-flag, no-status, by-direction, no-status-there, status-there, reads-status, reads-marks, reads-block, reads-wrapper, reads-device, reads-numbers)

@@ -16,76 +16,28 @@ use Rattle.fields.specs.Field.{Field, bytesAt, counted, ordered, get}
 use Rattle.fields.proofs.Bools.{and-left}
 use Rattle.fields.proofs.Overlay.{part-inside}
 use Rattle.buffer.specs.Buffer.{at}
-use Rattle.ring.specs.declared.State.{State}
-use Rattle.ring.specs.declared.State.the-variants.{CommandTransfer, CommandTransferInvalid, DataTransferNoData, StatusTransfer, DataTransferToHost, DataTransferToHostStatusAwait, DataTransferToHostEnding, DataTransferFromHost, DataTransferFromHostEnding}
-use Rattle.ring.specs.States.{stateNumber}
-use Rattle.wrapper.specs.declared.DataDirection.{DataDirection}
-use Rattle.wrapper.specs.declared.DataDirection.the-variants.{Out, In, NotExpected}
+use Rattle.ring.specs.States.{stateNumber, stateOfNumber}
+use Rattle.ring.proofs.Numbers.{state-back, state-small}
 use Rattle.wrapper.specs.declared.Wrapper.{Wrapper}
 use Rattle.wrapper.specs.declared.counters.Residue.{Residue}
 use Rattle.wrapper.specs.declared.status.CommandStatus.{CommandStatus}
-use Rattle.wrapper.specs.declared.status.CommandStatus.the-variants.{Passed, Failed, PhaseError}
+use Rattle.wrapper.specs.declared.status.CommandStatus.the-variants.{Passed}
 use Rattle.wrapper.specs.Status.{statusNumber}
-use Rattle.wrapper.specs.Wrapper.{directionNumber, blank}
+use Rattle.wrapper.specs.Wrapper.{directionNumber, directionOfNumber, blank}
+use Rattle.wrapper.proofs.Numbers.{direction-back, direction-small, status-back, status-small}
 use Rattle.device.specs.declared.Device.{Device}
 use Rattle.device.specs.declared.Status.{Status}
 use Rattle.device.specs.declared.Status.the-variants.{Absent, Present}
 use Rattle.device.specs.Create.{newDevice}
-use Rattle.calls.specs.Status.{statusOf}
 use Rattle.recordbytes.specs.Layout as field
-use Rattle.recordbytes.specs.Record.{isKnown, stateOf, directionOf, statusBy, statusAt, marksAt, wrapperAt, deviceAt, storeState, storeMarks, storeLeft, storeStatus, storeWrapper, storeDevice, newRecord}
+use Rattle.recordbytes.specs.Record.{isKnown, statusBy, statusAt, marksAt, wrapperAt, deviceAt, storeState, storeMarks, storeLeft, storeStatus, storeWrapper, storeDevice, newRecord}
 use Rattle.recordbytes.specs.Storable.{Storable, RecordOf}
 use Rattle.recordbytes.proofs.Storing.{isApart}
 use Rattle.recordbytes.proofs.Reading.{reads-marks, reads-wrapper, reads-device, reads-status}
 use Rattle.recordbytes.proofs.Stored.{Write, write, storeAll, areWithin, areApart, length-all, bytes-elsewhere, get-elsewhere, get-there, known-is}
 use Rattle.recordbytes.proofs.Parts.{statusWrites, wrapperWrites, before-block, behind-wrapper, length-wrapper}
 
--- ---- a number tells what it stands for, and is a byte
-
-state-back : (s : State) → stateOf (stateNumber s) ≡ s
-unfolding stateOf
-state-back CommandTransfer = refl
-state-back CommandTransferInvalid = refl
-state-back DataTransferNoData = refl
-state-back StatusTransfer = refl
-state-back DataTransferToHost = refl
-state-back DataTransferToHostStatusAwait = refl
-state-back DataTransferToHostEnding = refl
-state-back DataTransferFromHost = refl
-state-back DataTransferFromHostEnding = refl
-
-state-small : (s : State) → leb (stateNumber s) 8 ≡ true
-state-small CommandTransfer = refl
-state-small CommandTransferInvalid = refl
-state-small DataTransferNoData = refl
-state-small StatusTransfer = refl
-state-small DataTransferToHost = refl
-state-small DataTransferToHostStatusAwait = refl
-state-small DataTransferToHostEnding = refl
-state-small DataTransferFromHost = refl
-state-small DataTransferFromHostEnding = refl
-
-direction-back : (d : DataDirection) → directionOf (directionNumber d) ≡ d
-unfolding directionOf
-direction-back Out = refl
-direction-back In = refl
-direction-back NotExpected = refl
-
-direction-small : (d : DataDirection) → leb (directionNumber d) 2 ≡ true
-direction-small Out = refl
-direction-small In = refl
-direction-small NotExpected = refl
-
-status-back : (s : CommandStatus) → statusOf (statusNumber s) ≡ s
-unfolding statusOf
-status-back Passed = refl
-status-back Failed = refl
-status-back PhaseError = refl
-
-status-small : (s : CommandStatus) → leb (statusNumber s) 2 ≡ true
-status-small Passed = refl
-status-small Failed = refl
-status-small PhaseError = refl
+-- ---- a number is a byte
 
 a-byte : (n k : ℕ) → leb n k ≡ true → k < 256 → n < 256 ^ 1
 a-byte n k h b = omega (arith, leb-true n k h)
@@ -321,7 +273,7 @@ module _ (p maxlun size : ℕ) where
   )
 
   new-wrapper : wrapperAt (newRecord p maxlun size) ≡ blank
-  unfolding isApart get bytesAt counted ordered directionOf blank
+  unfolding isApart get bytesAt counted ordered directionOfNumber blank
   new-wrapper =
       sym
       (reads-wrapper (newRecord p maxlun size)
@@ -334,7 +286,7 @@ module _ (p maxlun size : ℕ) where
       (sym (new-get field.blockLength refl)))
 
   pub new-holds : p < 256 → maxlun < 256 → size < 2 ^ 32 → deviceAt (newRecord p maxlun size) ≡ newDevice p maxlun size
-  unfolding isApart get bytesAt counted ordered stateOf statusBy
+  unfolding isApart get bytesAt counted ordered stateOfNumber statusBy
   new-holds hp hm hs =
       let q : List ℕ = newRecord p maxlun size in
       let three = new-three hp hm hs in

@@ -3,10 +3,10 @@
 --     length-all, bytes-elsewhere, get-elsewhere, get-there    the length; a field apart from all of them; the field of one of them
 --     is-known, known-is                                       what the test of a record tells, and what passes it
 --     state-kept, .., wrapper-kept                             a part of the device that stands there already changes nothing
-use mathlib.Core.Path.{_≡_, refl, sym, _∙_, subst}
+use mathlib.Core.Path.{_≡_, refl, sym, _∙_}
 use mathlib.Core.Bool.{Bool, true, _&&_}
 use mathlib.Core.List.{List, [], _∷_, _++_}
-use Prim.Native.Nat.{ℕ, zero, suc, _+_, _^_, _≤_, _<_}
+use Prim.Native.Nat.{ℕ, _+_, _^_, _≤_, _<_}
 use native.Mathlib.Omega.{arith}
 use lib.Dec.{eqb, leb}
 use lib.ListN.{length}
@@ -15,11 +15,11 @@ use borrow.Author.Tests.{leb-true, eqb-true, eqb-false, eq-eqb, le-leb}
 use Rattle.fields.specs.Field.{Field, bytesAt, get}
 use Rattle.fields.proofs.Bools.{and-left, and-right}
 use Rattle.fields.proofs.Overlay.{overlay-own}
-use Rattle.ring.specs.States.{stateNumber}
-use Rattle.wrapper.specs.Wrapper.{directionNumber}
-use Rattle.calls.proofs.After.{status-byte}
+use Rattle.ring.specs.States.{stateOfNumber}
+use Rattle.ring.proofs.Numbers.{state-number}
+use Rattle.wrapper.proofs.Numbers.{direction-number, status-number}
 use Rattle.recordbytes.specs.Layout as field
-use Rattle.recordbytes.specs.Record.{isKnown, stateOf, directionOf, statusBy, statusAt, marksAt, wrapperAt, store, storeState, storeMarks, storeLeft, storeStatus, storeWrapper}
+use Rattle.recordbytes.specs.Record.{isKnown, statusBy, statusAt, marksAt, wrapperAt, store, storeState, storeMarks, storeLeft, storeStatus, storeWrapper}
 use Rattle.recordbytes.proofs.Storing.{isApart, store-same, length-store, get-stored, bytes-apart}
 
 -- ---- a list of numbers to store
@@ -76,24 +76,7 @@ module _ (n : ℕ) where
   get-there (w ∷ ws) f x after r e h a b =
       get-there ws f x after (store (w .at) (w .number) r) (length-store (w .at) (w .number) r (within n w (ws ++ (write f x ∷ after)) r e h) ∙ e) (behind n w (ws ++ (write f x ∷ after)) h) a b
 
--- ---- numbers and what they stand for
-
--- a fact of every number up to k
-abbrev AllUpTo : (P : ℕ → Type 0) → ℕ → Type 0
-AllUpTo P zero = P 0
-AllUpTo P (suc k) = AllUpTo P k × P (suc k)
-
-up-to : (P : ℕ → Type 0) (k n : ℕ) → n ≤ k → AllUpTo P k → P n
-up-to P zero n h p = subst P (omega arith) p
-up-to P (suc k) n h p = cases (eqb n (suc k)) (λ e. subst P (sym (eqb-true n (suc k) e)) (p .1)) (λ e. up-to P k n (omega (arith, eqb-false n (suc k) e)) (p .0))
-
-pub state-number : (n : ℕ) → n ≤ 8 → stateNumber (stateOf n) ≡ n
-unfolding stateOf
-state-number n h = up-to (λ (n : ℕ). stateNumber (stateOf n) ≡ n) 8 n h ((((((((refl, refl), refl), refl), refl), refl), refl), refl), refl)
-
-pub direction-number : (n : ℕ) → n ≤ 2 → directionNumber (directionOf n) ≡ n
-unfolding directionOf
-direction-number n h = up-to (λ (n : ℕ). directionNumber (directionOf n) ≡ n) 2 n h ((refl, refl), refl)
+-- ---- whether bytes are a record
 
 -- what the test of a record tells
 pub record Known (r : List ℕ) : Type 0 where
@@ -128,7 +111,7 @@ known-is r k = rw (eq-eqb _ _ (k .long), le-leb _ _ (k .state), le-leb _ _ (k .f
 
 -- ---- a part that stands there already
 
-pub state-kept : (r : List ℕ) → get field.state r ≤ 8 → storeState (stateOf (get field.state r)) r ≡ r
+pub state-kept : (r : List ℕ) → get field.state r ≤ 8 → storeState (stateOfNumber (get field.state r)) r ≡ r
 unfolding storeState
 state-kept r h = store-same field.state _ r (sym (state-number (get field.state r) h))
 
@@ -144,7 +127,7 @@ pub status-kept : (r : List ℕ) → get field.present r ≤ 1 → get field.sta
 unfolding statusAt statusBy
 status-kept r h k = cases (eqb (get field.present r) 0)
     (λ e. rw e (store-same field.present 0 r (eqb-true _ _ e)))
-    (λ e. rw (e, store-same field.present 1 r (omega (arith, eqb-false (get field.present r) 0 e)), store-same field.residue (get field.residue r) r refl) (store-same field.status _ r (sym (status-byte (get field.status r) k))))
+    (λ e. rw (e, store-same field.present 1 r (omega (arith, eqb-false (get field.present r) 0 e)), store-same field.residue (get field.residue r) r refl) (store-same field.status _ r (sym (status-number (get field.status r) k))))
 
 pub wrapper-kept : (r : List ℕ) → length r ≡ field.recordSize → get field.direction r ≤ 2 → storeWrapper (wrapperAt r) r ≡ r
 unfolding storeWrapper wrapperAt bytesAt

@@ -9,19 +9,15 @@ use Rattle.fields.specs.Overlay.{overlay}
 use Rattle.buffer.specs.declared.Marks.{Marks}
 use Rattle.buffer.specs.Buffer.{at}
 use Rattle.ring.specs.declared.State.{State}
-use Rattle.ring.specs.declared.State.the-variants.{CommandTransfer, CommandTransferInvalid, DataTransferNoData, StatusTransfer, DataTransferToHost, DataTransferToHostStatusAwait, DataTransferToHostEnding, DataTransferFromHost, DataTransferFromHostEnding}
-use Rattle.ring.specs.States.{stateNumber}
-use Rattle.wrapper.specs.declared.DataDirection.{DataDirection}
-use Rattle.wrapper.specs.declared.DataDirection.the-variants.{Out, In, NotExpected}
+use Rattle.ring.specs.States.{stateNumber, stateOfNumber}
 use Rattle.wrapper.specs.declared.Head.{Head}
 use Rattle.wrapper.specs.declared.Wrapper.{Wrapper}
 use Rattle.wrapper.specs.declared.counters.Left.{Left}
-use Rattle.wrapper.specs.Status.{statusNumber}
-use Rattle.wrapper.specs.Wrapper.{directionNumber}
+use Rattle.wrapper.specs.Status.{statusNumber, statusOfNumber}
+use Rattle.wrapper.specs.Wrapper.{directionNumber, directionOfNumber}
 use Rattle.device.specs.declared.Device.{Device}
 use Rattle.device.specs.declared.Status.{Status}
 use Rattle.device.specs.declared.Status.the-variants.{Absent, Present}
-use Rattle.calls.specs.Status.{statusOf}
 use Rattle.recordbytes.specs.Layout as field
 
 -- ---- reading
@@ -36,25 +32,9 @@ isKnown r =
     && (leb (get field.status r) 2
     && leb (get field.direction r) 2)))
 
--- the state of a number
-unfoldable pub stateOf : ℕ → State
-stateOf n =
-    cond (eqb n 0) CommandTransfer
-    (cond (eqb n 1) CommandTransferInvalid
-    (cond (eqb n 2) DataTransferNoData
-    (cond (eqb n 3) StatusTransfer
-    (cond (eqb n 4) DataTransferToHost
-    (cond (eqb n 5) DataTransferToHostStatusAwait
-    (cond (eqb n 6) DataTransferToHostEnding
-    (cond (eqb n 7) DataTransferFromHost DataTransferFromHostEnding)))))))
-
--- the direction of a number
-unfoldable pub directionOf : ℕ → DataDirection
-directionOf n = cond (eqb n 0) NotExpected (cond (eqb n 1) In Out)
-
 -- the status: none where the flag is 0
 unfoldable pub statusBy : ℕ → ℕ → ℕ → Status
-statusBy flag byte residue = cond (eqb flag 0) Absent (Present (statusOf byte) (record { 0 = residue }))
+statusBy flag byte residue = cond (eqb flag 0) Absent (Present (statusOfNumber byte) (record { 0 = residue }))
 
 unfoldable pub statusAt : List ℕ → Status
 statusAt r = statusBy (get field.present r) (get field.status r) (get field.residue r)
@@ -66,7 +46,7 @@ unfoldable pub wrapperAt : List ℕ → Wrapper
 wrapperAt r = record {
   tag = get field.tag r;
   length = get field.declared r;
-  direction = directionOf (get field.direction r);
+  direction = directionOfNumber (get field.direction r);
   lun = get field.lun r;
   blocklength = get field.blockLength r;
   block = bytesAt field.block r;
@@ -77,7 +57,7 @@ deviceAt r = record {
   packetsize = get field.packetSize r;
   maxlun = get field.maxLun r;
   size = get field.size r;
-  state = stateOf (get field.state r);
+  state = stateOfNumber (get field.state r);
   marks = marksAt r;
   wrapper = wrapperAt r;
   status = statusAt r;

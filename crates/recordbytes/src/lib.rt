@@ -11,19 +11,18 @@ use device::Status;
 use device::numbers_of;
 use fields::byte;
 use fields::le32;
-use ring::State;
-use wrapper::DataDirection;
+use ring::state_of_number;
 use wrapper::Wrapper;
 use wrapper::counters::Left;
 use wrapper::counters::Residue;
-use wrapper::status::CommandStatus;
+use wrapper::direction_of_number;
+use wrapper::status::status_of_number;
 ghost use mathlib.Core.Path.{_≡_};
 ghost use lib.ListN.{length};
 ghost use Rattle.fields.specs.Field.{bytesAt};
 ghost use Rattle.device.specs.Device.{numbersOf};
-ghost use Rattle.calls.specs.Status.{statusOf};
 ghost use Rattle.recordbytes.specs.Layout as field;
-ghost use Rattle.recordbytes.specs.Record.{isKnown, stateOf, directionOf, statusBy, statusAt, marksAt, wrapperAt, deviceAt};
+ghost use Rattle.recordbytes.specs.Record.{isKnown, statusBy, statusAt, marksAt, wrapperAt, deviceAt};
 
 // Whether bytes are a record: 52 of them, and a number of a state, a flag, a status and a direction where one is due.
 pub fn known(r: &[u8]) -> bool
@@ -44,49 +43,13 @@ pub fn known(r: &[u8]) -> bool
     byte(r, 25) <= 2
 }
 
-fn state_of(number: u8) -> State
-    ensures { λ x. ⌜ x ≡ stateOf number ⌝ }
-{
-    match number {
-        0 => State::CommandTransfer,
-        1 => State::CommandTransferInvalid,
-        2 => State::DataTransferNoData,
-        3 => State::StatusTransfer,
-        4 => State::DataTransferToHost,
-        5 => State::DataTransferToHostStatusAwait,
-        6 => State::DataTransferToHostEnding,
-        7 => State::DataTransferFromHost,
-        _ => State::DataTransferFromHostEnding,
-    }
-}
-
-fn direction_of(number: u8) -> DataDirection
-    ensures { λ x. ⌜ x ≡ directionOf number ⌝ }
-{
-    match number {
-        0 => DataDirection::NotExpected,
-        1 => DataDirection::In,
-        _ => DataDirection::Out,
-    }
-}
-
-fn command_status_of(number: u8) -> CommandStatus
-    ensures { λ x. ⌜ x ≡ statusOf number ⌝ }
-{
-    match number {
-        0 => CommandStatus::Passed,
-        1 => CommandStatus::Failed,
-        _ => CommandStatus::PhaseError,
-    }
-}
-
 fn status_by(flag: u8, number: u8, residue: u32) -> Status
     ensures { λ x. ⌜ x ≡ statusBy flag number residue ⌝ }
 {
     if flag == 0 {
         return Status::Absent;
     }
-    let status = command_status_of(number);
+    let status = status_of_number(number);
     Status::Present(status, Residue(residue))
 }
 
@@ -135,7 +98,7 @@ fn wrapper_at(r: &[u8]) -> Wrapper
     requires { ⌜ length (now r) ≡ field.recordSize ⌝ }
     ensures { λ x. ⌜ x ≡ wrapperAt (now (r .entry)) ⌝ }
 {
-    let direction = direction_of(byte(r, 25));
+    let direction = direction_of_number(byte(r, 25));
     let block = block_at(r);
     Wrapper {
         tag: le32(r, 28),
@@ -152,7 +115,7 @@ pub fn device_at(r: &[u8]) -> Device
     requires { ⌜ length (now r) ≡ field.recordSize ⌝ }
     ensures { λ x. ⌜ x ≡ deviceAt (now (r .entry)) ⌝ }
 {
-    let state = state_of(byte(r, 2));
+    let state = state_of_number(byte(r, 2));
     let marks = marks_at(r);
     let wrapper = wrapper_at(r);
     let status = status_at(r);

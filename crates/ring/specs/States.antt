@@ -1,6 +1,7 @@
--- "States, numbered", and the table of acts to which a poll can come. Assumes nothing: these are definitions.
+-- "States, numbered", back from a number, and the table of acts to which a poll can come. Assumes nothing: these are definitions.
 use Prim.Native.Nat.{ℕ}
-use mathlib.Core.Bool.{Bool, true, false}
+use mathlib.Core.Bool.{Bool, true, false, cond}
+use lib.Dec.{eqb}
 use Rattle.ring.specs.declared.State.{State}
 use Rattle.ring.specs.declared.State.the-variants.{CommandTransfer, CommandTransferInvalid, DataTransferNoData, StatusTransfer, DataTransferToHost, DataTransferToHostStatusAwait, DataTransferToHostEnding, DataTransferFromHost, DataTransferFromHostEnding}
 use Rattle.ring.specs.declared.Act.{Act}
@@ -22,6 +23,18 @@ stateNumber DataTransferToHostStatusAwait = 5
 stateNumber DataTransferToHostEnding = 6
 stateNumber DataTransferFromHost = 7
 stateNumber DataTransferFromHostEnding = 8
+
+-- the state of a number; a number above 8 is of none, and gives the last
+unfoldable pub stateOfNumber : ℕ → State
+stateOfNumber n =
+    cond (eqb n 0) CommandTransfer
+    (cond (eqb n 1) CommandTransferInvalid
+    (cond (eqb n 2) DataTransferNoData
+    (cond (eqb n 3) StatusTransfer
+    (cond (eqb n 4) DataTransferToHost
+    (cond (eqb n 5) DataTransferToHostStatusAwait
+    (cond (eqb n 6) DataTransferToHostEnding
+    (cond (eqb n 7) DataTransferFromHost DataTransferFromHostEnding)))))))
 
 abbrev row : State → Kind → Before → Bool → Row
 row s k b counts = record { 0 = s; 1 = k; 2 = b; 3 = counts }

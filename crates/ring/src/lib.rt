@@ -3,7 +3,7 @@
 use wrapper::DataDirection;
 ghost use mathlib.Core.Path.{_≡_};
 ghost use Prim.Native.Nat.{_+_, _≤_};
-ghost use Rattle.ring.specs.States.{stateNumber, rowOf};
+ghost use Rattle.ring.specs.States.{stateNumber, stateOfNumber, rowOf};
 ghost use Rattle.ring.specs.Ring.{extra, whole, readCbwAct, startAct, noDataAct, statusTransferAct, toHostAct, statusAwaitAct, toHostEndingAct, fromHostAct, fromHostEndingAct, settled};
 
 // Document 01's states, in its order.
@@ -76,6 +76,23 @@ pub fn state_number(s: State) -> u8
         State::DataTransferToHostEnding => 6,
         State::DataTransferFromHost => 7,
         State::DataTransferFromHostEnding => 8,
+    }
+}
+
+// The state of a number; above 8 there is none, and the last is given.
+pub fn state_of_number(number: u8) -> State
+    ensures { λ r. ⌜ r ≡ stateOfNumber number ⌝ }
+{
+    match number {
+        0 => State::CommandTransfer,
+        1 => State::CommandTransferInvalid,
+        2 => State::DataTransferNoData,
+        3 => State::StatusTransfer,
+        4 => State::DataTransferToHost,
+        5 => State::DataTransferToHostStatusAwait,
+        6 => State::DataTransferToHostEnding,
+        7 => State::DataTransferFromHost,
+        _ => State::DataTransferFromHostEnding,
     }
 }
 

@@ -1,9 +1,11 @@
 -- Laws that no one function owns.
 --     Laws         the table's rule, once over any table; and what each way through a function owes
+--     Six          a command as six numbers
 --     Unique       no contract has a second answer
 --     Computing    what cases compute with
 --     Cases        the cases of specs/Cases.antt hold
 pub mod Laws
+pub mod Six
 pub mod Unique
 pub mod Computing
 pub mod Cases

@@ -2,15 +2,24 @@
 -- itself, as the check reads it. Assumes nothing.
 use mathlib.Core.Path.{_≡_, refl, sym, ap, _∙_}
 use mathlib.Core.List.{List, [], _∷_}
+use Prim.Native.Nat.{ℕ}
+use denote.Ref.{now}
 use Rattle.fields.proofs.Only.{Only}
 use Rattle.scsi.specs.declared.ScsiCommand.{ScsiCommand}
 use Rattle.scsi.specs.declared.Decoded.{Decoded}
 use Rattle.scsi.specs.declared.Decoded.the-variants.{Command, Empty}
 use Rattle.scsi.specs.Decoding.{Outcome, told}
+use Rattle.scsi.specs.Numbers.{Shown, shown}
 use Rattle.scsi.proofs.decode_told.Kinds as decode-told-kinds
 use Rattle.scsi.proofs.decode_told.Reads as decode-told
 use Rattle.scsi.proofs.decode.Kinds as decode-kinds
 use Rattle.scsi.proofs.decode.Reads as decode
+use Rattle.scsi.proofs.numbers.put_command.Kinds as put-command-kinds
+use Rattle.scsi.proofs.numbers.put_command.Reads as put-command
+use Rattle.scsi.proofs.numbers.decode_into.Kinds as decode-into-kinds
+use Rattle.scsi.proofs.numbers.decode_into.Reads as decode-into
+use Rattle.scsi.proofs.numbers.decode_told_into.Kinds as decode-told-into-kinds
+use Rattle.scsi.proofs.numbers.decode_told_into.Reads as decode-told-into
 
 -- the command carried tells the answer
 untold : List ScsiCommand → Decoded
@@ -30,3 +39,18 @@ decode-told-only κs a x y s t p q = (told-once x y (p ∙ sym q), refl)
 
 pub decode-only : Only 1 decode-kinds.ps decode-kinds.r decode.Post (λ κs s. tt {0})
 decode-only κs a x y s t p q = (told-once x y (p ∙ sym q), refl)
+
+-- ---- the numbers that are lent
+
+-- also for those who hand these calls on
+pub shown-once : {n k : ℕ} {l m : List ℕ} → shown n l ≡ shown k m → (n ≡ k) × (l ≡ m)
+shown-once e = (ap (λ (s : Shown). s .number) e, ap (λ (s : Shown). s .lent) e)
+
+pub put-command-only : Only 1 put-command-kinds.ps put-command-kinds.r put-command.Post (λ κs s. now (s .0))
+put-command-only κs a x y s t p q = (refl, p ∙ sym q)
+
+pub decode-into-only : Only 2 decode-into-kinds.ps decode-into-kinds.r decode-into.Post (λ κs s. now (s .1 .0))
+decode-into-only κs a x y s t p q = shown-once (p ∙ sym q)
+
+pub decode-told-into-only : Only 2 decode-told-into-kinds.ps decode-told-into-kinds.r decode-told-into.Post (λ κs s. now (s .1 .1 .0))
+decode-told-into-only κs a x y s t p q = shown-once (p ∙ sym q)

@@ -1,7 +1,9 @@
 -- What a reader of the decoder must believe: document 01, section Decoding.
 --     Commands    the standards' fields of each command
 --     Decoding    the table of opcodes and shortest lengths, and what a block decodes to
+--     Numbers     a command as six numbers, for callers in C and Rust
 --     Cases       document 01's cases
 pub mod Commands
 pub mod Decoding
+pub mod Numbers
 pub mod Cases

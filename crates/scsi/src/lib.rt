@@ -1,7 +1,9 @@
 // The SCSI decoder of document 01, after scsi.rs. It takes a block of any bytes and any length.
 //     table       which opcodes are listed, with how long a block
 //     commands    the fields of each listed command
+//     numbers     a command as six numbers, for callers in C and Rust
 mod commands;
+pub mod numbers;
 mod table;
 
 use crate::commands::read_fields;

@@ -1,10 +1,10 @@
 -- To unfold this is to unfold all that cases over this crate's definitions compute with. Assumes nothing.
 use Rattle.fields.proofs.Computing as fields
 use Rattle.wrapper.specs.Counters.{fallen, residueOf}
-use Rattle.wrapper.specs.Status.{statusBytes, statusCall}
-use Rattle.wrapper.specs.Wrapper.{isSigned, isBlockLength, isValid, directionOf, wrapperOf, blank, parsed}
+use Rattle.wrapper.specs.Status.{statusOfNumber, statusBytes, statusCall}
+use Rattle.wrapper.specs.Wrapper.{isSigned, isBlockLength, isValid, directionOf, directionOfNumber, wrapperOf, blank, parsed}
 use Rattle.wrapper.specs.Verdict.{isMeaningful, verdictOf}
 
 unfoldable pub computing : Unit {0}
-unfolding fallen residueOf statusBytes statusCall isSigned isBlockLength isValid directionOf wrapperOf blank parsed isMeaningful verdictOf fields.computing
+unfolding fallen residueOf statusOfNumber statusBytes statusCall isSigned isBlockLength isValid directionOf directionOfNumber wrapperOf blank parsed isMeaningful verdictOf fields.computing
 computing = tt

@@ -2,7 +2,7 @@
 --     meaningful-valid    what is meaningful is a valid wrapper
 --     ways                what each way through a function owes
 -- Assumes nothing.
-use mathlib.Core.Path.{_≡_, sym, _∙_}
+use mathlib.Core.Path.{_≡_, sym, ap, _∙_}
 use mathlib.Core.Bool.{Bool, true, false}
 use mathlib.Core.List.{List}
 use Prim.Native.Nat.{ℕ, _≤_, _<_}
@@ -10,9 +10,10 @@ use lib.Dec.{leb}
 use borrow.Author.Tests.{le-leb, lt-leb}
 use Rattle.fields.specs.Field.{get, getBits}
 use Rattle.fields.proofs.Bools.{and-right}
+use Rattle.wrapper.specs.declared.verdict.Verdict.{Verdict}
 use Rattle.wrapper.specs.declared.verdict.Verdict.the-variants.{Invalid, ValidOnly, Meaningful}
 use Rattle.wrapper.specs.Wrapper.{bCBWLUN, bCBWCBLength, Valid, isSigned, isBlockLength, isValid}
-use Rattle.wrapper.specs.Verdict.{isMeaningful, verdictOf}
+use Rattle.wrapper.specs.Verdict.{isMeaningful, verdictOf, verdictNumber}
 use Rattle.wrapper.proofs.Cbw.{is-valid}
 
 pub meaningful-valid : (max : ℕ) (m : List ℕ) → isSigned m ≡ true → isMeaningful max m ≡ true → Valid m
@@ -41,5 +42,8 @@ valid-verdict m max es e er t = rw (sym es ∙ e, sym er ∙ t)
 pub invalid-verdict : (m : List ℕ) (max : ℕ) {s : Bool} → s ≡ isSigned m → s ≡ false → Invalid ≡ verdictOf max m
 unfolding verdictOf
 invalid-verdict m max es e = rw (sym es ∙ e)
+
+pub numbered : (k : Verdict) (max : ℕ) (m : List ℕ) {v : Verdict} → v ≡ verdictOf max m → v ≡ k → verdictNumber k ≡ verdictNumber (verdictOf max m)
+numbered k max m e ek = ap verdictNumber (sym ek ∙ e)
 
 pub ruleset ways = (means, means-not, meaningful-verdict, valid-verdict, invalid-verdict)

@@ -1,11 +1,13 @@
 -- Laws that no one function owns, for the proofs here and for those of the crates above.
 --     Csw, Cbw     the status and the wrapper
+--     Numbers      a direction and its number, a status and its number
 --     Judged       the verdict
 --     Unique       no contract has a second answer
 --     Computing    what cases compute with
 --     Cases        the cases of specs/Cases.antt hold
 pub mod Csw
 pub mod Cbw
+pub mod Numbers
 pub mod Judged
 pub mod Unique
 pub mod Computing

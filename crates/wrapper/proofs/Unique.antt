@@ -7,7 +7,7 @@ use Rattle.fields.proofs.Only.{Only}
 use Rattle.wrapper.specs.declared.status.CommandStatus.the-variants.{Passed, Failed, PhaseError}
 use Rattle.wrapper.specs.declared.status.StatusByte.{StatusByte}
 use Rattle.wrapper.specs.declared.status.StatusByte.the-variants.{Known, Refused}
-use Rattle.wrapper.specs.Status.{Taken, told}
+use Rattle.wrapper.specs.Status.{statusOfNumber, Taken, told}
 use Rattle.wrapper.proofs.counters.left_after.Kinds as left-after-kinds
 use Rattle.wrapper.proofs.counters.left_after.Reads as left-after
 use Rattle.wrapper.proofs.counters.residue_of.Kinds as residue-of-kinds
@@ -16,12 +16,16 @@ use Rattle.wrapper.proofs.status.status_of.Kinds as status-of-kinds
 use Rattle.wrapper.proofs.status.status_of.Reads as status-of
 use Rattle.wrapper.proofs.status.status_number.Kinds as status-number-kinds
 use Rattle.wrapper.proofs.status.status_number.Reads as status-number
+use Rattle.wrapper.proofs.status.status_of_number.Kinds as status-of-number-kinds
+use Rattle.wrapper.proofs.status.status_of_number.Reads as status-of-number
 use Rattle.wrapper.proofs.status.status_bytes.Kinds as status-bytes-kinds
 use Rattle.wrapper.proofs.status.status_bytes.Reads as status-bytes
 use Rattle.wrapper.proofs.valid.Kinds as valid-kinds
 use Rattle.wrapper.proofs.valid.Reads as valid
 use Rattle.wrapper.proofs.direction_number.Kinds as direction-number-kinds
 use Rattle.wrapper.proofs.direction_number.Reads as direction-number
+use Rattle.wrapper.proofs.direction_of_number.Kinds as direction-of-number-kinds
+use Rattle.wrapper.proofs.direction_of_number.Reads as direction-of-number
 use Rattle.wrapper.proofs.head_of.Kinds as head-of-kinds
 use Rattle.wrapper.proofs.head_of.Reads as head-of
 use Rattle.wrapper.proofs.read_wrapper.Kinds as read-wrapper-kinds
@@ -32,13 +36,15 @@ use Rattle.wrapper.proofs.parse.Kinds as parse-kinds
 use Rattle.wrapper.proofs.parse.Reads as parse
 use Rattle.wrapper.proofs.verdict.verdict_on.Kinds as verdict-on-kinds
 use Rattle.wrapper.proofs.verdict.verdict_on.Reads as verdict-on
+use Rattle.wrapper.proofs.verdict.verdict_number.Kinds as verdict-number-kinds
+use Rattle.wrapper.proofs.verdict.verdict_number.Reads as verdict-number
 
 -- document 01's number, and the status's own, tell the answer
 untold : Taken → StatusByte
-untold t = cond (eqb (t .number) 12) Refused (Known (cond (eqb (t .status) 0) Passed (cond (eqb (t .status) 1) Failed PhaseError)))
+untold t = cond (eqb (t .number) 12) Refused (Known (statusOfNumber (t .status)))
 
 untold-told : (x : StatusByte) → untold (told x) ≡ x
-unfolding untold
+unfolding untold statusOfNumber
 untold-told (Known Passed) = refl
 untold-told (Known Failed) = refl
 untold-told (Known PhaseError) = refl
@@ -56,11 +62,17 @@ status-of-only κs a x y s t p q = (sym (untold-told x) ∙ ap untold (p ∙ sym
 pub status-number-only : Only 0 status-number-kinds.ps status-number-kinds.r status-number.Post (λ κs s. tt {0})
 status-number-only κs a x y s t p q = (p ∙ sym q, refl)
 
+pub status-of-number-only : Only 0 status-of-number-kinds.ps status-of-number-kinds.r status-of-number.Post (λ κs s. tt {0})
+status-of-number-only κs a x y s t p q = (p ∙ sym q, refl)
+
 pub status-bytes-only : Only 0 status-bytes-kinds.ps status-bytes-kinds.r status-bytes.Post (λ κs s. tt {0})
 status-bytes-only κs a x y s t p q = (p ∙ sym q, refl)
 
 pub direction-number-only : Only 0 direction-number-kinds.ps direction-number-kinds.r direction-number.Post (λ κs s. tt {0})
 direction-number-only κs a x y s t p q = (p ∙ sym q, refl)
+
+pub direction-of-number-only : Only 0 direction-of-number-kinds.ps direction-of-number-kinds.r direction-of-number.Post (λ κs s. tt {0})
+direction-of-number-only κs a x y s t p q = (p ∙ sym q, refl)
 
 pub valid-only : Only 1 valid-kinds.ps valid-kinds.r valid.Post (λ κs s. tt {0})
 valid-only κs a x y s t p q = (p ∙ sym q, refl)
@@ -79,3 +91,6 @@ parse-only κs a x y s t p q = (p ∙ sym q, refl)
 
 pub verdict-on-only : Only 1 verdict-on-kinds.ps verdict-on-kinds.r verdict-on.Post (λ κs s. tt {0})
 verdict-on-only κs a x y s t p q = (p ∙ sym q, refl)
+
+pub verdict-number-only : Only 1 verdict-number-kinds.ps verdict-number-kinds.r verdict-number.Post (λ κs s. tt {0})
+verdict-number-only κs a x y s t p q = (p ∙ sym q, refl)

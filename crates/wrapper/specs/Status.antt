@@ -2,7 +2,7 @@
 use Prim.Native.Nat.{ℕ}
 use mathlib.Core.Bool.{cond}
 use mathlib.Core.List.{List, [], _∷_}
-use lib.Dec.{leb}
+use lib.Dec.{eqb, leb}
 use lib.ListN.{replicate}
 use Rattle.fields.specs.Field.{Field, littleEndian, oneByte, put}
 use Rattle.wrapper.specs.declared.status.CommandStatus.{CommandStatus}
@@ -32,6 +32,10 @@ abbrev pub statusNumber : CommandStatus → ℕ
 statusNumber Passed = 0
 statusNumber Failed = 1
 statusNumber PhaseError = 2
+
+-- the status of a number; a number above 2 is of none, and gives the last
+unfoldable pub statusOfNumber : ℕ → CommandStatus
+statusOfNumber n = cond (eqb n 0) Passed (cond (eqb n 1) Failed PhaseError)
 
 -- 55 53 42 53, as a little-endian number: BOT's 53425355h
 abbrev pub statusSignature : ℕ

@@ -75,6 +75,10 @@ directionNumber Out = 2
 directionNumber In = 1
 directionNumber NotExpected = 0
 
+-- the direction of a number; a number above 2 is of none, and gives the last
+unfoldable pub directionOfNumber : ℕ → DataDirection
+directionOfNumber n = cond (eqb n 0) NotExpected (cond (eqb n 1) In Out)
+
 -- what a valid wrapper says
 unfoldable pub wrapperOf : List ℕ → Wrapper
 wrapperOf m = record {

@@ -11,7 +11,7 @@ use fields::le32;
 ghost use mathlib.Core.Path.{_≡_};
 ghost use lib.ListN.{length};
 ghost use Rattle.fields.specs.Field.{bytesAt};
-ghost use Rattle.wrapper.specs.Wrapper.{CBWCB, isSigned, isBlockLength, isValid, directionOf, directionNumber, wrapperOf, headOf, blank, parsed};
+ghost use Rattle.wrapper.specs.Wrapper.{CBWCB, isSigned, isBlockLength, isValid, directionOf, directionNumber, directionOfNumber, wrapperOf, headOf, blank, parsed};
 
 // 55 53 42 43, little-endian.
 const SIGNATURE: u32 = 0x43425355;
@@ -97,6 +97,17 @@ pub fn direction_number(direction: DataDirection) -> u8
         DataDirection::Out => 2,
         DataDirection::In => 1,
         DataDirection::NotExpected => 0,
+    }
+}
+
+// The direction of such a number; above 2 there is none, and the last is given.
+pub fn direction_of_number(number: u8) -> DataDirection
+    ensures { λ r. ⌜ r ≡ directionOfNumber number ⌝ }
+{
+    match number {
+        0 => DataDirection::NotExpected,
+        1 => DataDirection::In,
+        _ => DataDirection::Out,
     }
 }
 

@@ -2,7 +2,7 @@
 use crate::counters::Residue;
 use fields::put_le32;
 ghost use mathlib.Core.Path.{_≡_};
-ghost use Rattle.wrapper.specs.Status.{told, statusCall, statusNumber, statusBytes};
+ghost use Rattle.wrapper.specs.Status.{told, statusCall, statusNumber, statusOfNumber, statusBytes};
 
 // 55 53 42 53, little-endian.
 const SIGNATURE: u32 = 0x53425355;
@@ -39,6 +39,17 @@ pub fn status_number(status: CommandStatus) -> u8
         CommandStatus::Passed => 0,
         CommandStatus::Failed => 1,
         CommandStatus::PhaseError => 2,
+    }
+}
+
+// The status of such a number; above 2 there is none, and the last is given.
+pub fn status_of_number(number: u8) -> CommandStatus
+    ensures { λ r. ⌜ r ≡ statusOfNumber number ⌝ }
+{
+    match number {
+        0 => CommandStatus::Passed,
+        1 => CommandStatus::Failed,
+        _ => CommandStatus::PhaseError,
     }
 }
 

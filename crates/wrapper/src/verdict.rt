@@ -3,7 +3,7 @@ use fields::bits_of;
 use fields::byte;
 ghost use mathlib.Core.Path.{_≡_};
 ghost use lib.ListN.{length};
-ghost use Rattle.wrapper.specs.Verdict.{isMeaningful, verdictOf};
+ghost use Rattle.wrapper.specs.Verdict.{isMeaningful, verdictOf, verdictNumber};
 
 pub enum Verdict {
     Invalid,
@@ -32,4 +32,16 @@ pub fn verdict_on(message: &[u8], maxlun: u8) -> Verdict
         return Verdict::ValidOnly;
     }
     Verdict::Invalid
+}
+
+// The verdict as a number, for callers in C and Rust: 0 invalid, 1 valid only, 2 meaningful.
+pub fn verdict_number(message: &[u8], maxlun: u8) -> u32
+    ensures { λ r. ⌜ r ≡ verdictNumber (verdictOf maxlun (now (message .entry))) ⌝ }
+{
+    let v = verdict_on(message, maxlun);
+    match v {
+        Verdict::Invalid => 0,
+        Verdict::ValidOnly => 1,
+        Verdict::Meaningful => 2,
+    }
 }

@@ -1,2 +1,0 @@
--- What a caller in C or Rust sees of the buffer's calls.
-pub mod Host

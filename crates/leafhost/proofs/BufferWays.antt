@@ -1,0 +1,47 @@
+-- What each way through a call of the buffer owes, once for all of them (`ways`). Assumes nothing.
+use mathlib.Core.Path.{_≡_, refl}
+use mathlib.Core.List.{List, [], _∷_}
+use Prim.Native.Nat.{ℕ}
+use borrow.Author.Tests.{eq-eqb, ne-eqb}
+use lib.ListN.{length, set}
+use Rattle.fields.proofs.Seq.{all-stored}
+use Rattle.buffer.specs.declared.Marks.{Marks}
+use Rattle.buffer.specs.declared.Answer.{Answer}
+use Rattle.buffer.specs.declared.Answer.the-variants.{Done, Overflow, Broken}
+use Rattle.buffer.specs.Buffer.{Buffer, buffer}
+use Rattle.buffer.specs.Calls.{Outcome, told, readInto}
+use Rattle.leafhost.specs.Buffer.{host, numberOf, marksOf, markedBy, shown, hosted, hostInto}
+
+-- three stores fill a list of three
+pub three-stored : (l : List ℕ) (a b c : ℕ) → length l ≡ 3 → set (set (set l 0 a) 1 b) 2 c ≡ a ∷ b ∷ c ∷ []
+three-stored l a b c e = all-stored l (a ∷ b ∷ c ∷ []) e
+
+-- an answer, as its caller sees it
+shown-told : (m : Marks) (a : Answer) (b was : List ℕ) → shown was (told m a b) ≡ host (numberOf a) b (marksOf a was)
+unfolding shown
+shown-told m (Done n t) b was = refl
+shown-told m (Overflow t) b was = refl
+shown-told m Broken b was = refl
+
+-- the caller has three numbers: m are its marks, a the buffer's answer, b its bytes then
+pub reports : (call : Buffer → Outcome) (io marks : List ℕ) (m : Marks) (a : Answer) (b after : List ℕ) (r : ℕ)
+    → length marks ≡ 3 → m ≡ markedBy marks → told m a b ≡ call (buffer io m) → r ≡ numberOf a → after ≡ marksOf a marks
+    → host r b after ≡ hosted call io marks
+unfolding hosted
+reports call io marks m a b after r e em et er ea = rw (eq-eqb _ _ e, ← em, ← et, shown-told m a b marks, er, ea)
+
+pub reads : (d io marks : List ℕ) (m : Marks) (e : List ℕ)
+    → length marks ≡ 3 → m ≡ markedBy marks → e ≡ readInto d (buffer io m) → e ≡ hostInto d io marks
+unfolding hostInto
+reads d io marks m e l em ee = rw (eq-eqb _ _ l, ← em) ee
+
+-- the caller has not
+pub refuses : (call : Buffer → Outcome) (io marks : List ℕ) → (length marks ≡ 3 → ⊥) → host 10 io marks ≡ hosted call io marks
+unfolding hosted
+refuses call io marks n = rw (ne-eqb _ _ n)
+
+pub refuses-into : (d io marks : List ℕ) → (length marks ≡ 3 → ⊥) → d ≡ hostInto d io marks
+unfolding hostInto
+refuses-into d io marks n = rw (ne-eqb _ _ n)
+
+pub ruleset ways = (reports, reads, refuses, refuses-into)

@@ -1,0 +1,5 @@
+-- BufferWays, CodecWays    what each way through a call owes
+-- Unique                   no contract has a second answer
+pub mod BufferWays
+pub mod CodecWays
+pub mod Unique

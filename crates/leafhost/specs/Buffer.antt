@@ -1,0 +1,50 @@
+-- What a caller in C or Rust sees of the buffer: 01's number as the result, the IO buffer's bytes, and three numbers for the marks.
+-- Assumes nothing: these are definitions.
+use Prim.Native.Nat.{ℕ}
+use mathlib.Core.Bool.{cond}
+use mathlib.Core.List.{List, [], _∷_}
+use lib.Dec.{eqb}
+use lib.ListN.{length, getD}
+use Rattle.buffer.specs.declared.Marks.{Marks}
+use Rattle.buffer.specs.declared.Answer.{Answer}
+use Rattle.buffer.specs.declared.Answer.the-variants.{Done, Overflow, Broken}
+use Rattle.buffer.specs.Buffer.{Buffer, buffer, at}
+use Rattle.buffer.specs.Calls.{Outcome, readInto}
+
+-- 01's number of an answer, and the three numbers that it leaves: read mark, write mark, count; a refusal leaves them
+abbrev pub numberOf : Answer → ℕ
+numberOf (Done n t) = 0
+numberOf (Overflow t) = 1
+numberOf Broken = 10
+
+abbrev pub marksOf : Answer → List ℕ → List ℕ
+marksOf (Done n t) was = t .read ∷ t .write ∷ n ∷ []
+marksOf (Overflow t) was = t .read ∷ t .write ∷ 0 ∷ []
+marksOf Broken was = was
+
+-- the marks that the caller's numbers stand for
+unfoldable pub markedBy : List ℕ → Marks
+markedBy marks = at (getD marks 0 0) (getD marks 1 0)
+
+-- what a call leaves with its caller
+pub record Host : Type 0 where
+  pub number : ℕ
+  pub bytes : List ℕ
+  pub marks : List ℕ
+
+abbrev pub host : ℕ → List ℕ → List ℕ → Host
+host n b m = record { number = n; bytes = b; marks = m }
+
+-- an outcome, as its caller sees it
+unfoldable pub shown : List ℕ → Outcome → Host
+shown was o =
+    host (o .number) (o .leaves .bytes)
+    (cond (eqb (o .number) 10) was (o .leaves .marks .read ∷ o .leaves .marks .write ∷ o .count ∷ []))
+
+-- a call of the buffer on the caller's bytes and numbers; other than three numbers are a broken record
+unfoldable pub hosted : (Buffer → Outcome) → List ℕ → List ℕ → Host
+hosted call io marks = cond (eqb (length marks) 3) (shown marks (call (buffer io (markedBy marks)))) (host 10 io marks)
+
+-- the destination of a read
+unfoldable pub hostInto : List ℕ → List ℕ → List ℕ → List ℕ
+hostInto d io marks = cond (eqb (length marks) 3) (readInto d (buffer io (markedBy marks))) d

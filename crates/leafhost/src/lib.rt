@@ -1,0 +1,6 @@
+// The leaves on numbers and byte slices, so that they can be compared with the Rust before a device stands on them. A slice is two arguments in
+// C and Rust, its pointer and its length.
+//     codecs    wrapper, status, verdict, decoder
+//     linear    the linear buffer
+pub mod codecs;
+pub mod linear;

@@ -1,0 +1,124 @@
+// The buffer's calls: 01's answer number as the result. `marks` are three numbers: read mark, write mark, and the count of the last
+// call that was not refused with 10. Any other number of them is a broken record: 10, and nothing changes.
+use buffer::Answer;
+use buffer::Marks;
+ghost use mathlib.Core.Path.{_≡_};
+ghost use lib.ListN.{length};
+ghost use Rattle.buffer.specs.Calls.{availableCall, cleanCall, shiftCall, writeCall, writeAllCall, fillCall, readCall};
+ghost use Rattle.leafhost.specs.Buffer.{hosted, marksOf, numberOf, host, markedBy, hostInto};
+
+// The answer's number; marks and count go where the caller keeps them.
+fn report(marks: &mut [usize], a: Answer) -> u32
+    requires { ⌜ length (now marks) ≡ 3 ⌝ }
+    ensures { λ r. ⌜ (r ≡ numberOf a) × (now (marks .exit) ≡ marksOf a (now (marks .entry))) ⌝ }
+{
+    match a {
+        Answer::Done(n, t) => {
+            marks[0] = t.read;
+            marks[1] = t.write;
+            marks[2] = n;
+            0
+        }
+        Answer::Overflow(t) => {
+            marks[0] = t.read;
+            marks[1] = t.write;
+            marks[2] = 0;
+            1
+        }
+        Answer::Broken => 10,
+    }
+}
+
+// The first two of the caller's three numbers.
+fn marked(marks: &[usize]) -> Marks
+    requires { ⌜ length (now marks) ≡ 3 ⌝ }
+    ensures { λ r. ⌜ r ≡ markedBy (now (marks .entry)) ⌝ }
+{
+    Marks {
+        read: marks[0],
+        write: marks[1],
+    }
+}
+
+#[no_mangle]
+pub extern "C" fn buffer_available(io: &[u8], marks: &mut [usize]) -> u32
+    ensures { λ r. ⌜ host r (now (io .entry)) (now (marks .exit)) ≡ hosted availableCall (now (io .entry)) (now (marks .entry)) ⌝ }
+{
+    if marks.len() == 3 {
+        let a = buffer::available(io, marked(marks));
+        return report(marks, a);
+    }
+    10
+}
+
+#[no_mangle]
+pub extern "C" fn buffer_clean(io: &[u8], marks: &mut [usize]) -> u32
+    ensures { λ r. ⌜ host r (now (io .entry)) (now (marks .exit)) ≡ hosted cleanCall (now (io .entry)) (now (marks .entry)) ⌝ }
+{
+    if marks.len() == 3 {
+        let a = buffer::clean(io, marked(marks));
+        return report(marks, a);
+    }
+    10
+}
+
+#[no_mangle]
+pub extern "C" fn buffer_shift(io: &mut [u8], marks: &mut [usize]) -> u32
+    ensures { λ r. ⌜ host r (now (io .exit)) (now (marks .exit)) ≡ hosted shiftCall (now (io .entry)) (now (marks .entry)) ⌝ }
+{
+    if marks.len() == 3 {
+        let a = buffer::shift(io, marked(marks));
+        return report(marks, a);
+    }
+    10
+}
+
+#[no_mangle]
+pub extern "C" fn buffer_write(io: &mut [u8], marks: &mut [usize], src: &[u8]) -> u32
+    ensures { λ r. ⌜ host r (now (io .exit)) (now (marks .exit)) ≡ hosted (writeCall (now (src .entry))) (now (io .entry)) (now (marks .entry)) ⌝ }
+{
+    if marks.len() == 3 {
+        let a = buffer::write(io, marked(marks), src);
+        return report(marks, a);
+    }
+    10
+}
+
+#[no_mangle]
+pub extern "C" fn buffer_write_all(
+    io: &mut [u8],
+    marks: &mut [usize],
+    want: usize,
+    src: &[u8],
+) -> u32
+    ensures { λ r. ⌜ host r (now (io .exit)) (now (marks .exit)) ≡ hosted (writeAllCall want (now (src .entry))) (now (io .entry)) (now (marks .entry)) ⌝ }
+{
+    if marks.len() == 3 {
+        let a = buffer::write_all(io, marked(marks), want, src);
+        return report(marks, a);
+    }
+    10
+}
+
+#[no_mangle]
+pub extern "C" fn buffer_fill_up_to(io: &mut [u8], marks: &mut [usize], v: u8, n: usize) -> u32
+    ensures { λ r. ⌜ host r (now (io .exit)) (now (marks .exit)) ≡ hosted (fillCall v n) (now (io .entry)) (now (marks .entry)) ⌝ }
+{
+    if marks.len() == 3 {
+        let a = buffer::fill_up_to(io, marked(marks), v, n);
+        return report(marks, a);
+    }
+    10
+}
+
+#[no_mangle]
+pub extern "C" fn buffer_read(io: &[u8], marks: &mut [usize], dst: &mut [u8]) -> u32
+    ensures { λ r. ⌜ (host r (now (io .entry)) (now (marks .exit)) ≡ hosted (readCall (length (now (dst .entry)))) (now (io .entry)) (now (marks .entry)))
+        × (now (dst .exit) ≡ hostInto (now (dst .entry)) (now (io .entry)) (now (marks .entry))) ⌝ }
+{
+    if marks.len() == 3 {
+        let a = buffer::read(io, marked(marks), dst);
+        return report(marks, a);
+    }
+    10
+}

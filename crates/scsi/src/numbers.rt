@@ -1,0 +1,151 @@
+// A command as six numbers, for callers in C and Rust: which it is, in the order of the Rust's enum, and its fields. The decoder's two
+// entries with the command in such numbers.
+use crate::Decoded;
+use crate::PageControl;
+use crate::ScsiCommand;
+ghost use mathlib.Core.Path.{_≡_};
+ghost use lib.ListN.{length};
+ghost use Rattle.scsi.specs.Decoding.{told};
+ghost use Rattle.scsi.specs.Numbers.{flagNumber, controlNumber, six, numbers, shown, reported, shownDecode, shownTold};
+
+fn flag_number(flag: bool) -> u64
+    ensures { λ r. ⌜ r ≡ flagNumber flag ⌝ }
+{
+    if flag { 1 } else { 0 }
+}
+
+fn control_number(control: PageControl) -> u64
+    ensures { λ r. ⌜ r ≡ controlNumber control ⌝ }
+{
+    match control {
+        PageControl::CurrentValues => 0,
+        PageControl::ChangeableValues => 1,
+        PageControl::DefaultValues => 2,
+        PageControl::SavedValues => 3,
+    }
+}
+
+fn put_six(lent: &mut [u64], kind: u64, a: u64, b: u64, c: u64, d: u64, e: u64)
+    requires { ⌜ length (now lent) ≡ 6 ⌝ }
+    ensures { λ _. ⌜ now (lent .exit) ≡ six kind a b c d e ⌝ }
+{
+    lent[0] = kind;
+    lent[1] = a;
+    lent[2] = b;
+    lent[3] = c;
+    lent[4] = d;
+    lent[5] = e;
+}
+
+// The numbers of a command: an arm for each of the twelve, so it is longer than other functions.
+pub fn put_command(lent: &mut [u64], command: ScsiCommand)
+    requires { ⌜ length (now lent) ≡ 6 ⌝ }
+    ensures { λ _. ⌜ now (lent .exit) ≡ numbers command ⌝ }
+{
+    match command {
+        ScsiCommand::Unknown { cmd } => put_six(lent, 0, cmd as u64, 0, 0, 0, 0),
+        ScsiCommand::Inquiry {
+            evpd,
+            page_code,
+            alloc_len,
+        } => {
+            put_six(
+                lent,
+                1,
+                flag_number(evpd),
+                page_code as u64,
+                alloc_len as u64,
+                0,
+                0,
+            )
+        }
+        ScsiCommand::TestUnitReady => put_six(lent, 2, 0, 0, 0, 0, 0),
+        ScsiCommand::RequestSense { desc, alloc_len } => {
+            put_six(lent, 3, flag_number(desc), alloc_len as u64, 0, 0, 0)
+        }
+        ScsiCommand::ModeSense6 {
+            dbd,
+            page_control,
+            page_code,
+            subpage_code,
+            alloc_len,
+        } => {
+            let control = control_number(page_control);
+            put_six(
+                lent,
+                4,
+                flag_number(dbd),
+                control,
+                page_code as u64,
+                subpage_code as u64,
+                alloc_len as u64,
+            )
+        }
+        ScsiCommand::ModeSense10 {
+            dbd,
+            page_control,
+            page_code,
+            subpage_code,
+            alloc_len,
+        } => {
+            let control = control_number(page_control);
+            put_six(
+                lent,
+                5,
+                flag_number(dbd),
+                control,
+                page_code as u64,
+                subpage_code as u64,
+                alloc_len as u64,
+            )
+        }
+        ScsiCommand::ReadCapacity10 => put_six(lent, 6, 0, 0, 0, 0, 0),
+        ScsiCommand::ReadCapacity16 { alloc_len } => put_six(lent, 7, alloc_len as u64, 0, 0, 0, 0),
+        ScsiCommand::Read { lba, len } => put_six(lent, 8, lba, len as u64, 0, 0, 0),
+        ScsiCommand::Write { lba, len } => put_six(lent, 9, lba, len as u64, 0, 0, 0),
+        ScsiCommand::ReadFormatCapacities { alloc_len } => put_six(
+            lent,
+            10,
+            alloc_len as u64,
+            0,
+            0,
+            0,
+            0,
+        ),
+    }
+}
+
+// The answer's number; a command goes into the six numbers that the caller lends.
+fn report(lent: &mut [u64], d: Decoded) -> u32
+    ensures { λ r. ⌜ shown r (now (lent .exit)) ≡ reported (now (lent .entry)) (told d) ⌝ }
+{
+    if lent.len() != 6 {
+        return 10;
+    }
+    match d {
+        Decoded::Command(c) => {
+            put_command(lent, c);
+            0
+        }
+        Decoded::Empty => 13,
+    }
+}
+
+// The plain entry. 0: the command stands in the six numbers; 13: the block is empty; 10: not six numbers were lent.
+pub fn decode_into(block: &[u8], lent: &mut [u64]) -> u32
+    ensures { λ r. ⌜ shown r (now (lent .exit)) ≡ shownDecode (now (block .entry)) (now (lent .entry)) ⌝ }
+{
+    let d = crate::decode(block);
+    report(lent, d)
+}
+
+// The entry that is told: extended addressing is off (0) or on (1), any other number is 10.
+pub fn decode_told_into(block: &[u8], extended: u32, lent: &mut [u64]) -> u32
+    ensures { λ r. ⌜ shown r (now (lent .exit)) ≡ shownTold extended (now (block .entry)) (now (lent .entry)) ⌝ }
+{
+    if 1 < extended {
+        return 10;
+    }
+    let d = crate::decode_told(block, extended == 1);
+    report(lent, d)
+}
