@@ -1,10 +1,12 @@
 -- To unfold this is to unfold all that cases over this crate's definitions compute with. Assumes nothing.
 use Rattle.bbb.proofs.Computing as bbb
 use Rattle.recordbytes.proofs.Computing as recordbytes
-use Rattle.exported.specs.Word.{word}
-use Rattle.exported.specs.Record.{isHeld, onDevice}
-use Rattle.exported.specs.Calls.{createOn, statusOn, resetOn, controlOn, readOn, writeOn, writeAllOn, pollOn}
-use Rattle.exported.specs.Command.{commandOn, stepOn}
+use Rattle.border.specs.Word.{word}
+use Rattle.border.specs.Record.{isHeld, onDevice}
+use Rattle.pollbytes.specs.Poll.{pollOn}
+use Rattle.databytes.specs.Data.{readOn, writeOn, writeAllOn}
+use Rattle.callbytes.specs.Calls.{createOn, statusOn, resetOn, controlOn}
+use Rattle.callbytes.specs.Command.{commandOn, stepOn}
 
 unfoldable pub computing : Unit {0}
 unfolding word isHeld onDevice createOn statusOn resetOn controlOn readOn writeOn writeAllOn pollOn commandOn stepOn bbb.computing recordbytes.computing
