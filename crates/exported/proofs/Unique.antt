@@ -1,76 +1,43 @@
 -- No second answer satisfies a promise: what the `ensures` of an exported call says is true of one result alone, and of one content of
--- each lent slice at exit. `Post` is the contract itself, as the check reads it. That a result tells each of its parts: proofs/Parts.antt.
--- Assumes nothing.
-use mathlib.Core.Path.{_≡_, refl, sym, ap, _∙_}
+-- each lent slice at exit. `Post` is the contract itself, as the check reads it. That a result tells each of its parts:
+-- `Rattle.border.proofs.Parts`. Assumes nothing.
+use mathlib.Core.Path.{refl, sym, _∙_}
 use mathlib.Core.List.{List}
 use Prim.Native.Nat.{ℕ}
 use denote.Ref.{now}
 use Rattle.fields.proofs.Only.{Only}
 use Rattle.scsi.proofs.Unique as scsi
-use Rattle.exported.specs.Calls.{Left, leaves, Moved, moves, Polled, polls}
-use Rattle.exported.specs.Command.{Shown, shows}
-use Rattle.exported.proofs.held.Kinds as held-kinds
-use Rattle.exported.proofs.held.Reads as held
-use Rattle.exported.proofs.word.stalls_number.Kinds as stalls-number-kinds
-use Rattle.exported.proofs.word.stalls_number.Reads as stalls-number
-use Rattle.exported.proofs.word.word.Kinds as word-kinds
-use Rattle.exported.proofs.word.word.Reads as word
-use Rattle.exported.proofs.create.souk_create.Kinds as souk-create-kinds
-use Rattle.exported.proofs.create.souk_create.Reads as souk-create
-use Rattle.exported.proofs.status.souk_set_status.Kinds as souk-set-status-kinds
-use Rattle.exported.proofs.status.souk_set_status.Reads as souk-set-status
-use Rattle.exported.proofs.poll.souk_poll.Kinds as souk-poll-kinds
-use Rattle.exported.proofs.poll.souk_poll.Reads as souk-poll
-use Rattle.exported.proofs.data.souk_read_data.Kinds as souk-read-data-kinds
-use Rattle.exported.proofs.data.souk_read_data.Reads as souk-read-data
-use Rattle.exported.proofs.data.souk_write_data.Kinds as souk-write-data-kinds
-use Rattle.exported.proofs.data.souk_write_data.Reads as souk-write-data
-use Rattle.exported.proofs.data.souk_try_write_data_all.Kinds as souk-try-write-data-all-kinds
-use Rattle.exported.proofs.data.souk_try_write_data_all.Reads as souk-try-write-data-all
-use Rattle.exported.proofs.bus.souk_reset.Kinds as souk-reset-kinds
-use Rattle.exported.proofs.bus.souk_reset.Reads as souk-reset
-use Rattle.exported.proofs.bus.souk_control.Kinds as souk-control-kinds
-use Rattle.exported.proofs.bus.souk_control.Reads as souk-control
-use Rattle.exported.proofs.command.souk_command.Kinds as souk-command-kinds
-use Rattle.exported.proofs.command.souk_command.Reads as souk-command
-use Rattle.exported.proofs.command.souk_command_step.Kinds as souk-command-step-kinds
-use Rattle.exported.proofs.command.souk_command_step.Reads as souk-command-step
+use Rattle.pollbytes.specs.Poll.{polls}
+use Rattle.pollbytes.proofs.Unique.{polled-once}
+use Rattle.databytes.specs.Data.{moves}
+use Rattle.databytes.proofs.Unique.{moved-once}
+use Rattle.callbytes.proofs.Unique.{left-once, shown-once}
+use Rattle.exported.proofs.souk_create.Kinds as souk-create-kinds
+use Rattle.exported.proofs.souk_create.Reads as souk-create
+use Rattle.exported.proofs.souk_set_status.Kinds as souk-set-status-kinds
+use Rattle.exported.proofs.souk_set_status.Reads as souk-set-status
+use Rattle.exported.proofs.souk_poll.Kinds as souk-poll-kinds
+use Rattle.exported.proofs.souk_poll.Reads as souk-poll
+use Rattle.exported.proofs.souk_read_data.Kinds as souk-read-data-kinds
+use Rattle.exported.proofs.souk_read_data.Reads as souk-read-data
+use Rattle.exported.proofs.souk_write_data.Kinds as souk-write-data-kinds
+use Rattle.exported.proofs.souk_write_data.Reads as souk-write-data
+use Rattle.exported.proofs.souk_try_write_data_all.Kinds as souk-try-write-data-all-kinds
+use Rattle.exported.proofs.souk_try_write_data_all.Reads as souk-try-write-data-all
+use Rattle.exported.proofs.souk_reset.Kinds as souk-reset-kinds
+use Rattle.exported.proofs.souk_reset.Reads as souk-reset
+use Rattle.exported.proofs.souk_control.Kinds as souk-control-kinds
+use Rattle.exported.proofs.souk_control.Reads as souk-control
+use Rattle.exported.proofs.souk_command.Kinds as souk-command-kinds
+use Rattle.exported.proofs.souk_command.Reads as souk-command
+use Rattle.exported.proofs.souk_command_step.Kinds as souk-command-step-kinds
+use Rattle.exported.proofs.souk_command_step.Reads as souk-command-step
 use Rattle.exported.proofs.decode.souk_decode.Kinds as souk-decode-kinds
 use Rattle.exported.proofs.decode.souk_decode.Reads as souk-decode
 use Rattle.exported.proofs.decode.souk_decode_told.Kinds as souk-decode-told-kinds
 use Rattle.exported.proofs.decode.souk_decode_told.Reads as souk-decode-told
 use Rattle.exported.proofs.decode.souk_verdict.Kinds as souk-verdict-kinds
 use Rattle.exported.proofs.decode.souk_verdict.Reads as souk-verdict
-
--- ---- what a call leaves tells each part of it
-
--- the record
-left-once : {n k : ℕ} {r l : List ℕ} → leaves n r ≡ leaves k l → (n ≡ k) × (r ≡ l)
-left-once e = (ap (λ (o : Left). o .result) e, ap (λ (o : Left). o .bytes) e)
-
--- the record, and what a read or a write may write to; both are looked at, beside the result 0
-moved-once : {n k : ℕ} {r l b c : List ℕ} → moves n r b ≡ moves k l c → (n ≡ k) × (moves 0 r b ≡ moves 0 l c)
-moved-once e = (ap (λ (o : Moved). o .result) e, ap (λ (o : Moved). moves 0 (o .bytes) (o .into)) e)
-
-polled-once : {x y : ℕ} {r r′ io io′ p p′ : List ℕ} → polls x r io p ≡ polls y r′ io′ p′ → (x ≡ y) × (polls 0 r io p ≡ polls 0 r′ io′ p′)
-polled-once e = (ap (λ (o : Polled). o .result) e, ap (λ (o : Polled). polls 0 (o .bytes) (o .io) (o .packet)) e)
-
--- what is lent for a command
-shown-once : {n k : ℕ} {l m : List ℕ} → shows n l ≡ shows k m → (n ≡ k) × (l ≡ m)
-shown-once e = (ap (λ (o : Shown). o .result) e, ap (λ (o : Shown). o .lent) e)
-
--- ---- inner functions
-
-pub held-only : Only 1 held-kinds.ps held-kinds.r held.Post (λ κs s. tt {0})
-held-only κs a x y s t p q = (p ∙ sym q, refl)
-
-pub stalls-number-only : Only 0 stalls-number-kinds.ps stalls-number-kinds.r stalls-number.Post (λ κs s. tt {0})
-stalls-number-only κs a x y s t p q = (p ∙ sym q, refl)
-
-pub word-only : Only 0 word-kinds.ps word-kinds.r word.Post (λ κs s. tt {0})
-word-only κs a x y s t p q = (p ∙ sym q, refl)
-
--- ---- the calls
 
 pub souk-create-only : Only 1 souk-create-kinds.ps souk-create-kinds.r souk-create.Post (λ κs s. now (s .0))
 souk-create-only κs a x y s t p q = left-once (p ∙ sym q)

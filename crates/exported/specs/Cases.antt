@@ -10,10 +10,12 @@ use Rattle.bbb.specs.Poll.{Given, given}
 use Rattle.calls.specs.declared.Figure.{Figure}
 use Rattle.calls.specs.declared.Request.{Request}
 use Rattle.recordbytes.specs.Record.{newRecord}
-use Rattle.exported.specs.Word.{word}
-use Rattle.exported.specs.Record.{isHeld}
-use Rattle.exported.specs.Calls.{leaves, createOn, statusOn, resetOn, controlOn, moves, readOn, writeOn, writeAllOn, polls, pollOn}
-use Rattle.exported.specs.Command.{shows, commandOn, stepOn}
+use Rattle.border.specs.Word.{word}
+use Rattle.border.specs.Record.{isHeld}
+use Rattle.pollbytes.specs.Poll.{polls, pollOn}
+use Rattle.databytes.specs.Data.{moves, readOn, writeOn, writeAllOn}
+use Rattle.callbytes.specs.Calls.{leaves, createOn, statusOn, resetOn, controlOn}
+use Rattle.callbytes.specs.Command.{shows, commandOn, stepOn}
 
 -- the command 12 01 80 00 FF, an inquiry for a page
 abbrev block : List ℕ

@@ -1,37 +1,92 @@
 // The socket for firmware in C and for Rust: numbers and byte slices, the record as 52 bytes. In C a slice is two arguments, its pointer
 // and its length; host/include/souklavanh.h says what each call does. Every call takes any bytes of any length and any numbers, and ends
 // with an answer. Every call that is lent a record to work on tests it first: a refusal with 10 leaves all that was lent as it was.
-//     create               a new record
-//     poll, onward         one poll; those in the midst of a transfer first
-//     packet               a packet put into a slice
-//     status, data, bus    what the firmware and the bus call between polls
-//     command              the command shown, and the command step
-//     decode               the decoder's two entries, and BOT's verdict on a message
-//     word                 a result of several parts in one number
-mod bus;
-mod command;
-mod create;
-mod data;
+// An archive has the functions of its own crate alone: so each call is handed on here, from the crate that proves it.
+//     decode    the decoder's two entries, and BOT's verdict on a message
 mod decode;
-mod onward;
-mod packet;
-mod poll;
-mod status;
-mod word;
 
-use device::whole;
-use recordbytes::known;
-use recordbytes::numbers_at;
 ghost use mathlib.Core.Path.{_≡_};
-ghost use lib.ListN.{length};
-ghost use Rattle.exported.specs.Record.{isHeld};
+ghost use Rattle.bbb.specs.Poll.{given};
+ghost use Rattle.pollbytes.specs.Poll.{polls, pollOn};
+ghost use Rattle.databytes.specs.Data.{moves, readOn, writeOn, writeAllOn};
+ghost use Rattle.callbytes.specs.Calls.{leaves, createOn, statusOn, resetOn, controlOn};
+ghost use Rattle.callbytes.specs.Command.{shows, commandOn, stepOn};
 
-// Whether bytes are a record that is not broken, over an IO buffer of so many bytes.
-pub(crate) fn held(record: &[u8], len: usize) -> bool
-    ensures { λ x. ⌜ x ≡ isHeld (now («record» .entry)) len ⌝ }
+#[no_mangle]
+pub extern "C" fn souk_create(record: &mut [u8], packet_size: u32, max_lun: u8, size: u32) -> u32
+    ensures { λ x. ⌜ leaves x (now («record» .exit)) ≡ createOn (now («record» .entry)) «packet_size» «max_lun» size ⌝ }
 {
-    if known(record) {
-        return whole(numbers_at(record), len);
-    }
-    false
+    callbytes::create::create(record, packet_size, max_lun, size)
+}
+
+#[no_mangle]
+pub extern "C" fn souk_poll(
+    record: &mut [u8],
+    io: &mut [u8],
+    packet: &mut [u8],
+    one: &[u8],
+    two: &[u8],
+    first: u8,
+    second: u8,
+    write: u8,
+) -> u64
+    ensures { λ x. ⌜ polls x (now («record» .exit)) (now (io .exit)) (now (packet .exit)) ≡ pollOn (now («record» .entry)) (now (io .entry)) (given (now (packet .entry)) (now (one .entry)) (now (two .entry)) (record { first = first; second = second; write = write })) ⌝ }
+{
+    pollbytes::poll(record, io, packet, one, two, first, second, write)
+}
+
+#[no_mangle]
+pub extern "C" fn souk_set_status(record: &mut [u8], io: &[u8], status: u8, figure: u32) -> u32
+    ensures { λ x. ⌜ leaves x (now («record» .exit)) ≡ statusOn (now («record» .entry)) (now (io .entry)) (record { status = status; processed = figure }) ⌝ }
+{
+    callbytes::status::set_status(record, io, status, figure)
+}
+
+#[no_mangle]
+pub extern "C" fn souk_read_data(record: &mut [u8], io: &[u8], dst: &mut [u8]) -> u64
+    ensures { λ x. ⌜ moves x (now («record» .exit)) (now (dst .exit)) ≡ readOn (now («record» .entry)) (now (io .entry)) (now (dst .entry)) ⌝ }
+{
+    databytes::read_data(record, io, dst)
+}
+
+#[no_mangle]
+pub extern "C" fn souk_write_data(record: &mut [u8], io: &mut [u8], src: &[u8]) -> u64
+    ensures { λ x. ⌜ moves x (now («record» .exit)) (now (io .exit)) ≡ writeOn (now («record» .entry)) (now (io .entry)) (now (src .entry)) ⌝ }
+{
+    databytes::write_data(record, io, src)
+}
+
+#[no_mangle]
+pub extern "C" fn souk_try_write_data_all(record: &mut [u8], io: &mut [u8], src: &[u8]) -> u64
+    ensures { λ x. ⌜ moves x (now («record» .exit)) (now (io .exit)) ≡ writeAllOn (now («record» .entry)) (now (io .entry)) (now (src .entry)) ⌝ }
+{
+    databytes::try_write_data_all(record, io, src)
+}
+
+#[no_mangle]
+pub extern "C" fn souk_reset(record: &mut [u8], io: &[u8]) -> u64
+    ensures { λ x. ⌜ leaves x (now («record» .exit)) ≡ resetOn (now («record» .entry)) (now (io .entry)) ⌝ }
+{
+    callbytes::bus::reset(record, io)
+}
+
+#[no_mangle]
+pub extern "C" fn souk_control(record: &mut [u8], io: &[u8], request_type: u8, request: u8) -> u64
+    ensures { λ x. ⌜ leaves x (now («record» .exit)) ≡ controlOn (now («record» .entry)) (now (io .entry)) (record { requesttype = «request_type»; request = request }) ⌝ }
+{
+    callbytes::bus::control(record, io, request_type, request)
+}
+
+#[no_mangle]
+pub extern "C" fn souk_command(record: &[u8], io: &[u8], block: &mut [u8]) -> u64
+    ensures { λ x. ⌜ shows x (now (block .exit)) ≡ commandOn (now («record» .entry)) (now (io .entry)) (now (block .entry)) ⌝ }
+{
+    callbytes::command::command(record, io, block)
+}
+
+#[no_mangle]
+pub extern "C" fn souk_command_step(record: &[u8], io: &[u8], command: &mut [u64]) -> u64
+    ensures { λ x. ⌜ shows x (now (command .exit)) ≡ stepOn (now («record» .entry)) (now (io .entry)) (now (command .entry)) ⌝ }
+{
+    callbytes::command::command_step(record, io, command)
 }

@@ -1,0 +1,25 @@
+// A result of several parts in one number of 64 bits.
+use answers::Stalls;
+ghost use mathlib.Core.Path.{_≡_};
+ghost use Rattle.border.specs.Word as spec;
+
+pub fn stalls_number(stalls: Stalls) -> u8
+    ensures { λ x. ⌜ x ≡ spec.stallsNumber stalls ⌝ }
+{
+    match stalls {
+        Stalls::Kept => 0,
+        Stalls::Stalled => 1,
+        Stalls::Unstalled => 2,
+        Stalls::UnstalledStalled => 3,
+    }
+}
+
+pub fn word(answer: u8, carried: u8, stalls: u8, flag: u8, count: u32) -> u64
+    ensures { λ x. ⌜ x ≡ spec.word answer carried stalls flag count ⌝ }
+{
+    answer as u64
+        + 256 * (carried as u64)
+        + 65536 * (stalls as u64)
+        + 16777216 * (flag as u64)
+        + 4294967296 * (count as u64)
+}

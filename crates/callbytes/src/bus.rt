@@ -1,0 +1,74 @@
+// The bus: a reset, and control requests.
+use answers::answer_number;
+use border::held;
+use border::word::stalls_number;
+use border::word::word;
+use calls::Handled;
+use calls::Reply;
+use calls::Request;
+use recordbytes::device_at;
+use recordbytes::store;
+ghost use mathlib.Core.Path.{_≡_};
+ghost use lib.ListN.{length, getD};
+ghost use Rattle.answers.specs.Answers as answers;
+ghost use Rattle.calls.specs.Bus as bus;
+ghost use Rattle.recordbytes.specs.Layout.{recordSize};
+ghost use Rattle.recordbytes.specs.Record.{storeState, storeLeft, storeStatus};
+ghost use Rattle.border.specs.Word as spec;
+ghost use Rattle.callbytes.specs.Calls.{leaves, resetOn, controlOn};
+
+fn replied(number: u8, stalls: u8, reply: Reply) -> u64
+    ensures { λ x. ⌜ x ≡ spec.word number 0 stalls (length (bus.replied reply)) (getD (bus.replied reply) 0 0) ⌝ }
+{
+    match reply {
+        Reply::Nothing => word(number, 0, stalls, 0, 0),
+        Reply::MaxLun(lun) => word(number, 0, stalls, 1, lun as u32),
+    }
+}
+
+// Status, state and left go into the record, the rest into the result.
+fn handled(record: &mut [u8], h: Handled) -> u64
+    requires { ⌜ length (now «record») ≡ recordSize ⌝ }
+    ensures { λ x. ⌜ (x ≡ spec.word (answers.number (h .report .answer)) 0 (spec.stallsNumber (h .report .stalls)) (length (bus.replied (h .report .reply))) (getD (bus.replied (h .report .reply)) 0 0))
+        × (now («record» .exit) ≡ storeLeft (h .device .left) (storeState (h .device .state) (storeStatus (h .device .status) (now («record» .entry))))) ⌝ }
+{
+    let d = h.device;
+    let status = d.status;
+    let state = d.state;
+    let left = d.left;
+    let report = h.report;
+    let answer = report.answer;
+    let stalls = report.stalls;
+    let reply = report.reply;
+    store::status(record, status);
+    store::state(record, state);
+    store::left(record, left);
+    replied(answer_number(answer), stalls_number(stalls), reply)
+}
+
+pub fn reset(record: &mut [u8], io: &[u8]) -> u64
+    ensures { λ x. ⌜ leaves x (now («record» .exit)) ≡ resetOn (now («record» .entry)) (now (io .entry)) ⌝ }
+{
+    if !held(record, io.len()) {
+        return 10;
+    }
+    let h = calls::reset(device_at(record), io);
+    handled(record, h)
+}
+
+pub fn control(record: &mut [u8], io: &[u8], request_type: u8, request: u8) -> u64
+    ensures { λ x. ⌜ leaves x (now («record» .exit)) ≡ controlOn (now («record» .entry)) (now (io .entry)) (record { requesttype = «request_type»; request = request }) ⌝ }
+{
+    if !held(record, io.len()) {
+        return 10;
+    }
+    let h = calls::control(
+        device_at(record),
+        io,
+        Request {
+            requesttype: request_type,
+            request: request,
+        },
+    );
+    handled(record, h)
+}

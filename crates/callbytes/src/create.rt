@@ -1,0 +1,21 @@
+// A new record.
+use answers::answer_number;
+use recordbytes::store;
+ghost use mathlib.Core.Path.{_≡_};
+ghost use Rattle.callbytes.specs.Calls.{leaves, createOn};
+
+pub fn create(record: &mut [u8], packet_size: u32, max_lun: u8, size: u32) -> u32
+    ensures { λ x. ⌜ leaves x (now («record» .exit)) ≡ createOn (now («record» .entry)) «packet_size» «max_lun» size ⌝ }
+{
+    let c = device::create::create(packet_size, max_lun, size);
+    let answer = c.answer;
+    let number = answer_number(answer);
+    if number != 0 {
+        return number as u32;
+    }
+    if record.len() != 52 {
+        return 10;
+    }
+    store::new(record, (packet_size % 256) as u8, max_lun, size);
+    0
+}

@@ -1,0 +1,170 @@
+// Polls in the midst of a transfer: the next packet of data crosses the wire, and nothing else happens. Most polls of a read-out are
+// such. The whole ring would come to the same, only later; so they are looked for first, and in the record's bytes, before anything
+// else is read of them. The tests may miss such a poll: then the ring does it.
+//     packet    a packet put into a slice
+mod packet;
+
+use crate::packet::put_packet;
+use bbb::fits;
+use border::word::word;
+use buffer::Marks;
+use device::Numbers;
+use device::is_packet_size;
+use fields::byte;
+use fields::le32;
+use recordbytes::store;
+use ring::State;
+use wrapper::counters::left_after;
+ghost use mathlib.Core.Path.{_≡_};
+ghost use mathlib.Core.Bool.{true};
+ghost use Prim.Native.Nat.{_-_, _≤_};
+ghost use lib.ListN.{length};
+ghost use Rattle.device.specs.Broken.{Whole};
+ghost use Rattle.recordbytes.specs.Layout.{recordSize};
+ghost use Rattle.onward.specs.Onward.{Steady, sendsIn, MaySend, MayTake, SendsOn, TakesOn};
+
+fn sends_in(state: u8) -> bool
+    ensures { λ x. ⌜ x ≡ sendsIn state ⌝ }
+{
+    if state == 6 {
+        return true;
+    }
+    state == 4
+}
+
+// Of the record what both ways need. A buffer of fewer bytes than the largest packet is left to the ring.
+fn steady(record: &[u8], len: usize) -> bool
+    requires { ⌜ length (now «record») ≡ recordSize ⌝ }
+    ensures { λ x. ⌜ (x ≡ true → Steady (now («record» .entry)) len) ⌝ }
+{
+    let size = le32(record, 4) as usize;
+    if size != len {
+        return false;
+    }
+    if size < 64 {
+        return false;
+    }
+    if 65536 < size {
+        return false;
+    }
+    if 15 < byte(record, 1) {
+        return false;
+    }
+    if 2 < byte(record, 24) {
+        return false;
+    }
+    if 2 < byte(record, 25) {
+        return false;
+    }
+    if 15 < byte(record, 26) {
+        return false;
+    }
+    if 16 < byte(record, 27) {
+        return false;
+    }
+    is_packet_size(byte(record, 0) as usize)
+}
+
+// Whether the record is whole, the offers fit, and a whole packet of data goes out.
+pub fn sends_on(record: &[u8], len: usize, packet: usize, one: usize, two: usize, write: u8) -> bool
+    ensures { λ x. ⌜ (x ≡ true → MaySend (now («record» .entry)) len packet one two write) ⌝ }
+{
+    if record.len() != 52 {
+        return false;
+    }
+    if !sends_in(byte(record, 2)) {
+        return false;
+    }
+    if byte(record, 3) != 1 {
+        return false;
+    }
+    if write != 0 {
+        return false;
+    }
+    let p = byte(record, 0) as usize;
+    if (le32(record, 16) as usize) < p {
+        return false;
+    }
+    if !steady(record, len) {
+        return false;
+    }
+    let to = le32(record, 12) as usize;
+    if len < to {
+        return false;
+    }
+    if to < le32(record, 8) as usize + p {
+        return false;
+    }
+    fits(p, packet, one, two)
+}
+
+pub fn send_on(record: &mut [u8], n: Numbers, io: &[u8], packet: &mut [u8]) -> u64
+    requires { ⌜ (length (now «record») ≡ recordSize) × Whole n (length (now io)) × (n .packetsize ≤ length (now packet)) × (n .packetsize ≤ n .marks .write - n .marks .read) ⌝ }
+    ensures { λ x. ⌜ SendsOn n (now (io .entry)) (now («record» .entry)) (now (packet .entry)) x (now («record» .exit)) (now (packet .exit)) ⌝ }
+{
+    let left = n.left;
+    let marks = n.marks;
+    let from = marks.read;
+    let end = from + n.packetsize;
+    let after = Marks {
+        read: end,
+        write: marks.write,
+    };
+    let falls = left_after(left, n.packetsize);
+    store::state(record, State::DataTransferToHostEnding);
+    store::marks(record, after);
+    store::left(record, falls);
+    put_packet(packet, 0, &io[from..end]);
+    word(0, 0, 0, 0, store::narrow(n.packetsize))
+}
+
+// Whether the record is whole, the offers fit, and a packet of data comes in for which there is room.
+pub fn takes_on(record: &[u8], len: usize, packet: usize, one: usize, two: usize, first: u8) -> bool
+    ensures { λ x. ⌜ (x ≡ true → MayTake (now («record» .entry)) len packet one two first) ⌝ }
+{
+    if record.len() != 52 {
+        return false;
+    }
+    if byte(record, 2) != 7 {
+        return false;
+    }
+    if byte(record, 3) != 0 {
+        return false;
+    }
+    if first != 0 {
+        return false;
+    }
+    if le32(record, 16) == 0 {
+        return false;
+    }
+    if !steady(record, len) {
+        return false;
+    }
+    let p = byte(record, 0) as usize;
+    let at = le32(record, 12) as usize;
+    if len < at + p {
+        return false;
+    }
+    if at < le32(record, 8) as usize {
+        return false;
+    }
+    fits(p, packet, one, two)
+}
+
+pub fn take_on(record: &mut [u8], n: Numbers, io: &mut [u8], one: &[u8]) -> u64
+    requires { ⌜ (length (now «record») ≡ recordSize) × Whole n (length (now io)) × (length (now one) ≤ n .packetsize) × (n .packetsize ≤ length (now io) - n .marks .write) ⌝ }
+    ensures { λ x. ⌜ TakesOn n (now (io .entry)) (now («record» .entry)) (now (one .entry)) x (now («record» .exit)) (now (io .exit)) ⌝ }
+{
+    let left = n.left;
+    let marks = n.marks;
+    let at = marks.write;
+    let after = Marks {
+        read: marks.read,
+        write: at + one.len(),
+    };
+    let falls = left_after(left, one.len());
+    store::marks(record, after);
+    store::left(record, falls);
+    put_packet(io, at, one);
+    word(0, 0, 0, 1, 0)
+}

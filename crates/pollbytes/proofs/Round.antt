@@ -1,0 +1,224 @@
+-- The poll of a record that is whole, through the whole ring, and what the call that chooses between the ways owes (`ways`). Assumes nothing.
+use mathlib.Core.Path.{_≡_, refl, sym, ap, _∙_, subst}
+use mathlib.Core.Bool.{Bool, true, false, not, cond}
+use mathlib.Core.List.{List}
+use Prim.Native.Nat.{ℕ, _-_, _≤_}
+use native.Mathlib.Omega.{arith}
+use lib.ListN.{length, take, drop}
+use borrow.Author.Tests.{le-leb}
+use Rattle.fields.specs.Field.{bytesAt}
+use Rattle.fields.proofs.Bools.{not-true, not-false}
+use Rattle.fields.proofs.Seq.{length-part}
+use Rattle.buffer.specs.declared.Marks.{Marks}
+use Rattle.ring.specs.declared.State.{State}
+use Rattle.wrapper.specs.declared.counters.Left.{Left}
+use Rattle.answers.specs.declared.Outcome.{Outcome}
+use Rattle.answers.specs.declared.Stalls.{Stalls}
+use Rattle.answers.specs.Answers.{number, told, endpointOf}
+use Rattle.wrapper.specs.declared.Head.{Head}
+use Rattle.wrapper.specs.declared.Wrapper.{Wrapper}
+use Rattle.wrapper.specs.Wrapper.{wrapperOf, headOf}
+use Rattle.device.specs.declared.Device.{Device}
+use Rattle.device.specs.declared.Numbers.{Numbers}
+use Rattle.device.specs.declared.Status.the-variants.{Absent}
+use Rattle.device.specs.Device.{numbersOf}
+use Rattle.device.specs.Broken.{Whole, isWhole}
+use Rattle.device.proofs.Wholly.{tested, whole-is, size-most, packet-known, packet-bounds}
+use Rattle.bbb.specs.declared.Change.{Change}
+use Rattle.bbb.specs.declared.open.Opened.{Opened}
+use Rattle.bbb.specs.Poll.{Given, Polling, Fits, isFitting, refusing, pollingOf, pollCall}
+use Rattle.bbb.specs.Phases.{openOf, isValidFound, InFront, Opens, opened, openedIo, justRead, wrapperThen, endedOf, goneOn, changedBy}
+use Rattle.bbb.proofs.Polling as bbb
+use Rattle.bbb.proofs.Keeping.{call-whole, call-sizes}
+use Rattle.recordbytes.specs.Layout.{recordSize}
+use Rattle.recordbytes.specs.Record.{isKnown, deviceAt, joined, storeState, storeMarks, storeLeft, storeStatus, storeWrapper, storeDevice}
+use Rattle.recordbytes.proofs.Stored.{Known, is-known}
+use Rattle.recordbytes.proofs.Parts.{device-kept, polled, moved-to, moved-within, parsed}
+use Rattle.border.specs.Word.{word, plain, stallsNumber}
+use Rattle.border.specs.Record.{onDevice}
+use Rattle.onward.specs.Onward.{Ready, MaySend, SendsOn, MayTake, TakesOn}
+use Rattle.pollbytes.specs.Poll.{Keepable, keptChange, polls, pollOn}
+use Rattle.pollbytes.specs.Poll as spec
+use Rattle.border.proofs.Lending.{made}
+use Rattle.onward.proofs.Going.{sentOn, send-rule, takenOn, take-rule}
+
+-- ---- the functions of a round
+
+pub tells : (o : Outcome) (stalls : Stalls) (taken sent : ℕ) {a s k x : ℕ} → a ≡ number (o .answer) → s ≡ stallsNumber stalls → k ≡ sent → x ≡ word a (o .carried) s taken k
+    → x ≡ word (told o .number) (told o .carried) (stallsNumber stalls) taken sent
+unfolding told
+tells o stalls taken sent ea es ek ex = rw (← ea, ← es, ← ek, ex)
+
+module _ (r : List ℕ) (b : Bool) where
+  pub clears : b ≡ true → {l : List ℕ} → l ≡ storeStatus Absent r → l ≡ cond b (storeStatus Absent r) r
+  clears q e = rw q e
+
+  pub clears-not : b ≡ false → r ≡ cond b (storeStatus Absent r) r
+  clears-not q = rw q
+
+pub keeps : (c : Change) (r : List ℕ) {a b d l : List ℕ} → a ≡ cond (c .cleared) (storeStatus Absent r) r → b ≡ storeState (c .state) a → d ≡ storeMarks (c .marks) b → l ≡ storeLeft (c .left) d → l ≡ keptChange c r
+unfolding keptChange
+keeps c r ea eb ed el = rw (← ea, ← eb, ← ed, el)
+
+-- a wrapper in two parts
+halves : (m : List ℕ) {h : Head} → h ≡ headOf (wrapperOf m) → joined h (take 16 (drop 15 m)) ≡ wrapperOf m
+unfolding wrapperOf bytesAt
+halves m e = rw e
+
+module _ (r : List ℕ) (o : Opened) (io : List ℕ) {v : Bool} (ev : v ≡ isValidFound (o .found)) where
+  pub keeps-found : InFront o → v ≡ true → {h : Head} {l : List ℕ} → h ≡ headOf (wrapperOf (take (o .marks .read - (o .marks .read - 31)) (drop (o .marks .read - 31) io)))
+      → l ≡ storeWrapper (joined h (take (31 - 15) (drop 15 (take (o .marks .read - (o .marks .read - 31)) (drop (o .marks .read - 31) io))))) r
+      → l ≡ cond (isValidFound (o .found)) (storeWrapper (wrapperOf (justRead io (o .marks))) r) r
+  keeps-found front q eh el =
+      rw (← ev, q) (el ∙ ap (λ (w : Wrapper). storeWrapper w r) (halves _ eh) ∙ ap (λ (m : List ℕ). storeWrapper (wrapperOf m) r) (bbb.in-front io (o .marks) (front (sym ev ∙ q))))
+
+  pub keeps-none : v ≡ false → r ≡ cond (isValidFound (o .found)) (storeWrapper (wrapperOf (justRead io (o .marks))) r) r
+  keeps-none q = rw (← ev, q)
+
+-- ---- a round
+
+module _ (r io : List ℕ) (g : Given) (known : isKnown r ≡ true) {n : Numbers} (en : n ≡ numbersOf (deviceAt r)) (w : Whole n (length io)) (f : Fits (n .packetsize) (g .packet) (g .one) (g .two)) where
+  abbrev d : Device
+  d = deviceAt r
+
+  k : Known r
+  k = is-known r known
+
+  fitting : isFitting (n .packetsize) (length (g .packet)) (length (g .one)) (length (g .two)) ≡ true
+  fitting = sym (bbb.fits-all (n .packetsize) (length (g .packet)) (length (g .one)) (length (g .two)) (f .first) (f .second)) ∙ le-leb _ _ (f .into)
+
+  whole : Whole (numbersOf d) (length io)
+  whole = rw en at w
+
+  -- the parts stored one by one are the device
+  parts-stored : (v b : Bool) (x : Wrapper) → (v ≡ true → length (x .block) ≡ 16) → (s : State) (m : Marks) (l : Left)
+      → storeLeft l (storeMarks m (storeState s (cond b (storeStatus Absent (cond v (storeWrapper x r) r)) (cond v (storeWrapper x r) r))))
+      ≡ storeDevice (record { packetsize = d .packetsize; maxlun = d .maxlun; size = d .size; state = s; marks = m; wrapper = cond v x (d .wrapper); status = cond b Absent (d .status); left = l }) r
+  unfolding storeDevice
+  parts-stored false false x h s m l = sym (moved-to r k s m l)
+  parts-stored false true x h s m l = sym (polled r k Absent s m l)
+  parts-stored true false x h s m l = sym (parsed r k x (h refl) s m l)
+  parts-stored true true x h s m l = refl
+
+  module _ (o : Opened) (io′ : List ℕ) (x : Opens (opened n io (g .one) (endpointOf (g .turn .first))) (openedIo n io (g .one) (endpointOf (g .turn .first))) o io′)
+      (c : Change) {io″ packet′ : List ℕ} (y : endedOf c io″ packet′ ≡ goneOn n (openOf o) io′ g) where
+    -- the wrapper in the record then, and the device that holds it
+    abbrev w′ : Wrapper
+    w′ = wrapperThen (openOf o) io′ (d .wrapper)
+
+    is-poll : pollingOf (record { device = changedBy d c w′; report = c .report }) io″ packet′ ≡ pollCall d io g
+    is-poll = bbb.polls d io g en {v = isWhole n (length io)} refl (whole-is n (length io) w) {w = isFitting (n .packetsize) (length (g .packet)) (length (g .one)) (length (g .two))} refl fitting c x y refl refl
+
+    pub keepable : Keepable c
+    keepable =
+        let after : Whole (numbersOf (changedBy d c w′)) (length io″) = subst (λ (p : Polling). Whole (numbersOf (p .device)) (length (p .io))) (sym is-poll) (call-whole d io g whole) in
+        let most = size-most (numbersOf (changedBy d c w′)) (length io″) after in
+        let sent : c .report .sent ≤ d .packetsize = subst (λ (p : Polling). p .sent ≤ d .packetsize) (sym is-poll) (call-sizes d io g .sent) in
+        record {
+          read = omega (arith, after .order, after .within, most);
+          write = omega (arith, after .within, most);
+          sent = omega (arith, sent, packet-bounds (d .packetsize) (packet-known (numbersOf d) (length io) whole) .1);
+        }
+
+    -- the wrapper found has a block of 16 bytes
+    sixteen : isValidFound (o .found) ≡ true → length (wrapperOf (justRead io′ (o .marks)) .block) ≡ 16
+    unfolding wrapperOf bytesAt justRead
+    sixteen q =
+        let whole-one : length (take 31 (drop (o .marks .read - 31) io′)) ≡ 31 = length-part (o .marks .read - 31) 31 io′ (omega (arith, x .front q, x .sound .order, x .sound .within)) in
+        length-part 15 16 (take 31 (drop (o .marks .read - 31) io′)) (omega arith)
+
+    pub rounds : {r₁ r₂ : List ℕ} {result : ℕ} → r₁ ≡ cond (isValidFound (o .found)) (storeWrapper (wrapperOf (justRead io′ (o .marks))) r) r → r₂ ≡ keptChange c r₁
+        → result ≡ word (told (c .report .outcome) .number) (told (c .report .outcome) .carried) (stallsNumber (c .report .stalls)) (c .report .taken) (c .report .sent)
+        → polls result r₂ io″ packet′ ≡ pollOn r io g
+    unfolding pollOn keptChange wrapperThen
+    rounds {r₁} {r₂} e₁ e₂ e =
+        let stored : r₂ ≡ storeDevice (changedBy d c w′) r = rw e₁ at e₂ ∙ parts-stored (isValidFound (o .found)) (c .cleared) (wrapperOf (justRead io′ (o .marks))) sixteen (c .state) (c .marks) (c .left) in
+        rw (stored, e) (ap (spec.polled r) is-poll ∙ made r (polls (plain 10) r io (g .packet)) (λ (d : Device). spec.polled r (pollCall d io g)) known)
+
+-- ---- the call
+
+pub known-there : (r : List ℕ) {b : Bool} → b ≡ isKnown r → not b ≡ false → isKnown r ≡ true
+known-there r {b} eb q = sym eb ∙ not-false b q
+
+pub whole-there : (n : Numbers) (len : ℕ) {v : Bool} → v ≡ isWhole n len → not v ≡ false → Whole n len
+whole-there n len {v} ev q = tested n len ev (not-false v q)
+
+pub fits-there : (p : ℕ) (packet one two : List ℕ) {u : Bool} → u ≡ isFitting p (length packet) (length one) (length two) → not u ≡ false → Fits p packet one two
+fits-there p packet one two {u} eu q = bbb.is-fitting p packet one two eu (not-false u q)
+
+module _ (r io : List ℕ) (g : Given) (is : isKnown r ≡ true) where
+  on : (o : Polling) → pollCall (deviceAt r) io g ≡ o → spec.polled r o ≡ pollOn r io g
+  unfolding pollOn
+  on o e = ap (spec.polled r) (sym e) ∙ made r (polls (plain 10) r io (g .packet)) (λ (d : Device). spec.polled r (pollCall d io g)) is
+
+  same : (answer : ℕ) → spec.polled r (refusing (deviceAt r) io g answer) ≡ polls (plain answer) r io (g .packet)
+  same answer = ap (λ (l : List ℕ). polls (plain answer) l io (g .packet)) (device-kept r (is-known r is))
+
+module _ (r io : List ℕ) (g : Given) {b : Bool} (eb : b ≡ isKnown r) where
+  pub poll-unknown : not b ≡ true → polls 10 r io (g .packet) ≡ pollOn r io g
+  unfolding pollOn onDevice word
+  poll-unknown q = rw (← eb, not-true b q)
+
+  module _ (qb : not b ≡ false) {n : Numbers} (en : n ≡ numbersOf (deviceAt r)) {v : Bool} (ev : v ≡ isWhole n (length io)) where
+    pub poll-broken : not v ≡ true → polls 10 r io (g .packet) ≡ pollOn r io g
+    unfolding pollCall word
+    poll-broken q = let is = known-there r eb qb in sym (same r io g is 10) ∙ on r io g is (refusing (deviceAt r) io g 10) (rw (← en, ← ev, not-true v q))
+
+    pub poll-refused : not v ≡ false → {u : Bool} → u ≡ isFitting (n .packetsize) (length (g .packet)) (length (g .one)) (length (g .two)) → not u ≡ true → polls 11 r io (g .packet) ≡ pollOn r io g
+    unfolding pollCall word
+    poll-refused qv {u} eu q =
+        let is = known-there r eb qb in
+        let unfit : isFitting (deviceAt r .packetsize) (length (g .packet)) (length (g .one)) (length (g .two)) ≡ false = sym (rw en at eu) ∙ not-true u q in
+        sym (same r io g is 11) ∙ on r io g is (refusing (deviceAt r) io g 11) (rw (← en, ← ev, not-false v qv, unfit))
+
+-- ---- in the midst of a transfer
+
+module _ (r io packet one two : List ℕ) (y : Ready r (length io) (length packet) (length one) (length two)) where
+  ready-long : length r ≡ recordSize
+  ready-long = is-known r (y .known) .long
+
+  offers-fit : Fits (deviceAt r .packetsize) packet one two
+  offers-fit = bbb.is-fitting (deviceAt r .packetsize) packet one two refl (y .fits)
+
+module _ (r : List ℕ) {len packet one two turn : ℕ} {t : Bool} where
+  pub send-long : (t ≡ true → MaySend r len packet one two turn) → t ≡ true → length r ≡ recordSize
+  send-long tells q = is-known r (tells q .ready .known) .long
+
+  pub take-long : (t ≡ true → MayTake r len packet one two turn) → t ≡ true → length r ≡ recordSize
+  take-long tells q = is-known r (tells q .ready .known) .long
+
+module _ (r io packet one two : List ℕ) {turn : ℕ} {t : Bool} where
+  pub send-needs : (t ≡ true → MaySend r (length io) (length packet) (length one) (length two) turn) → t ≡ true → {n : Numbers} → n ≡ numbersOf (deviceAt r)
+      → (length r ≡ recordSize) × Whole n (length io) × (n .packetsize ≤ length packet) × (n .packetsize ≤ n .marks .write - n .marks .read)
+  send-needs tells q en =
+      let y = tells q in
+      rw en (ready-long r io packet one two (y .ready), y .ready .whole, offers-fit r io packet one two (y .ready) .into, y .sends .unread)
+
+  pub take-needs : (t ≡ true → MayTake r (length io) (length packet) (length one) (length two) turn) → t ≡ true → {n : Numbers} → n ≡ numbersOf (deviceAt r)
+      → (length r ≡ recordSize) × Whole n (length io) × (length one ≤ n .packetsize) × (n .packetsize ≤ length io - n .marks .write)
+  take-needs tells q en =
+      let y = tells q in
+      rw en (ready-long r io packet one two (y .ready), y .ready .whole, offers-fit r io packet one two (y .ready) .first, y .takes .room)
+
+module _ (r io : List ℕ) (g : Given) {t : Bool} where
+  pub poll-sends : (t ≡ true → MaySend r (length io) (length (g .packet)) (length (g .one)) (length (g .two)) (g .turn .write)) → t ≡ true → {n : Numbers} → n ≡ numbersOf (deviceAt r)
+      → {x : ℕ} {r′ packet′ : List ℕ} → SendsOn n io r (g .packet) x r′ packet′ → polls x r′ io packet′ ≡ pollOn r io g
+  poll-sends tells q en {x} {r′} {packet′} h =
+      let y = tells q in
+      let whole = y .ready .whole in
+      let fits = offers-fit r io (g .packet) (g .one) (g .two) (y .ready) in
+      let it : SendsOn (numbersOf (deviceAt r)) io r (g .packet) x r′ packet′ = subst (λ (m : Numbers). SendsOn m io r (g .packet) x r′ packet′) en h in
+      let kept : r′ ≡ storeDevice (sentOn (deviceAt r) io g whole fits .device) r = it .bytes ∙ sym (moved-to r (is-known r (y .ready .known)) _ _ _) in
+      rw (it .told, it .packet, kept) (on r io g (y .ready .known) (sentOn (deviceAt r) io g whole fits) (send-rule (deviceAt r) io g whole fits (y .sends)))
+
+  pub poll-takes : (t ≡ true → MayTake r (length io) (length (g .packet)) (length (g .one)) (length (g .two)) (g .turn .first)) → t ≡ true → {n : Numbers} → n ≡ numbersOf (deviceAt r)
+      → {x : ℕ} {r′ io′ : List ℕ} → TakesOn n io r (g .one) x r′ io′ → polls x r′ io′ (g .packet) ≡ pollOn r io g
+  poll-takes tells q en {x} {r′} {io′} h =
+      let y = tells q in
+      let whole = y .ready .whole in
+      let fits = offers-fit r io (g .packet) (g .one) (g .two) (y .ready) in
+      let it : TakesOn (numbersOf (deviceAt r)) io r (g .one) x r′ io′ = subst (λ (m : Numbers). TakesOn m io r (g .one) x r′ io′) en h in
+      let kept : r′ ≡ storeDevice (takenOn (deviceAt r) io g whole fits .device) r = it .bytes ∙ sym (moved-within r (is-known r (y .ready .known)) _ _) in
+      rw (it .told, it .io, kept) (on r io g (y .ready .known) (takenOn (deviceAt r) io g whole fits) (take-rule (deviceAt r) io g whole fits (y .takes)))
+
+pub ruleset ways = (tells, clears, clears-not, keeps, keeps-found, keeps-none)
