@@ -2,6 +2,7 @@
 --     poll-whole, call-whole    a whole record stays whole, over the IO buffer that a poll leaves
 --     poll-sizes, call-sizes    what creation fixed and the lengths of both buffers stay; at most two packets are taken, P bytes sent (Sizes)
 --     Follows, follows-..       the buffer that a step leaves has sound marks, and is as long as before
+--     packet-is                 the same packet size, from the same that creation fixed
 --     call-done                 on a whole record, with packets that fit, the call is the poll
 --     by-call                   what holds of both refusals and of the poll holds of the call
 --     by-direction              what holds of all three ways on behind a wrapper holds of the one taken
@@ -117,7 +118,8 @@ record Standing (d : Device) (len : ℕ) (f : Fixed) (s : Buffer) (unit blocklen
 abbrev Stands : Device → ℕ → Point → Type 0
 Stands d len x = Standing d len (x .device .fixed) (bufferAt x) (x .device .wrapper .lun) (x .device .wrapper .blocklength)
 
-packet-is : {f g : Fixed} → f ≡ g → f .packetsize ≡ g .packetsize
+-- what creation fixed, part by part
+pub packet-is : {f g : Fixed} → f ≡ g → f .packetsize ≡ g .packetsize
 packet-is = ap (λ (x : Fixed). x .packetsize)
 
 size-is : {f g : Fixed} → f ≡ g → f .size ≡ g .size

@@ -15,14 +15,13 @@ use Rattle.fields.specs.Overlay.{overlay}
 use Rattle.fields.proofs.Bools.{and-left, and-right}
 use Rattle.fields.proofs.Overlay.{overlay-nothing, overlay-stored}
 use Rattle.answers.specs.declared.Stalls.the-variants.{Kept}
-use Rattle.answers.specs.Answers.{told}
 use Rattle.scsi.specs.declared.ScsiCommand.{ScsiCommand}
 use Rattle.wrapper.specs.declared.Wrapper.{Wrapper}
 use Rattle.device.specs.declared.Device.{Device}
 use Rattle.bbb.specs.declared.Turn.{Turn}
 use Rattle.bbb.specs.declared.Polled.{Polled}
 use Rattle.bbb.specs.Poll.{pollingOf, given, pollCall}
-use Rattle.calls.specs.declared.Figure.{Figure}
+use Rattle.calls.specs.declared.FirmwareStatus.{FirmwareStatus}
 use Rattle.calls.specs.declared.Request.{Request}
 use Rattle.calls.specs.declared.Stated.{Stated}
 use Rattle.calls.specs.declared.Moved.{Moved}
@@ -38,7 +37,7 @@ use Rattle.calls.specs.Bus.{Handling, handledOf, replied, resetCall, controlCal
 use Rattle.calls.specs.Command.{steppedOf, offers, stepCall}
 use Rattle.benchfile.specs.Event.{inAnswer, firstAnswer, secondAnswer, firstLength, secondLength, firstPacket, secondPacket, statusByte, figure, room, requestType, request, agrees, isPoll, isStatus, isLong, suits}
 use Rattle.benchact.specs.declared.Acted.{Acted}
-use Rattle.benchact.specs.Act.{Acting, actingOf, front, turnOf, polledBy, polled, pollActs, figureOf, statedBy, stated, statusActs, movedBy, written, writeActs, writeAllActs, readInto, readActs, handledBy, inFront, handled, resetActs, requestOf, controlActs, commandInFront, stepped, commandActs, actBy}
+use Rattle.benchact.specs.Act.{Acting, actingOf, front, turnOf, polledBy, polled, pollActs, statusOf, statedBy, stated, statusActs, movedBy, written, writeActs, writeAllActs, readInto, readActs, handledBy, inFront, handled, resetActs, requestOf, controlActs, commandInFront, stepped, commandActs, actBy}
 
 -- ---- what the kind says of the n bytes
 
@@ -86,11 +85,11 @@ pub turns : (body : List ℕ) {a b w : ℕ} → a ≡ get firstAnswer body → b
 unfolding turnOf
 turns body ha hb hw = rw (ha, hb, hw)
 
-abbrev figureBy : ℕ → ℕ → Figure
-figureBy status processed = record { status = status; processed = processed }
+abbrev statusBy : ℕ → ℕ → FirmwareStatus
+statusBy status bytes = record { status = status; figure = bytes }
 
-pub figures : (body : List ℕ) {a b : ℕ} → a ≡ get statusByte body → b ≡ get figure body → figureBy a b ≡ figureOf body
-unfolding figureOf
+pub figures : (body : List ℕ) {a b : ℕ} → a ≡ get statusByte body → b ≡ get figure body → statusBy a b ≡ statusOf body
+unfolding statusOf
 figures body ha hb = rw (ha, hb)
 
 abbrev requestBy : ℕ → ℕ → Request
@@ -107,12 +106,12 @@ to-end k l = take-all (length l - k) (drop k l) (omega (arith, length-drop k l))
 pub polls : (body : List ℕ) (d : Device) (io lent : List ℕ) (r : Polled) {io′ lent′ : List ℕ} {t : Turn} {n : ℕ} {a : Acted} → t ≡ turnOf body → n ≡ get firstLength body
     → pollingOf r io′ lent′ ≡ pollCall d io (given lent (take (5 + n - 5) (drop 5 body)) (take (length body - (5 + n)) (drop (5 + n) body)) t)
     → a ≡ polledBy r → actingOf a io′ lent′ ≡ pollActs body d io lent
-unfolding pollActs polled told firstPacket secondPacket
+unfolding pollActs polled firstPacket secondPacket
 polls body d io lent r {n = n} ht hn h ha =
     let e : 5 + n - 5 ≡ n = omega arith in
     rw ha (ap polled (rw (e, to-end (5 + n) body, hn, ht) at h))
 
-pub states : (body : List ℕ) (d : Device) (io lent : List ℕ) (r : Stated) {f : Figure} {a : Acted} → f ≡ figureOf body → statedOf r ≡ setStatusCall d io f → a ≡ statedBy r
+pub states : (body : List ℕ) (d : Device) (io lent : List ℕ) (r : Stated) {f : FirmwareStatus} {a : Acted} → f ≡ statusOf body → statedOf r ≡ setStatusCall d io f → a ≡ statedBy r
     → actingOf a io lent ≡ statusActs body d io lent
 unfolding statusActs stated
 states body d io lent r hf h ha = rw ha (ap (stated io lent) (rw hf at h))

@@ -5,7 +5,7 @@ use mathlib.Core.List.{List}
 use Prim.Native.Nat.{ℕ}
 use denote.Ref.{now}
 use Rattle.fields.proofs.Only.{Only}
-use Rattle.answers.proofs.Unique.{named, named-number}
+use Rattle.answers.proofs.Unique.{named, named-answer}
 use Rattle.benchact.specs.declared.Acted.{Acted}
 use Rattle.benchact.specs.Act.{Acting, actingOf}
 use Rattle.benchact.proofs.act.Kinds as act-kinds
@@ -13,10 +13,10 @@ use Rattle.benchact.proofs.act.Reads as act
 
 -- 01's number tells the answer, and so what is told of a call tells what it returned
 abbrev unacted : Acting → Acted
-unacted o = record { device = o .device; answer = named (o .number); count = o .count; stalls = o .stalls; shown = o .shown }
+unacted o = record { device = o .device; answer = named (o .answer); count = o .count; stalls = o .stalls; shown = o .shown }
 
 unacted-acted : (x : Acted) (io lent : List ℕ) → unacted (actingOf x io lent) ≡ x
-unacted-acted x io lent = rw (named-number (x .answer))
+unacted-acted x io lent = rw (named-answer (x .answer))
 
 acted-once : (x y : Acted) (io io′ lent lent′ : List ℕ) {o : Acting} → actingOf x io lent ≡ o → actingOf y io′ lent′ ≡ o → (x ≡ y) × _≡_ {A = List ℕ × List ℕ} (io, lent) (io′, lent′)
 acted-once x y io io′ lent lent′ h k =

@@ -8,13 +8,13 @@ use Rattle.fields.specs.Overlay.{overlay}
 use Rattle.fields.specs.Field.{get}
 use Rattle.answers.specs.declared.Stalls.{Stalls}
 use Rattle.answers.specs.declared.Stalls.the-variants.{Kept}
-use Rattle.answers.specs.Answers.{number}
+use Rattle.answers.specs.Answers.{Answering, answerOf}
 use Rattle.wrapper.specs.declared.Wrapper.{Wrapper}
 use Rattle.device.specs.declared.Device.{Device}
 use Rattle.bbb.specs.declared.Turn.{Turn}
 use Rattle.bbb.specs.declared.Polled.{Polled}
 use Rattle.bbb.specs.Poll.{Polling, given, pollCall}
-use Rattle.calls.specs.declared.Figure.{Figure}
+use Rattle.calls.specs.declared.FirmwareStatus.{FirmwareStatus}
 use Rattle.calls.specs.declared.Stated.{Stated}
 use Rattle.calls.specs.declared.Moved.{Moved}
 use Rattle.calls.specs.declared.Request.{Request}
@@ -26,11 +26,11 @@ use Rattle.calls.specs.Command.{Offered, Stepping, stepCall}
 use Rattle.benchfile.specs.Event.{inAnswer, firstAnswer, secondAnswer, firstPacket, secondPacket, statusByte, figure, room, requestType, request}
 use Rattle.benchact.specs.declared.Acted.{Acted}
 
--- What a call left and told: the record, 01's number, "count (packets taken, bytes read or written, else 0)", stalls, and how many bytes
+-- What a call left and told: the record, the answer, "count (packets taken, bytes read or written, else 0)", stalls, and how many bytes
 -- the line shows; the IO buffer, and the lent bytes, whose first ones are shown.
 pub record Acting : Type 0 where
   pub device : Device
-  pub number : ℕ
+  pub answer : Answering
   pub count : ℕ
   pub stalls : Stalls
   pub shown : ℕ
@@ -38,7 +38,7 @@ pub record Acting : Type 0 where
   pub lent : List ℕ
 
 abbrev pub actingOf : Acted → List ℕ → List ℕ → Acting
-actingOf r io lent = record { device = r .device; number = number (r .answer); count = r .count; stalls = r .stalls; shown = r .shown; io = io; lent = lent }
+actingOf r io lent = record { device = r .device; answer = answerOf (r .answer); count = r .count; stalls = r .stalls; shown = r .shown; io = io; lent = lent }
 
 -- how many of the lent bytes the line shows, and all of them
 pub record Front : Type 0 where
@@ -55,10 +55,10 @@ turnOf body = record { first = get firstAnswer body; second = get secondAnswer b
 
 -- what is returned of it
 abbrev pub polledBy : Polled → Acted
-polledBy r = record { device = r .device; answer = r .report .outcome .answer; count = r .report .taken; stalls = r .report .stalls; shown = r .report .sent }
+polledBy r = record { device = r .device; answer = r .report .answer; count = r .report .taken; stalls = r .report .stalls; shown = r .report .sent }
 
 unfoldable pub polled : Polling → Acting
-polled o = record { device = o .device; number = o .told .number; count = o .taken; stalls = o .stalls; shown = o .sent; io = o .io; lent = o .packet }
+polled o = record { device = o .device; answer = o .answer; count = o .taken; stalls = o .stalls; shown = o .sent; io = o .io; lent = o .packet }
 
 -- The lent bytes are the packet buffer.
 unfoldable pub pollActs : List ℕ → Device → List ℕ → List ℕ → Acting
@@ -66,18 +66,18 @@ pollActs body d io lent = polled (pollCall d io (given lent (firstPacket body) (
 
 -- ---- 2 status
 
-unfoldable pub figureOf : List ℕ → Figure
-figureOf body = record { status = get statusByte body; processed = get figure body }
+unfoldable pub statusOf : List ℕ → FirmwareStatus
+statusOf body = record { status = get statusByte body; figure = get figure body }
 
 -- what is returned of it
 abbrev pub statedBy : Stated → Acted
 statedBy r = record { device = r .device; answer = r .answer; count = 0; stalls = Kept; shown = 0 }
 
 unfoldable pub stated : List ℕ → List ℕ → Stating → Acting
-stated io lent o = record { device = o .device; number = o .number; count = 0; stalls = Kept; shown = 0; io = io; lent = lent }
+stated io lent o = record { device = o .device; answer = o .answer; count = 0; stalls = Kept; shown = 0; io = io; lent = lent }
 
 unfoldable pub statusActs : List ℕ → Device → List ℕ → List ℕ → Acting
-statusActs body d io lent = stated io lent (setStatusCall d io (figureOf body))
+statusActs body d io lent = stated io lent (setStatusCall d io (statusOf body))
 
 -- ---- 3 `write_data`, 4 `try_write_data_all`: the n bytes are the source
 
@@ -86,7 +86,7 @@ abbrev pub movedBy : Moved → ℕ → Acted
 movedBy r shown = record { device = r .device; answer = r .report .answer; count = r .report .count; stalls = Kept; shown = shown }
 
 unfoldable pub written : List ℕ → Moving → Acting
-written lent o = record { device = o .device; number = o .number; count = o .count; stalls = Kept; shown = 0; io = o .bytes; lent = lent }
+written lent o = record { device = o .device; answer = o .answer; count = o .count; stalls = Kept; shown = 0; io = o .bytes; lent = lent }
 
 unfoldable pub writeActs : List ℕ → Device → List ℕ → List ℕ → Acting
 writeActs body d io lent = written lent (writeCall d io body)
@@ -97,7 +97,7 @@ writeAllActs body d io lent = written lent (writeAllCall d io body)
 -- ---- 5 `read_data`: "read". The first lent bytes, as many as the room says, are the destination.
 
 unfoldable pub readInto : List ℕ → List ℕ → ℕ → Moving → Acting
-readInto io lent n o = record { device = o .device; number = o .number; count = o .count; stalls = Kept; shown = o .count; io = io; lent = o .bytes ++ drop n lent }
+readInto io lent n o = record { device = o .device; answer = o .answer; count = o .count; stalls = Kept; shown = o .count; io = io; lent = o .bytes ++ drop n lent }
 
 unfoldable pub readActs : List ℕ → Device → List ℕ → List ℕ → Acting
 readActs body d io lent = readInto io lent (get room body) (readCall d io (take (get room body) lent))
@@ -113,7 +113,7 @@ unfoldable pub inFront : List ℕ → List ℕ → Front
 inFront bytes lent = front (length bytes) (overlay lent 0 bytes)
 
 unfoldable pub handled : List ℕ → List ℕ → Handling → Acting
-handled io lent o = record { device = o .device; number = o .number; count = 0; stalls = o .stalls; shown = inFront (o .bytes) lent .shown; io = io; lent = inFront (o .bytes) lent .lent }
+handled io lent o = record { device = o .device; answer = o .answer; count = 0; stalls = o .stalls; shown = inFront (o .bytes) lent .shown; io = io; lent = inFront (o .bytes) lent .lent }
 
 unfoldable pub resetActs : Device → List ℕ → List ℕ → Acting
 resetActs d io lent = handled io lent (resetCall d io)
@@ -132,7 +132,7 @@ commandInFront w [] lent = front 0 lent
 commandInFront w (o ∷ os) lent = front (1 + w .blocklength) (overlay lent 0 (o .lun ∷ w .block))
 
 unfoldable pub stepped : Device → List ℕ → List ℕ → Stepping → Acting
-stepped d io lent o = record { device = d; number = o .number; count = 0; stalls = Kept; shown = commandInFront (d .wrapper) (o .offers) lent .shown; io = io; lent = commandInFront (d .wrapper) (o .offers) lent .lent }
+stepped d io lent o = record { device = d; answer = o .answer; count = 0; stalls = Kept; shown = commandInFront (d .wrapper) (o .offers) lent .shown; io = io; lent = commandInFront (d .wrapper) (o .offers) lent .lent }
 
 unfoldable pub commandActs : Device → List ℕ → List ℕ → Acting
 commandActs d io lent = stepped d io lent (stepCall d io)

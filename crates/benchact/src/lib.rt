@@ -4,7 +4,7 @@ use answers::Answer;
 use answers::Stalls;
 use bbb::Turn;
 use buffer::span;
-use calls::Figure;
+use calls::FirmwareStatus;
 use calls::Reply;
 use calls::Request;
 use calls::command::Offer;
@@ -20,7 +20,7 @@ ghost use lib.ListN.{length};
 ghost use Rattle.calls.specs.Bus.{replied};
 ghost use Rattle.calls.specs.Command.{offers};
 ghost use Rattle.benchfile.specs.Event.{isPoll, suits};
-ghost use Rattle.benchact.specs.Act.{front, actingOf, turnOf, polledBy, pollActs, figureOf, statedBy, movedBy, readActs, handledBy, inFront, resetActs, requestOf, controlActs, commandInFront, commandActs, actBy};
+ghost use Rattle.benchact.specs.Act.{front, actingOf, turnOf, polledBy, pollActs, statusOf, statedBy, movedBy, readActs, handledBy, inFront, resetActs, requestOf, controlActs, commandInFront, commandActs, actBy};
 
 // What a call left and told: the record, the answer, the line's count, what was asked of the endpoints, and how many bytes are shown.
 pub struct Acted {
@@ -49,8 +49,7 @@ fn polled(r: bbb::Polled) -> Acted
 {
     let d = r.device;
     let report = r.report;
-    let outcome = report.outcome;
-    let answer = outcome.answer;
+    let answer = report.answer;
     let stalls = report.stalls;
     Acted {
         device: d,
@@ -73,13 +72,13 @@ fn poll(device: Device, io: &mut [u8], lent: &mut [u8], body: &[u8]) -> Acted
 
 // ---- 2 status
 
-fn figure_of(body: &[u8]) -> Figure
+fn status_of(body: &[u8]) -> FirmwareStatus
     requires { ⌜ length (now body) ≡ 5 ⌝ }
-    ensures { λ r. ⌜ r ≡ figureOf (now (body .entry)) ⌝ }
+    ensures { λ r. ⌜ r ≡ statusOf (now (body .entry)) ⌝ }
 {
-    Figure {
+    FirmwareStatus {
         status: byte(body, 0),
-        processed: le32(body, 1),
+        figure: le32(body, 1),
     }
 }
 
@@ -237,7 +236,7 @@ pub fn act(kind: u8, body: &[u8], device: Device, io: &mut [u8], lent: &mut [u8]
         return poll(device, io, lent, body);
     }
     if kind == 2 {
-        return stated(calls::set_status(device, io, figure_of(body)));
+        return stated(calls::set_status(device, io, status_of(body)));
     }
     if kind == 3 {
         return moved(calls::write_data(device, io, body), 0);

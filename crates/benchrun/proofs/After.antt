@@ -11,6 +11,7 @@ use borrow.Author.Tests.{eqb-true, ltb-false}
 use Rattle.fields.proofs.Bools.{of-picked}
 use Rattle.answers.specs.declared.Stalls.{Stalls}
 use Rattle.answers.specs.declared.Stalls.the-variants.{Kept}
+use Rattle.device.specs.declared.Fixed.{Fixed}
 use Rattle.device.specs.declared.Device.{Device}
 use Rattle.device.specs.Create.{isPacketSize, creation, createCall}
 use Rattle.benchfile.specs.Event.{eventAt}
@@ -33,7 +34,7 @@ line-room index d answer count stalls n bytes =
 
 told-room : (index : ℕ) (a : Acting) → length (toldLine index a) ≤ roomFor (length (a .lent))
 unfolding toldLine
-told-room index a = line-room index (a .device) (a .number) (a .count) (a .stalls) (a .shown) (a .lent)
+told-room index a = line-room index (a .device) (a .answer .number) (a .count) (a .stalls) (a .shown) (a .lent)
 
 -- ---- a later event
 
@@ -84,23 +85,23 @@ last-test false false true true e = absurd (omega (arith, e))
 last-test false false true false e = refl
 last-test false false false d e = absurd (omega (arith, e))
 
-size-most : (p maxlun size : ℕ) → createCall p maxlun size .device .size ≤ 65536
+size-most : (f : Fixed) → createCall f .device .fixed .size ≤ 65536
 unfolding createCall creation
-size-most p maxlun size =
-    of-picked (λ (d : Device). d .size ≤ 65536) (eqb (creation p maxlun size) 0)
-    (λ e. ltb-false 65536 size (last-test (ltb 15 maxlun) (ltb size 31 || ltb size p) (isPacketSize p) (ltb 65536 size) (eqb-true (creation p maxlun size) 0 e)))
+size-most f =
+    of-picked (λ (d : Device). d .fixed .size ≤ 65536) (eqb (creation f) 0)
+    (λ e. ltb-false 65536 (f .size) (last-test (ltb 15 (f .maxlun)) (ltb (f .size) 31 || ltb (f .size) (f .packetsize)) (isPacketSize (f .packetsize)) (ltb 65536 (f .size)) (eqb-true (creation f) 0 e)))
     (λ e. zero-le)
 
 pub record Begins (o : Beginning) : Type 0 where
   pub index : o .run .index ≤ o .run .at
   pub line : o .run .line ≤ roomFor 0
-  pub size : o .run .device .size ≤ 65536
+  pub size : o .run .device .fixed .size ≤ 65536
 
 begins : (events text : List ℕ) → Begins (beginBy events text)
 unfolding beginBy created creationOf
 begins events text =
     of-picked Begins (eventAt events 0 .whole)
-    (λ w. record { index = omega arith; line = line-room 0 _ _ 0 Kept 0 []; size = size-most _ _ _ })
+    (λ w. record { index = omega arith; line = line-room 0 _ _ 0 Kept 0 []; size = size-most _ })
     (λ w. record { index = zero-le; line = zero-le; size = zero-le })
 
 -- ---- a file, before anything is written
@@ -121,7 +122,7 @@ module _ (file text : List ℕ) {r : Run} {after : List ℕ} (h : Opens file tex
   pub opened-line : roomFor 0 ≤ length text → length after ≡ length text → r .line ≤ length after
   opened-line room e = rw e (le-trans (opened .line) room)
 
-  pub opened-size : r .device .size ≤ 65536
+  pub opened-size : r .device .fixed .size ≤ 65536
   opened-size = opened .size
 
 -- ---- the arrays that are lent

@@ -12,11 +12,11 @@ use Rattle.fields.specs.Field.{get}
 use Rattle.fields.proofs.Bools.{not-true, not-false}
 use Rattle.answers.specs.declared.Stalls.{Stalls}
 use Rattle.answers.specs.declared.Stalls.the-variants.{Kept}
-use Rattle.answers.specs.Answers.{number}
+use Rattle.answers.specs.Answers.{answerOf}
 use Rattle.ring.specs.States.{stateNumber}
 use Rattle.device.specs.declared.Device.{Device}
 use Rattle.device.specs.declared.create.Created.{Created}
-use Rattle.device.specs.Create.{isPacketSize, creation, Creation, createdOf, createCall}
+use Rattle.device.specs.Create.{fixed, noDevice, createdOf, createCall}
 use Rattle.benchfile.specs.declared.event.Head.{Head}
 use Rattle.benchfile.specs.Event.{packetSize, maxLun, bufferSize, suits, eventAt}
 use Rattle.benchfile.specs.File.{Judges}
@@ -31,8 +31,8 @@ use Rattle.benchrun.specs.Run.{fieldsOf, lineText, toldLine, begunOf, st
 
 -- ---- the line
 
-pub told-fields : (index : ℕ) (a : Acted) {n s u : ℕ} → n ≡ number (a .answer) → s ≡ stateNumber (a .device .state) → u ≡ a .device .marks .write - a .device .marks .read
-    → record { index = index; answer = n; state = s; left = a .device .left .0; unread = u; count = a .count; stalls = a .stalls } ≡ fieldsOf index (a .device) (number (a .answer)) (a .count) (a .stalls)
+pub told-fields : (index : ℕ) (a : Acted) {n s u : ℕ} → n ≡ answerOf (a .answer) .number → s ≡ stateNumber (a .device .state) → u ≡ a .device .marks .write - a .device .marks .read
+    → record { index = index; answer = n; state = s; left = a .device .left .0; unread = u; count = a .count; stalls = a .stalls } ≡ fieldsOf index (a .device) (answerOf (a .answer) .number) (a .count) (a .stalls)
 unfolding fieldsOf
 told-fields index a hn hs hu = rw (hn, hs, hu)
 
@@ -63,22 +63,24 @@ ended {ys} p = p .ends ∙ zero-add (length ys)
 
 -- ---- the first event
 
+pub creates : (body : List ℕ) {p m s : ℕ} → p ≡ get packetSize body → m ≡ get maxLun body → s ≡ get bufferSize body → (c : Created) → createdOf c ≡ createCall (fixed p m s) → createdOf c ≡ creationOf body
+unfolding creationOf
+creates body hp hm hs c hc = rw (← hp, ← hm, ← hs) hc
+
 module _ (events text : List ℕ) {e : Head} (he : e ≡ eventAt events 0) where
-  pub begins-none : not (e .whole) ≡ true → (c : Created) → createdOf c ≡ createCall 0 0 0 → {r : Run} → r ≡ stoppedAt (c .device) 0 0 → begunOf r text ≡ beginBy events text
-  unfolding beginBy createCall creation isPacketSize
-  begins-none q c hc hr = rw (← he, not-true (e .whole) q, hr, ap (λ (x : Creation). x .device) hc)
+  pub begins-none : not (e .whole) ≡ true → {d : Device} → d ≡ noDevice → {r : Run} → r ≡ stoppedAt d 0 0 → begunOf r text ≡ beginBy events text
+  unfolding beginBy
+  begins-none q hd hr = rw (← he, not-true (e .whole) q, hr, hd)
 
   module _ (q : not (e .whole) ≡ false) where
     pub begins-fits : 10 ≤ length events
     begins-fits = first-long events (sym (ap (λ (x : Head). x .whole) he) ∙ not-false (e .whole) q)
 
-    pub begins-made : {p m s : ℕ} → p ≡ get packetSize (take 7 (drop 3 events)) → m ≡ get maxLun (take 7 (drop 3 events)) → s ≡ get bufferSize (take 7 (drop 3 events))
-        → (c : Created) → createdOf c ≡ createCall p m s → {k : ℕ} → k ≡ number (c .answer)
-        → {after : List ℕ} {n : ℕ} → Puts 0 (lineText 0 (c .device) (number (c .answer)) 0 Kept []) text after n
+    pub begins-made : (c : Created) → createdOf c ≡ creationOf (take 7 (drop 3 events)) → {k : ℕ} → k ≡ answerOf (c .answer) .number
+        → {after : List ℕ} {n : ℕ} → Puts 0 (lineText 0 (c .device) (answerOf (c .answer) .number) 0 Kept []) text after n
         → begunOf (record { device = c .device; at = 10; index = 1; line = n; going = eqb k 0 }) after ≡ beginBy events text
-    unfolding beginBy created creationOf
-    begins-made hp hm hs c hc hk t =
-        rw (← he, not-false (e .whole) q, ← hp, ← hm, ← hs, ← hc, hk, ended t, t .text)
+    unfolding beginBy created
+    begins-made c hc hk t = rw (← he, not-false (e .whole) q, ← hc, hk, ended t, t .text)
 
 -- ---- a file, before anything is written
 
@@ -96,12 +98,12 @@ module _ (text : List ℕ) (room : roomFor 0 ≤ length text) where
   unfolding roomFor
   refuses-third = simp length-set (omega arith)
 
-  pub refuses : (c : Created) → createdOf c ≡ createCall 0 0 0
-      → begunOf (record { device = c .device; at = 0; index = 0; line = 3; going = false }) (set (set (set text 0 0x31) 1 0x34) 2 0x0A) ≡ refusedBy text
-  unfolding refusedBy createCall creation isPacketSize roomFor
-  refuses c hc =
+  pub refuses : {d : Device} → d ≡ noDevice
+      → begunOf (record { device = d; at = 0; index = 0; line = 3; going = false }) (set (set (set text 0 0x31) 1 0x34) 2 0x0A) ≡ refusedBy text
+  unfolding refusedBy roomFor
+  refuses hd =
       let put = then-store 0x0A (omega arith) (then-store 0x34 (omega arith) (store text 0 0x31 (omega arith))) in
-      rw (put .text, ap (λ (x : Creation). x .device) hc)
+      rw (put .text, hd)
 
 -- the events are a front of the file
 pub cut-fits : (file : List ℕ) {n : ℕ} → n ≡ length file - 12 → n ≡ length (take n file)
@@ -140,7 +142,7 @@ module _ (run : Run) (events io lent text : List ℕ) {e : Head} (he : e ≡ eve
 
   pub steps-on : not (e .whole) ≡ false → (a : Acted) {io′ lent′ : List ℕ}
       → actingOf a io′ lent′ ≡ actBy (e .kind) (take (run .at + 3 + e .length - (run .at + 3)) (drop (run .at + 3) events)) (run .device) io lent
-      → {after : List ℕ} {n : ℕ} → Puts 0 (lineText (run .index) (a .device) (number (a .answer)) (a .count) (a .stalls) (take (a .shown) lent′)) text after n
+      → {after : List ℕ} {n : ℕ} → Puts 0 (lineText (run .index) (a .device) (answerOf (a .answer) .number) (a .count) (a .stalls) (take (a .shown) lent′)) text after n
       → runningOf (record { device = a .device; at = run .at + 3 + e .length; index = run .index + 1; line = n; going = true }) io′ lent′ after ≡ stepBy run events io lent text
   unfolding stepBy eventBy wentOn toldLine
   steps-on q a ha t =
@@ -148,4 +150,4 @@ module _ (run : Run) (events io lent text : List ℕ) {e : Head} (he : e ≡ eve
       let acted = ha ∙ ap (λ (k : ℕ). actBy (e .kind) (take k (drop (run .at + 3) events)) (run .device) io lent) n in
       rw (← he, not-false (e .whole) q, ← acted, ended t, t .text)
 
-pub ruleset ways = (told-fields, least-fits, least-cut, least-roomy, told-line, begins-none, begins-fits, begins-made, steps-none, steps-fits, steps-suits, steps-on)
+pub ruleset ways = (told-fields, least-fits, least-cut, least-roomy, told-line, creates, begins-none, begins-fits, begins-made, steps-none, steps-fits, steps-suits, steps-on)

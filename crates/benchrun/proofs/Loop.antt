@@ -62,7 +62,7 @@ module _ (events : List ℕ) (from o : Running) (h : Comes events from o) where
 
 -- what `play_file` owes, from what `open`, `events_end` and `play` ensure
 pub plays-file : (file space lent text : List ℕ) {r : Run} {after : List ℕ} → Opens file text (begunOf r after) → {n : ℕ} → n ≡ length file - 12
-    → {io lent′ text′ : List ℕ} → Played (take n file) (runningOf r (take (r .device .size) space) lent after) io lent′ text′
-    → PlayedFile file space lent text (io ++ drop (r .device .size) space) lent′ text′
+    → {io lent′ text′ : List ℕ} → Played (take n file) (runningOf r (take (r .device .fixed .size) space) lent after) io lent′ text′
+    → PlayedFile file space lent text (io ++ drop (r .device .fixed .size) space) lent′ text′
 unfolding eventsOf
 plays-file file space lent text {r} {after} o e {io} p = record { begun = begunOf r after; opens = o; io = io; played = rw (← e) p; behind = refl }

@@ -17,7 +17,7 @@ use Rattle.fields.specs.Overlay.{overlay}
 use Rattle.fields.specs.Field.{get}
 use Rattle.fields.proofs.Bools.{and-left, clash}
 use Rattle.answers.specs.declared.Stalls.the-variants.{Kept}
-use Rattle.device.specs.Create.{newDevice, Creation}
+use Rattle.device.specs.Create.{noDevice, Creation}
 use Rattle.benchfile.specs.declared.event.Head.{Head}
 use Rattle.benchfile.specs.Event.{kindByte, bodyOf, isEvent, eventAt}
 use Rattle.benchfile.specs.File.{joined, areEvents, Good, ReadAt, Judges}
@@ -113,22 +113,22 @@ created-printed : (c : Creation) (e : List ℕ) (es : List (List ℕ)) (space le
     → Turns (joined (e ∷ es)) (startOf (created c text) space lent) to out → out ≡ creationLines c es space lent
 unfolding created creationLines joined areEvents
 created-printed c e es space lent text to out are w =
-    behind (eqb (c .number) 0) refl ∙ ap (λ (x : List ℕ). x ++ rest (eqb (c .number) 0)) (front-put text (lineText 0 (c .device) (c .number) 0 Kept []))
+    behind (eqb (c .answer .number) 0) refl ∙ ap (λ (x : List ℕ). x ++ rest (eqb (c .answer .number) 0)) (front-put text (lineText 0 (c .device) (c .answer .number) 0 Kept []))
   where
     start : Running
     start = startOf (created c text) space lent
 
     rest : Bool → List ℕ
-    rest b = cond b (laterLines 1 es (c .device) (take (c .device .size) space) lent) []
+    rest b = cond b (laterLines 1 es (c .device) (take (c .device .fixed .size) space) lent) []
 
-    behind : (b : Bool) → eqb (c .number) 0 ≡ b → out ≡ handed start ++ rest b
+    behind : (b : Bool) → eqb (c .answer .number) 0 ≡ b → out ≡ handed start ++ rest b
     behind true q =
         later-printed es (e ∷ []) start to out are (rw (append-nil e) (sym (creation-long e (and-left (isEvent true e) (areEvents false es) are)))) q w
     behind false q = ended (joined (e ∷ es)) start to out q w ∙ sym (append-nil (handed start))
 
 -- ---- a good file
 
-begin-none : (text : List ℕ) → beginBy (joined []) text ≡ begunOf (stoppedAt (newDevice 0 0 0) 0 0) text
+begin-none : (text : List ℕ) → beginBy (joined []) text ≡ begunOf (stoppedAt noDevice 0 0) text
 unfolding beginBy joined
 begin-none text = rw (ends-there [] 0 zero-le)
 

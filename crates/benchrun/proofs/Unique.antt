@@ -74,8 +74,8 @@ played-once file space lent text {space′} {lent′} {text′} {space″} {lent
     in
     let spaces : space′ ≡ space″ =
     p .behind
-    ∙ ap (λ (o : Running). o .io ++ drop (p .begun .run .device .size) space) same
-    ∙ ap (λ (b : Beginning). q .io ++ drop (b .run .device .size) space) (sym first)
+    ∙ ap (λ (o : Running). o .io ++ drop (p .begun .run .device .fixed .size) space) same
+    ∙ ap (λ (b : Beginning). q .io ++ drop (b .run .device .fixed .size) space) (sym first)
     ∙ sym (q .behind)
     in
     rw (spaces, ap (λ (o : Running). o .lent) same, ap (λ (o : Running). o .text) same)

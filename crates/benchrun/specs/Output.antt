@@ -27,8 +27,8 @@ laterLines index (e ∷ es) d io lent =
 -- creation asks for.
 unfoldable pub creationLines : Creation → List (List ℕ) → List ℕ → List ℕ → List ℕ
 creationLines c es space lent =
-    lineText 0 (c .device) (c .number) 0 Kept []
-    ++ cond (eqb (c .number) 0) (laterLines 1 es (c .device) (take (c .device .size) space) lent) []
+    lineText 0 (c .device) (c .answer .number) 0 Kept []
+    ++ cond (eqb (c .answer .number) 0) (laterLines 1 es (c .device) (take (c .device .fixed .size) space) lent) []
 
 -- "a file of none is good and prints nothing"
 unfoldable pub fileLines : List (List ℕ) → List ℕ → List ℕ → List ℕ

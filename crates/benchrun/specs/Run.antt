@@ -11,7 +11,7 @@ use Rattle.answers.specs.declared.Stalls.{Stalls}
 use Rattle.answers.specs.declared.Stalls.the-variants.{Kept}
 use Rattle.ring.specs.States.{stateNumber}
 use Rattle.device.specs.declared.Device.{Device}
-use Rattle.device.specs.Create.{Creation, newDevice, createCall}
+use Rattle.device.specs.Create.{fixed, Creation, noDevice, createCall}
 use Rattle.benchfile.specs.declared.event.Head.{Head}
 use Rattle.benchfile.specs.Event.{packetSize, maxLun, bufferSize, eventAt}
 use Rattle.benchfile.specs.File.{Judges}
@@ -31,7 +31,7 @@ lineText index d answer count stalls bytes = lineOf (fieldsOf index d answer cou
 
 -- of the lent bytes the first ones are shown
 unfoldable pub toldLine : ℕ → Acting → List ℕ
-toldLine index a = lineText index (a .device) (a .number) (a .count) (a .stalls) (take (a .shown) (a .lent))
+toldLine index a = lineText index (a .device) (a .answer .number) (a .count) (a .stalls) (take (a .shown) (a .lent))
 
 -- ---- the first event
 
@@ -49,19 +49,19 @@ stoppedAt d at index = record { device = d; at = at; index = index; line = 0; go
 
 -- "0 create (P 2, max LUN 1, buffer 4)"
 unfoldable pub creationOf : List ℕ → Creation
-creationOf body = createCall (get packetSize body) (get maxLun body) (get bufferSize body)
+creationOf body = createCall (fixed (get packetSize body) (get maxLun body) (get bufferSize body))
 
 -- "A refused creation prints its answer, zeros and two dashes, and the run ends."
 unfoldable pub created : Creation → List ℕ → Beginning
 created c text = begunOf
-    (record { device = c .device; at = 10; index = 1; line = length (lineText 0 (c .device) (c .number) 0 Kept []); going = eqb (c .number) 0 })
-    (overlay text 0 (lineText 0 (c .device) (c .number) 0 Kept []))
+    (record { device = c .device; at = 10; index = 1; line = length (lineText 0 (c .device) (c .answer .number) 0 Kept []); going = eqb (c .answer .number) 0 })
+    (overlay text 0 (lineText 0 (c .device) (c .answer .number) 0 Kept []))
 
 unfoldable pub beginBy : List ℕ → List ℕ → Beginning
 beginBy events text =
     cond (eventAt events 0 .whole)
     (created (creationOf (take 7 (drop 3 events))) text)
-    (begunOf (stoppedAt (newDevice 0 0 0) 0 0) text)
+    (begunOf (stoppedAt noDevice 0 0) text)
 
 -- ---- a file, before anything is written
 
@@ -75,7 +75,7 @@ breach = 0x31 ∷ 0x34 ∷ 0x0A ∷ []
 
 -- "Any breach is 14: `bench` prints `14` alone."
 unfoldable pub refusedBy : List ℕ → Beginning
-refusedBy text = begunOf (record { device = newDevice 0 0 0; at = 0; index = 0; line = length breach; going = false }) (overlay text 0 breach)
+refusedBy text = begunOf (record { device = noDevice; at = 0; index = 0; line = length breach; going = false }) (overlay text 0 breach)
 
 unfoldable pub openBy : Bool → List ℕ → List ℕ → Beginning
 openBy good file text = cond good (beginBy (eventsOf file) text) (refusedBy text)

@@ -2,7 +2,7 @@
 use crate::step::Run;
 use crate::step::begin;
 use benchfile::TRAILER;
-use device::create::create;
+use device::create::none;
 ghost use mathlib.Core.Path.{_≡_};
 ghost use Prim.Native.Nat.{_-_, _≤_};
 ghost use lib.ListN.{length};
@@ -27,10 +27,9 @@ fn refuse(text: &mut [u8]) -> Run
     text[0] = b'1';
     text[1] = b'4';
     text[2] = b'\n';
-    let none = create(0, 0, 0);
-    let blank = none.device;
+    let nothing = none();
     Run {
-        device: blank,
+        device: nothing,
         at: 0,
         index: 0,
         line: 3,

@@ -8,7 +8,10 @@ use benchline::Line;
 use benchline::put_line;
 use buffer::Marks;
 use device::Device;
+use device::Fixed;
+use device::create::Created;
 use device::create::create;
+use device::create::none;
 use fields::byte;
 use fields::le16;
 use fields::le32;
@@ -17,9 +20,10 @@ use ring::state_number;
 ghost use mathlib.Core.Path.{_≡_};
 ghost use Prim.Native.Nat.{_-_, _≤_};
 ghost use lib.ListN.{length, take};
-ghost use Rattle.answers.specs.Answers.{number};
+ghost use Rattle.answers.specs.Answers.{answerOf};
+ghost use Rattle.device.specs.Create.{createdOf};
 ghost use Rattle.benchline.specs.Line.{roomFor, Puts};
-ghost use Rattle.benchrun.specs.Run.{Roomy, fieldsOf, lineText, stoppedAt, begunOf, beginBy, runningOf, stepBy};
+ghost use Rattle.benchrun.specs.Run.{Roomy, fieldsOf, lineText, stoppedAt, begunOf, creationOf, beginBy, runningOf, stepBy};
 
 // How far a run has come: the device, the offset and the index of the next event, how long the line of the last one is, and whether
 // there was one.
@@ -41,7 +45,7 @@ fn unread(marks: Marks) -> usize
 }
 
 fn fields_of(index: usize, a: Acted) -> Line
-    ensures { λ r. ⌜ r ≡ fieldsOf index (a .device) (number (a .answer)) (a .count) (a .stalls) ⌝ }
+    ensures { λ r. ⌜ r ≡ fieldsOf index (a .device) (answerOf (a .answer) .number) (a .count) (a .stalls) ⌝ }
 {
     let d = a.device;
     let state = d.state;
@@ -63,7 +67,7 @@ fn fields_of(index: usize, a: Acted) -> Line
 // The line of an event that left and told this, of whose lent bytes the first ones are shown.
 fn tell(index: usize, a: Acted, lent: &[u8], text: &mut [u8]) -> usize
     requires { ⌜ roomFor (length (now lent)) ≤ length (now text) ⌝ }
-    ensures { λ r. ⌜ Puts 0 (lineText index (a .device) (number (a .answer)) (a .count) (a .stalls) (take (a .shown) (now (lent .entry)))) (now (text .entry)) (now (text .exit)) r ⌝ }
+    ensures { λ r. ⌜ Puts 0 (lineText index (a .device) (answerOf (a .answer) .number) (a .count) (a .stalls) (take (a .shown) (now (lent .entry)))) (now (text .entry)) (now (text .exit)) r ⌝ }
 {
     let n = least(a.shown, lent.len());
     put_line(fields_of(index, a), &lent[..n], text)
@@ -82,6 +86,18 @@ fn stopped(device: Device, at: usize, index: usize) -> Run
     }
 }
 
+// The creation that the first event's bytes ask for.
+fn created(body: &[u8]) -> Created
+    requires { ⌜ length (now body) ≡ 7 ⌝ }
+    ensures { λ r. ⌜ createdOf r ≡ creationOf (now (body .entry)) ⌝ }
+{
+    create(Fixed {
+        packetsize: le16(body, 0) as usize,
+        maxlun: byte(body, 2),
+        size: le32(body, 3) as usize,
+    })
+}
+
 // The first event.
 pub fn begin(events: &[u8], text: &mut [u8]) -> Run
     requires { ⌜ roomFor 0 ≤ length (now text) ⌝ }
@@ -89,12 +105,10 @@ pub fn begin(events: &[u8], text: &mut [u8]) -> Run
 {
     let e = event_at(events, 0);
     if !e.whole {
-        let none = create(0, 0, 0);
-        let blank = none.device;
-        return stopped(blank, 0, 0);
+        return stopped(none(), 0, 0);
     }
     let body = &events[3..10];
-    let made = create(le16(body, 0) as u32, byte(body, 2), le32(body, 3));
+    let made = created(body);
     let d = made.device;
     let answer = made.answer;
     let length = tell(

@@ -2,15 +2,10 @@
 -- as the check reads it. That a result tells each of its parts: proofs/Parts.antt. Assumes nothing.
 use mathlib.Core.Path.{refl, sym, _∙_}
 use Rattle.fields.proofs.Only.{Only}
-use Rattle.border.proofs.held.Kinds as held-kinds
-use Rattle.border.proofs.held.Reads as held
 use Rattle.border.proofs.word.stalls_number.Kinds as stalls-number-kinds
 use Rattle.border.proofs.word.stalls_number.Reads as stalls-number
 use Rattle.border.proofs.word.word.Kinds as word-kinds
 use Rattle.border.proofs.word.word.Reads as word
-
-pub held-only : Only 1 held-kinds.ps held-kinds.r held.Post (λ κs s. tt {0})
-held-only κs a x y s t p q = (p ∙ sym q, refl)
 
 pub stalls-number-only : Only 0 stalls-number-kinds.ps stalls-number-kinds.r stalls-number.Post (λ κs s. tt {0})
 stalls-number-only κs a x y s t p q = (p ∙ sym q, refl)

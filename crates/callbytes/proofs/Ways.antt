@@ -3,29 +3,24 @@
 use mathlib.Core.Path.{_≡_, refl, sym, ap, _∙_, subst}
 use mathlib.Core.Bool.{Bool, true, false, not}
 use mathlib.Core.List.{List, []}
-use Prim.Native.Nat.{ℕ, _%_, _≤_}
-use native.Mathlib.Nat.{mod-eq-of-lt}
-use native.Mathlib.Omega.{arith}
+use Prim.Native.Nat.{ℕ}
 use lib.ListN.{length, getD}
 use borrow.Author.Tests.{eq-eqb, ne-eqb}
 use Rattle.fields.specs.Overlay.{overlay}
-use Rattle.fields.proofs.Bools.{of-picked}
 use Rattle.fields.proofs.Overlay.{overlay-whole}
-use Rattle.answers.specs.declared.Stalls.the-variants.{Kept}
-use Rattle.answers.specs.Answers.{number}
+use Rattle.answers.specs.Answers.{answerOf}
+use Rattle.device.specs.declared.Fixed.{Fixed}
 use Rattle.device.specs.declared.Device.{Device}
-use Rattle.device.specs.Device.{numbersOf, inState, withMarks, withStatus, withLeft}
-use Rattle.device.specs.Broken.{Whole}
-use Rattle.device.proofs.Wholly.{size-most, packet-below}
-use Rattle.calls.specs.declared.Figure.{Figure}
+use Rattle.device.specs.Device.{inState, withStatus, withLeft}
+use Rattle.device.proofs.Wholly.{either, packet-below, lun-below, size-below}
+use Rattle.calls.specs.declared.FirmwareStatus.{FirmwareStatus}
 use Rattle.calls.specs.declared.Stated.{Stated}
-use Rattle.calls.specs.Checks.{isBroken, unlessBroken}
-use Rattle.calls.specs.Status.{Stating, stating, statedOf, setStatusCall}
+use Rattle.calls.specs.Status.{Stating, statedOf, setStatusCall}
 use Rattle.calls.specs.declared.Reply.{Reply}
 use Rattle.calls.specs.declared.Reply.the-variants.{Nothing, MaxLun}
 use Rattle.calls.specs.declared.Request.{Request}
 use Rattle.calls.specs.declared.Handled.{Handled}
-use Rattle.calls.specs.Bus.{Handling, handling, replied, handledOf, entering, resetCall, controlCall}
+use Rattle.calls.specs.Bus.{Handling, replied, handledOf, entering, resetCall, controlCall}
 use Rattle.calls.specs.declared.command.Shown as command
 use Rattle.calls.specs.declared.command.Offer.the-variants.{Command}
 use Rattle.calls.specs.declared.command.Offer.the-variants.{Nothing as None}
@@ -35,35 +30,34 @@ use Rattle.scsi.specs.declared.ScsiCommand.{ScsiCommand}
 use Rattle.scsi.specs.Numbers.{numbers}
 use Rattle.device.specs.declared.create.Created.{Created}
 use Rattle.device.specs.Create.{creation, Creation, createdOf, createCall}
-use Rattle.calls.proofs.After.{by-request, stops, status-keeps}
-use Rattle.recordbytes.specs.Record.{deviceAt, storeState, storeMarks, storeLeft, storeStatus, storeDevice, newRecord}
-use Rattle.recordbytes.proofs.Stored.{Known}
-use Rattle.recordbytes.proofs.Parts.{device-kept, status-alone, marks-alone, entered}
+use Rattle.calls.proofs.After.{by-request, status-keeps}
+use Rattle.recordbytes.specs.Record.{isKnown, deviceAt, storeState, storeLeft, storeStatus, storeDevice, newRecord}
+use Rattle.recordbytes.specs.Storable.{Fixable}
+use Rattle.recordbytes.proofs.Stored.{is-known}
+use Rattle.recordbytes.proofs.Parts.{status-alone, entered}
 use Rattle.border.specs.Word.{word, plain, stallsNumber}
-use Rattle.border.specs.Record.{isHeld, onDevice}
+use Rattle.border.specs.Record.{onDevice}
 use Rattle.callbytes.specs.Calls.{leaves, createOn, stated, statusOn, handled, resetOn, controlOn}
 use Rattle.callbytes.specs.Command.{shows, shown, commandOn, offered, stepOn}
-use Rattle.border.proofs.Lending.{is-held, held-long, made, refuses}
+use Rattle.border.proofs.Lending.{known-then, long-then, unknown, made}
 
 -- ---- the status
 
-module _ (r io : List ℕ) (f : Figure) {h : Bool} (eh : h ≡ isHeld r (length io)) where
-  pub status-broken : not h ≡ true → leaves 10 r ≡ statusOn r io f
-  unfolding statusOn setStatusCall
-  status-broken q =
-      refuses r (leaves 10 r) (λ (d : Device). stated r (setStatusCall d io f)) (length io) eh q
-      (λ k b. ap (stated r) (stops (deviceAt r) io (stating 10 (deviceAt r)) _ b) ∙ ap (leaves 10) (device-kept r k))
+module _ (r io : List ℕ) (f : FirmwareStatus) {k : Bool} (ek : k ≡ isKnown r) where
+  pub status-unknown : not k ≡ true → leaves 10 r ≡ statusOn r io f
+  unfolding statusOn
+  status-unknown q = unknown r ek (leaves 10 r) (λ (d : Device). stated r (setStatusCall d io f)) q
 
-  pub status-set : not h ≡ false → (s : Stated) {d : Device} {n : ℕ} {l : List ℕ} → d ≡ deviceAt r → statedOf s ≡ setStatusCall d io f → l ≡ storeStatus (s .device .status) r → n ≡ number (s .answer)
+  pub status-set : not k ≡ false → (s : Stated) {d : Device} {n : ℕ} {l : List ℕ} → d ≡ deviceAt r → statedOf s ≡ setStatusCall d io f → l ≡ storeStatus (s .device .status) r → n ≡ answerOf (s .answer) .number
       → leaves n l ≡ statusOn r io f
   unfolding statusOn
   status-set q s {l = l} ed es el en =
-      let held = is-held r (length io) eh q in
+      let test = known-then r ek q in
       let to : statedOf s ≡ setStatusCall (deviceAt r) io f = rw ed at es in
       let alone : s .device ≡ withStatus (s .device .status) (deviceAt r) =
       ap (λ (o : Stating). withStatus (s .device .status) (withStatus (deviceAt r .status) (o .device))) to ∙ ap (withStatus (s .device .status)) (status-keeps (deviceAt r) io f) in
-      let kept : l ≡ storeDevice (s .device) r = el ∙ sym (status-alone r (held .known) (s .device .status)) ∙ ap (λ (d : Device). storeDevice d r) (sym alone) in
-      rw (en, kept) (ap (stated r) to ∙ made r (leaves 10 r) (λ (d : Device). stated r (setStatusCall d io f)) (held .test))
+      let kept : l ≡ storeDevice (s .device) r = el ∙ sym (status-alone r (is-known r test) (s .device .status)) ∙ ap (λ (d : Device). storeDevice d r) (sym alone) in
+      rw (en, kept) (ap (stated r) to ∙ made r (leaves 10 r) (λ (d : Device). stated r (setStatusCall d io f)) test)
 
 -- ---- the bus: status, state and left changed
 
@@ -75,9 +69,9 @@ module _ (answer stalls : ℕ) where
   pub replies-lun : (reply : Reply) (n : ℕ) → reply ≡ MaxLun n → {x : ℕ} → x ≡ word answer 0 stalls 1 n → x ≡ word answer 0 stalls (length (replied reply)) (getD (replied reply) 0 0)
   replies-lun reply n e h = rw e h
 
-pub bus-told : (h : Handled) {a s x : ℕ} → a ≡ number (h .report .answer) → s ≡ stallsNumber (h .report .stalls)
+pub bus-told : (h : Handled) {a s x : ℕ} → a ≡ answerOf (h .report .answer) .number → s ≡ stallsNumber (h .report .stalls)
     → x ≡ word a 0 s (length (replied (h .report .reply))) (getD (replied (h .report .reply)) 0 0)
-    → x ≡ word (number (h .report .answer)) 0 (stallsNumber (h .report .stalls)) (length (replied (h .report .reply))) (getD (replied (h .report .reply)) 0 0)
+    → x ≡ word (answerOf (h .report .answer) .number) 0 (stallsNumber (h .report .stalls)) (length (replied (h .report .reply))) (getD (replied (h .report .reply)) 0 0)
 bus-told h ea es ex = rw (← ea, ← es, ex)
 
 pub bus-stored : (r : List ℕ) (d : Device) {a b l : List ℕ} → a ≡ storeStatus (d .status) r → b ≡ storeState (d .state) a → l ≡ storeLeft (d .left) b
@@ -85,59 +79,54 @@ pub bus-stored : (r : List ℕ) (d : Device) {a b l : List ℕ} → a ≡ storeS
 bus-stored r d ea eb el = rw (← ea, ← eb, el)
 
 -- what a device that entered 0, or stayed as it was, has kept
-module _ (r io : List ℕ) (call : Device → Handling) {h : Bool} (eh : h ≡ isHeld r (length io)) where
-  bus-broken : (isBroken (deviceAt r) (length io) ≡ true → call (deviceAt r) ≡ handling 10 Kept [] (deviceAt r)) → not h ≡ true → leaves (plain 10) r ≡ onDevice r (leaves (plain 10) r) (λ (d : Device). handled r (call d))
-  bus-broken broken q =
-      refuses r (leaves (plain 10) r) (λ (d : Device). handled r (call d)) (length io) eh q
-      (λ k b. ap (handled r) (broken b) ∙ ap (leaves (plain 10)) (device-kept r k))
-
-  bus-made : inState (deviceAt r .state) (withStatus (deviceAt r .status) (withLeft (deviceAt r .left) (call (deviceAt r) .device))) ≡ deviceAt r → not h ≡ false → (m : Handled) → handledOf m ≡ call (deviceAt r)
-      → {x : ℕ} {l : List ℕ} → (x ≡ word (number (m .report .answer)) 0 (stallsNumber (m .report .stalls)) (length (replied (m .report .reply))) (getD (replied (m .report .reply)) 0 0))
-      × (l ≡ storeLeft (m .device .left) (storeState (m .device .state) (storeStatus (m .device .status) r)))
-      → leaves x l ≡ onDevice r (leaves (plain 10) r) (λ (d : Device). handled r (call d))
-  bus-made keeps q m to {x} {l} e =
-      let held = is-held r (length io) eh q in
-      let with : Device → Device = λ (d : Device). inState (m .device .state) (withStatus (m .device .status) (withLeft (m .device .left) d)) in
-      let alone : m .device ≡ with (deviceAt r) =
-      ap (λ (o : Handling). with (inState (deviceAt r .state) (withStatus (deviceAt r .status) (withLeft (deviceAt r .left) (o .device))))) to ∙ ap with keeps in
-      let kept : l ≡ storeDevice (m .device) r = e .1 ∙ sym (entered r (held .known) (m .device .status) (m .device .state) (m .device .left)) ∙ ap (λ (d : Device). storeDevice d r) (sym alone) in
-      rw (e .0, kept) (ap (handled r) to ∙ made r (leaves (plain 10) r) (λ (d : Device). handled r (call d)) (held .test))
+bus-made : (r : List ℕ) (call : Device → Handling) {k : Bool} → k ≡ isKnown r → not k ≡ false
+    → inState (deviceAt r .state) (withStatus (deviceAt r .status) (withLeft (deviceAt r .left) (call (deviceAt r) .device))) ≡ deviceAt r → (m : Handled) → handledOf m ≡ call (deviceAt r)
+    → {x : ℕ} {l : List ℕ} → (x ≡ word (answerOf (m .report .answer) .number) 0 (stallsNumber (m .report .stalls)) (length (replied (m .report .reply))) (getD (replied (m .report .reply)) 0 0))
+    × (l ≡ storeLeft (m .device .left) (storeState (m .device .state) (storeStatus (m .device .status) r)))
+    → leaves x l ≡ onDevice r (leaves (plain 10) r) (λ (d : Device). handled r (call d))
+bus-made r call ek q keeps m to {x} {l} e =
+    let test = known-then r ek q in
+    let with : Device → Device = λ (d : Device). inState (m .device .state) (withStatus (m .device .status) (withLeft (m .device .left) d)) in
+    let alone : m .device ≡ with (deviceAt r) =
+    ap (λ (o : Handling). with (inState (deviceAt r .state) (withStatus (deviceAt r .status) (withLeft (deviceAt r .left) (o .device))))) to ∙ ap with keeps in
+    let kept : l ≡ storeDevice (m .device) r = e .1 ∙ sym (entered r (is-known r test) (m .device .status) (m .device .state) (m .device .left)) ∙ ap (λ (d : Device). storeDevice d r) (sym alone) in
+    rw (e .0, kept) (ap (handled r) to ∙ made r (leaves (plain 10) r) (λ (d : Device). handled r (call d)) test)
 
 -- all of a device but status, state and left
 abbrev Keeps : Device → Handling → Type 0
 Keeps d o = inState (d .state) (withStatus (d .status) (withLeft (d .left) (o .device))) ≡ d
 
 reset-rest : (d : Device) (io : List ℕ) → Keeps d (resetCall d io)
-unfolding resetCall unlessBroken entering
-reset-rest d io = of-picked (Keeps d) (isBroken d (length io)) (λ _. refl) (λ _. refl)
+unfolding resetCall entering
+reset-rest d io = either d io (Keeps d) refl (λ _. refl)
 
 control-rest : (d : Device) (io : List ℕ) (q : Request) → Keeps d (controlCall d io q)
 unfolding entering
 control-rest d io q = by-request d io q (Keeps d) (λ _ _. refl) (λ _ _. refl)
 
-module _ (r io : List ℕ) {h : Bool} (eh : h ≡ isHeld r (length io)) where
-  pub reset-broken : not h ≡ true → leaves 10 r ≡ resetOn r io
-  unfolding resetOn resetCall word
-  reset-broken q = bus-broken r io (λ (d : Device). resetCall d io) eh (λ b. stops (deviceAt r) io _ _ b) q
+module _ (r io : List ℕ) {k : Bool} (ek : k ≡ isKnown r) where
+  pub reset-unknown : not k ≡ true → leaves 10 r ≡ resetOn r io
+  unfolding resetOn word
+  reset-unknown q = unknown r ek (leaves (plain 10) r) (λ (d : Device). handled r (resetCall d io)) q
 
-  pub reset-made : not h ≡ false → (m : Handled) {d : Device} → d ≡ deviceAt r → handledOf m ≡ resetCall d io
-      → {x : ℕ} {l : List ℕ} → (x ≡ word (number (m .report .answer)) 0 (stallsNumber (m .report .stalls)) (length (replied (m .report .reply))) (getD (replied (m .report .reply)) 0 0))
+  pub reset-made : not k ≡ false → (m : Handled) {d : Device} → d ≡ deviceAt r → handledOf m ≡ resetCall d io
+      → {x : ℕ} {l : List ℕ} → (x ≡ word (answerOf (m .report .answer) .number) 0 (stallsNumber (m .report .stalls)) (length (replied (m .report .reply))) (getD (replied (m .report .reply)) 0 0))
       × (l ≡ storeLeft (m .device .left) (storeState (m .device .state) (storeStatus (m .device .status) r)))
       → leaves x l ≡ resetOn r io
   unfolding resetOn
-  reset-made q m ed em e = bus-made r io (λ (d : Device). resetCall d io) eh (reset-rest (deviceAt r) io) q m (rw ed at em) e
+  reset-made q m ed em e = bus-made r (λ (d : Device). resetCall d io) ek q (reset-rest (deviceAt r) io) m (rw ed at em) e
 
   module _ (request : Request) where
-    pub control-broken : not h ≡ true → leaves 10 r ≡ controlOn r io request
-    unfolding controlOn controlCall word
-    control-broken q = bus-broken r io (λ (d : Device). controlCall d io request) eh (λ b. stops (deviceAt r) io _ _ b) q
+    pub control-unknown : not k ≡ true → leaves 10 r ≡ controlOn r io request
+    unfolding controlOn word
+    control-unknown q = unknown r ek (leaves (plain 10) r) (λ (d : Device). handled r (controlCall d io request)) q
 
-    pub control-made : not h ≡ false → (m : Handled) {d : Device} → d ≡ deviceAt r → handledOf m ≡ controlCall d io request
-        → {x : ℕ} {l : List ℕ} → (x ≡ word (number (m .report .answer)) 0 (stallsNumber (m .report .stalls)) (length (replied (m .report .reply))) (getD (replied (m .report .reply)) 0 0))
+    pub control-made : not k ≡ false → (m : Handled) {d : Device} → d ≡ deviceAt r → handledOf m ≡ controlCall d io request
+        → {x : ℕ} {l : List ℕ} → (x ≡ word (answerOf (m .report .answer) .number) 0 (stallsNumber (m .report .stalls)) (length (replied (m .report .reply))) (getD (replied (m .report .reply)) 0 0))
         × (l ≡ storeLeft (m .device .left) (storeState (m .device .state) (storeStatus (m .device .status) r)))
         → leaves x l ≡ controlOn r io request
     unfolding controlOn
-    control-made q m ed em e = bus-made r io (λ (d : Device). controlCall d io request) eh (control-rest (deviceAt r) io request) q m (rw ed at em) e
+    control-made q m ed em e = bus-made r (λ (d : Device). controlCall d io request) ek q (control-rest (deviceAt r) io request) m (rw ed at em) e
 
 -- ---- the command
 
@@ -150,65 +139,67 @@ module _ (r io was : List ℕ) where
   unfolding stepOn word
   step-wrong n = rw (ne-eqb _ _ n)
 
-  module _ {h : Bool} (eh : h ≡ isHeld r (length io)) where
-    pub command-broken : length was ≡ 16 → not h ≡ true → shows 10 was ≡ commandOn r io was
-    unfolding commandOn commandCall word
-    command-broken e q =
-        rw (eq-eqb _ _ e) (refuses r (shows (plain 10) was) (λ (d : Device). shown was (commandCall d io)) (length io) eh q (λ k b. ap (shown was) (stops (deviceAt r) io _ _ b)))
+  module _ {k : Bool} (ek : k ≡ isKnown r) where
+    pub command-unknown : length was ≡ 16 → not k ≡ true → shows 10 was ≡ commandOn r io was
+    unfolding commandOn word
+    command-unknown e q = rw (eq-eqb _ _ e) (unknown r ek (shows (plain 10) was) (λ (d : Device). shown was (commandCall d io)) q)
 
-    pub step-broken : length was ≡ 6 → not h ≡ true → shows 10 was ≡ stepOn r io was
-    unfolding stepOn stepCall word
-    step-broken e q =
-        rw (eq-eqb _ _ e)
-        (refuses r (shows (plain 10) was) (λ (d : Device). offered (stepCall d io .number) was (stepCall d io .offers)) (length io) eh q
-        (λ k b. ap (λ (o : Stepping). offered (o .number) was (o .offers)) (stops (deviceAt r) io _ _ b)))
+    pub step-unknown : length was ≡ 6 → not k ≡ true → shows 10 was ≡ stepOn r io was
+    unfolding stepOn word
+    step-unknown e q =
+        rw (eq-eqb _ _ e) (unknown r ek (shows (plain 10) was) (λ (d : Device). offered (stepCall d io .answer .number) was (stepCall d io .offers)) q)
 
-    module _ (q : not h ≡ false) {d : Device} (ed : d ≡ deviceAt r) where
+    module _ (q : not k ≡ false) {d : Device} (ed : d ≡ deviceAt r) where
       pub command-made : length was ≡ 16 → (c : command.Shown) → shownOf c ≡ commandCall d io → {x : ℕ} {l : List ℕ} → shows x l ≡ shown was (shownOf c) → shows x l ≡ commandOn r io was
       unfolding commandOn
       command-made e c ec ex =
-          rw (eq-eqb _ _ e) (ex ∙ ap (shown was) (rw ed at ec) ∙ made r (shows (plain 10) was) (λ (d : Device). shown was (commandCall d io)) (is-held r (length io) eh q .test))
+          rw (eq-eqb _ _ e) (ex ∙ ap (shown was) (rw ed at ec) ∙ made r (shows (plain 10) was) (λ (d : Device). shown was (commandCall d io)) (known-then r ek q))
 
-      pub step-made : length was ≡ 6 → (s : Step) → steppedOf s ≡ stepCall d io → {x : ℕ} {l : List ℕ} → shows x l ≡ offered (number (s .answer)) was (offers (s .offer)) → shows x l ≡ stepOn r io was
+      pub step-made : length was ≡ 6 → (s : Step) → steppedOf s ≡ stepCall d io → {x : ℕ} {l : List ℕ} → shows x l ≡ offered (answerOf (s .answer) .number) was (offers (s .offer)) → shows x l ≡ stepOn r io was
       unfolding stepOn
       step-made e s es ex =
           rw (eq-eqb _ _ e)
-          (ex ∙ ap (λ (o : Stepping). offered (o .number) was (o .offers)) (rw ed at es)
-          ∙ made r (shows (plain 10) was) (λ (d : Device). offered (stepCall d io .number) was (stepCall d io .offers)) (is-held r (length io) eh q .test))
+          (ex ∙ ap (λ (o : Stepping). offered (o .answer .number) was (o .offers)) (rw ed at es)
+          ∙ made r (shows (plain 10) was) (λ (d : Device). offered (stepCall d io .answer .number) was (stepCall d io .offers)) (known-then r ek q))
 
 module _ (was : List ℕ) where
-  module _ (c : command.Shown) {a x : ℕ} (ea : a ≡ number (c .answer)) where
+  module _ (c : command.Shown) {a x : ℕ} (ea : a ≡ answerOf (c .answer) .number) where
     pub shows-command : length was ≡ 16 → length (c .block) ≡ 16 → c .shown ≡ true → {l : List ℕ} → l ≡ overlay was 0 (c .block) → x ≡ word a (c .lun) 0 1 (c .blocklength) → shows x l ≡ shown was (shownOf c)
     shows-command e long t el ex = rw (t, el ∙ overlay-whole was (c .block) (long ∙ sym e), ex, ea)
 
     pub shows-none : c .shown ≡ false → x ≡ word a (c .lun) 0 0 (c .blocklength) → shows x was ≡ shown was (shownOf c)
     shows-none t ex = rw (t, ex, ea)
 
-  module _ (s : Step) {a x : ℕ} (ea : a ≡ number (s .answer)) where
-    pub offers-none : s .offer ≡ None → x ≡ word a 0 0 0 0 → shows x was ≡ offered (number (s .answer)) was (offers (s .offer))
+  module _ (s : Step) {a x : ℕ} (ea : a ≡ answerOf (s .answer) .number) where
+    pub offers-none : s .offer ≡ None → x ≡ word a 0 0 0 0 → shows x was ≡ offered (answerOf (s .answer) .number) was (offers (s .offer))
     offers-none en ex = rw (en, ex, ea)
 
-    pub offers-one : (lun : ℕ) (kind : ScsiCommand) → s .offer ≡ Command lun kind → {l : List ℕ} → l ≡ numbers kind → x ≡ word a lun 0 1 0 → shows x l ≡ offered (number (s .answer)) was (offers (s .offer))
+    pub offers-one : (lun : ℕ) (kind : ScsiCommand) → s .offer ≡ Command lun kind → {l : List ℕ} → l ≡ numbers kind → x ≡ word a lun 0 1 0 → shows x l ≡ offered (answerOf (s .answer) .number) was (offers (s .offer))
     offers-one lun kind en el ex = rw (en, el, ex, ea)
 
 -- ---- creation
 
-module _ (r : List ℕ) (p maxlun size : ℕ) (c : Created) (ec : createdOf c ≡ createCall p maxlun size) {n : ℕ} (en : n ≡ number (c .answer)) where
-  told : n ≡ creation p maxlun size
+module _ (r : List ℕ) (f : Fixed) (c : Created) (ec : createdOf c ≡ createCall f) {n : ℕ} (en : n ≡ answerOf (c .answer) .number) where
+  answered : n ≡ creation f
   unfolding createCall
-  told = en ∙ ap (λ (x : Creation). x .number) ec
+  answered = en ∙ ap (λ (x : Creation). x .answer .number) ec
 
-  pub create-refused : (n ≡ 0 → ⊥) → leaves n r ≡ createOn r p maxlun size
+  pub create-refused : (n ≡ 0 → ⊥) → leaves n r ≡ createOn r f
   unfolding createOn
-  create-refused q = rw (← told, ne-eqb _ _ q)
+  create-refused q = rw (← answered, ne-eqb _ _ q)
 
-  pub create-unlent : n ≡ 0 → (length r ≡ 52 → ⊥) → leaves 10 r ≡ createOn r p maxlun size
+  pub create-unlent : n ≡ 0 → (length r ≡ 52 → ⊥) → leaves 10 r ≡ createOn r f
   unfolding createOn
-  create-unlent q k = rw (← told, eq-eqb _ _ q, ne-eqb _ _ k)
+  create-unlent q k = rw (← answered, eq-eqb _ _ q, ne-eqb _ _ k)
 
-  -- P is a byte
-  pub create-made : n ≡ 0 → length r ≡ 52 → {l : List ℕ} → l ≡ newRecord (p % 256) maxlun size → leaves 0 l ≡ createOn r p maxlun size
+  -- what creation takes has its place in a record
+  pub create-fits : n ≡ 0 → Fixable f
+  create-fits q =
+      let e : creation f ≡ 0 = sym answered ∙ q in
+      record { packetsize = packet-below f e; maxlun = lun-below f e; size = size-below f e }
+
+  pub create-made : n ≡ 0 → length r ≡ 52 → {l : List ℕ} → l ≡ newRecord f → leaves 0 l ≡ createOn r f
   unfolding createOn
-  create-made q k el = rw (← told, eq-eqb _ _ q, eq-eqb _ _ k, el, mod-eq-of-lt (packet-below p maxlun size (sym told ∙ q)))
+  create-made q k el = rw (← answered, eq-eqb _ _ q, eq-eqb _ _ k, el)
 
-pub ruleset ways = (held-long, status-broken, status-set, replies-nothing, replies-lun, bus-told, bus-stored, reset-broken, reset-made, control-broken, control-made, command-wrong, step-wrong, command-broken, step-broken, command-made, step-made, shows-command, shows-none, offers-none, offers-one, create-refused, create-unlent, create-made)
+pub ruleset ways = (long-then, status-unknown, status-set, replies-nothing, replies-lun, bus-told, bus-stored, reset-unknown, reset-made, control-unknown, control-made, command-wrong, step-wrong, command-unknown, step-unknown, command-made, step-made, shows-command, shows-none, offers-none, offers-one, create-refused, create-unlent, create-fits, create-made)

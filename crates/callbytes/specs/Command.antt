@@ -20,7 +20,7 @@ shows result lent = record { result = result; lent = lent }
 
 -- the 16 bytes of the block; nothing shown leaves them as they were, and so do other than 16 lent bytes, which are broken
 abbrev pub shown : List ℕ → Showing → Shown
-shown was o = shows (word (o .number) (o .lun) 0 (flagNumber (o .shown)) (o .blocklength)) (cond (o .shown) (o .block) was)
+shown was o = shows (word (o .answer .number) (o .lun) 0 (flagNumber (o .shown)) (o .blocklength)) (cond (o .shown) (o .block) was)
 
 unfoldable pub commandOn : List ℕ → List ℕ → List ℕ → Shown
 commandOn r io was =
@@ -36,5 +36,5 @@ offered number was (o ∷ os) = shows (word number (o .lun) 0 1 0) (numbers (o .
 unfoldable pub stepOn : List ℕ → List ℕ → List ℕ → Shown
 stepOn r io was =
     cond (eqb (length was) 6)
-    (onDevice r (shows (plain 10) was) (λ (d : Device). offered (stepCall d io .number) was (stepCall d io .offers)))
+    (onDevice r (shows (plain 10) was) (λ (d : Device). offered (stepCall d io .answer .number) was (stepCall d io .offers)))
     (shows (plain 10) was)

@@ -1,12 +1,12 @@
 // The bus: a reset, and control requests.
 use answers::answer_number;
-use border::held;
 use border::word::stalls_number;
 use border::word::word;
 use calls::Handled;
 use calls::Reply;
 use calls::Request;
 use recordbytes::device_at;
+use recordbytes::known;
 use recordbytes::store;
 ghost use mathlib.Core.Path.{_≡_};
 ghost use lib.ListN.{length, getD};
@@ -29,7 +29,7 @@ fn replied(number: u8, stalls: u8, reply: Reply) -> u64
 // Status, state and left go into the record, the rest into the result.
 fn handled(record: &mut [u8], h: Handled) -> u64
     requires { ⌜ length (now «record») ≡ recordSize ⌝ }
-    ensures { λ x. ⌜ (x ≡ spec.word (answers.number (h .report .answer)) 0 (spec.stallsNumber (h .report .stalls)) (length (bus.replied (h .report .reply))) (getD (bus.replied (h .report .reply)) 0 0))
+    ensures { λ x. ⌜ (x ≡ spec.word (answers.answerOf (h .report .answer) .number) 0 (spec.stallsNumber (h .report .stalls)) (length (bus.replied (h .report .reply))) (getD (bus.replied (h .report .reply)) 0 0))
         × (now («record» .exit) ≡ storeLeft (h .device .left) (storeState (h .device .state) (storeStatus (h .device .status) (now («record» .entry))))) ⌝ }
 {
     let d = h.device;
@@ -49,7 +49,7 @@ fn handled(record: &mut [u8], h: Handled) -> u64
 pub fn reset(record: &mut [u8], io: &[u8]) -> u64
     ensures { λ x. ⌜ leaves x (now («record» .exit)) ≡ resetOn (now («record» .entry)) (now (io .entry)) ⌝ }
 {
-    if !held(record, io.len()) {
+    if !known(record) {
         return 10;
     }
     let h = calls::reset(device_at(record), io);
@@ -59,7 +59,7 @@ pub fn reset(record: &mut [u8], io: &[u8]) -> u64
 pub fn control(record: &mut [u8], io: &[u8], request_type: u8, request: u8) -> u64
     ensures { λ x. ⌜ leaves x (now («record» .exit)) ≡ controlOn (now («record» .entry)) (now (io .entry)) (record { requesttype = «request_type»; request = request }) ⌝ }
 {
-    if !held(record, io.len()) {
+    if !known(record) {
         return 10;
     }
     let h = calls::control(

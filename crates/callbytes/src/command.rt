@@ -1,16 +1,16 @@
 // The command shown to the firmware, and the command step.
 use answers::answer_number;
-use border::held;
 use border::word::word;
 use buffer::span::put;
 use calls::command::Offer;
 use calls::command::Shown;
 use calls::command::Step;
 use recordbytes::device_at;
+use recordbytes::known;
 use scsi::numbers::put_command;
 ghost use mathlib.Core.Path.{_≡_};
 ghost use lib.ListN.{length};
-ghost use Rattle.answers.specs.Answers.{number};
+ghost use Rattle.answers.specs.Answers.{answerOf};
 ghost use Rattle.calls.specs.Command.{shownOf, offers};
 ghost use Rattle.callbytes.specs.Command.{shows, shown, commandOn, offered, stepOn};
 
@@ -35,7 +35,7 @@ pub fn command(record: &[u8], io: &[u8], block: &mut [u8]) -> u64
     if block.len() != 16 {
         return 10;
     }
-    if !held(record, io.len()) {
+    if !known(record) {
         return 10;
     }
     let c = calls::command::command(device_at(record), io);
@@ -45,7 +45,7 @@ pub fn command(record: &[u8], io: &[u8], block: &mut [u8]) -> u64
 // A command that is offered goes into the six lent numbers.
 fn offer(s: Step, command: &mut [u64]) -> u64
     requires { ⌜ length (now command) ≡ 6 ⌝ }
-    ensures { λ x. ⌜ shows x (now (command .exit)) ≡ offered (number (s .answer)) (now (command .entry)) (offers (s .offer)) ⌝ }
+    ensures { λ x. ⌜ shows x (now (command .exit)) ≡ offered (answerOf (s .answer) .number) (now (command .entry)) (offers (s .offer)) ⌝ }
 {
     let answer = s.answer;
     let number = answer_number(answer);
@@ -65,7 +65,7 @@ pub fn command_step(record: &[u8], io: &[u8], command: &mut [u64]) -> u64
     if command.len() != 6 {
         return 10;
     }
-    if !held(record, io.len()) {
+    if !known(record) {
         return 10;
     }
     let s = calls::command::command_step(device_at(record), io);

@@ -1,13 +1,20 @@
 // A new record.
 use answers::answer_number;
+use device::Fixed;
 use recordbytes::store;
 ghost use mathlib.Core.Path.{_≡_};
+ghost use Rattle.device.specs.Create.{fixed};
 ghost use Rattle.callbytes.specs.Calls.{leaves, createOn};
 
 pub fn create(record: &mut [u8], packet_size: u32, max_lun: u8, size: u32) -> u32
-    ensures { λ x. ⌜ leaves x (now («record» .exit)) ≡ createOn (now («record» .entry)) «packet_size» «max_lun» size ⌝ }
+    ensures { λ x. ⌜ leaves x (now («record» .exit)) ≡ createOn (now («record» .entry)) (fixed «packet_size» «max_lun» size) ⌝ }
 {
-    let c = device::create::create(packet_size, max_lun, size);
+    let fixed = Fixed {
+        packetsize: packet_size as usize,
+        maxlun: max_lun,
+        size: size as usize,
+    };
+    let c = device::create::create(fixed);
     let answer = c.answer;
     let number = answer_number(answer);
     if number != 0 {
@@ -16,6 +23,6 @@ pub fn create(record: &mut [u8], packet_size: u32, max_lun: u8, size: u32) -> u3
     if record.len() != 52 {
         return 10;
     }
-    store::new(record, (packet_size % 256) as u8, max_lun, size);
+    store::new(record, fixed);
     0
 }

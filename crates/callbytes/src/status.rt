@@ -1,24 +1,24 @@
 // The status of the command.
 use answers::answer_number;
-use border::held;
-use calls::Figure;
+use calls::FirmwareStatus;
 use recordbytes::device_at;
+use recordbytes::known;
 use recordbytes::store;
 ghost use mathlib.Core.Path.{_≡_};
 ghost use Rattle.callbytes.specs.Calls.{leaves, statusOn};
 
 pub fn set_status(record: &mut [u8], io: &[u8], status: u8, figure: u32) -> u32
-    ensures { λ x. ⌜ leaves x (now («record» .exit)) ≡ statusOn (now («record» .entry)) (now (io .entry)) (record { status = status; processed = figure }) ⌝ }
+    ensures { λ x. ⌜ leaves x (now («record» .exit)) ≡ statusOn (now («record» .entry)) (now (io .entry)) (record { status = status; figure = figure }) ⌝ }
 {
-    if !held(record, io.len()) {
+    if !known(record) {
         return 10;
     }
     let s = calls::set_status(
         device_at(record),
         io,
-        Figure {
+        FirmwareStatus {
             status: status,
-            processed: figure,
+            figure: figure,
         },
     );
     let d = s.device;

@@ -5,6 +5,7 @@
 --     ..-unread     the unread bytes after it
 --     ..-count      how many bytes a read or a write moves
 --     ..-within     the count is not above the write mark
+--     ..-tells      10 tells that the record is broken
 --     ..-whole      a whole record stays whole, over the IO buffer that the call leaves
 -- Assumes nothing.
 use mathlib.Core.Path.{_≡_, refl, sym, ap, _∙_, subst}
@@ -132,6 +133,31 @@ module _ (state : ℕ) (d : Device) (io bytes : List ℕ) (done : Moving) (w : W
   pub data-elsewhere : isIn state d ≡ false → worksIn state d io bytes done ≡ moving (answer 3) 0 d bytes
   unfolding worksIn
   data-elsewhere h = passes d io w _ _ ∙ rw h
+
+-- 10 tells that the record is broken, where what is done answers otherwise; then nothing has moved
+pub record Tells10 (d : Device) (io bytes : List ℕ) (o : Moving) : Type 0 where
+  pub broken : eqb (o .answer .number) 10 ≡ true → o ≡ moving (answer 10) 0 d bytes
+  pub whole : eqb (o .answer .number) 10 ≡ false → Whole (numbersOf d) (length io)
+
+data-tells : (state : ℕ) (d : Device) (io bytes : List ℕ) (done : Moving) → eqb (done .answer .number) 10 ≡ false → Tells10 d io bytes (worksIn state d io bytes done)
+unfolding worksIn
+data-tells state d io bytes done h =
+    either d io (Tells10 d io bytes) (record { broken = λ _. refl; whole = λ e. absurd (clash e) })
+    (λ w. of-picked (Tells10 d io bytes) (isIn state d)
+    (λ _. record { broken = λ e. absurd (clash (sym e ∙ h)); whole = λ _. w })
+    (λ _. record { broken = λ e. absurd (clash (sym e)); whole = λ _. w }))
+
+pub read-tells : (d : Device) (io dst : List ℕ) → Tells10 d io dst (readCall d io dst)
+unfolding readOut
+read-tells d io dst = data-tells 7 d io dst _ refl
+
+pub write-tells : (d : Device) (io src : List ℕ) → Tells10 d io io (writeCall d io src)
+unfolding writeIn
+write-tells d io src = data-tells 4 d io io _ refl
+
+pub write-all-tells : (d : Device) (io src : List ℕ) → Tells10 d io io (writeAllCall d io src)
+unfolding writeAllIn
+write-all-tells d io src = data-tells 4 d io io _ (of-picked (λ (o : Moving). eqb (o .answer .number) 10 ≡ false) (lacksRoom (length src) (bufferOf d io)) (λ _. refl) (λ _. refl))
 
 -- whatever the answer, all of the record but the marks: put the old ones back, and the record is the old one
 pub read-keeps : (d : Device) (io dst : List ℕ) → withMarks (d .marks) (readCall d io dst .device) ≡ d

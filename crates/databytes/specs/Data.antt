@@ -1,24 +1,27 @@
 -- What a read or a write leaves of all that it was lent: its result, the record's bytes, and those that it may write to. On the device that
 -- the record's bytes hold it does what the call by value does; `storeDevice` says what bytes hold the device that it leaves. Assumes
 -- nothing: these are definitions.
-use mathlib.Core.Path.{_≡_}
 use Prim.Native.Nat.{ℕ, _^_, _<_}
+use mathlib.Core.Bool.{Bool}
 use mathlib.Core.List.{List}
-use lib.ListN.{length}
+use lib.Dec.{eqb}
+use Rattle.answers.specs.Answers.{answerOf}
 use Rattle.device.specs.declared.Device.{Device}
 use Rattle.calls.specs.declared.Moved as value
 use Rattle.calls.specs.Data.{Moving, readCall, writeCall, writeAllCall}
-use Rattle.recordbytes.specs.Layout.{recordSize}
 use Rattle.recordbytes.specs.Record.{storeDevice}
 use Rattle.border.specs.Word.{word, plain}
 use Rattle.border.specs.Record.{onDevice}
 
 -- what a read or a write by value left has its place in a record: marks and count are numbers of 32 bits
-pub record Storable (r : List ℕ) (m : value.Moved) : Type 0 where
-  pub long : length r ≡ recordSize
+pub record Storable (m : value.Moved) : Type 0 where
   pub read : m .device .marks .read < 2 ^ 32
   pub write : m .device .marks .write < 2 ^ 32
   pub count : m .report .count < 2 ^ 32
+
+-- whether a read or a write by value was refused for a broken record
+abbrev pub is10 : value.Moved → Bool
+is10 m = eqb (answerOf (m .report .answer) .number) 10
 
 pub record Moved : Type 0 where
   pub result : ℕ
@@ -29,7 +32,7 @@ abbrev pub moves : ℕ → List ℕ → List ℕ → Moved
 moves result bytes into = record { result = result; bytes = bytes; into = into }
 
 abbrev pub moved : List ℕ → Moving → Moved
-moved r o = moves (word (o .number) 0 0 0 (o .count)) (storeDevice (o .device) r) (o .bytes)
+moved r o = moves (word (o .answer .number) 0 0 0 (o .count)) (storeDevice (o .device) r) (o .bytes)
 
 unfoldable pub readOn : List ℕ → List ℕ → List ℕ → Moved
 readOn r io dst = onDevice r (moves (plain 10) r dst) (λ (d : Device). moved r (readCall d io dst))

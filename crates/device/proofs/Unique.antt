@@ -14,6 +14,8 @@ use Rattle.device.proofs.whole.Kinds as whole-kinds
 use Rattle.device.proofs.whole.Reads as whole
 use Rattle.device.proofs.create.is_packet_size.Kinds as is-packet-size-kinds
 use Rattle.device.proofs.create.is_packet_size.Reads as is-packet-size
+use Rattle.device.proofs.create.none.Kinds as none-kinds
+use Rattle.device.proofs.create.none.Reads as none
 use Rattle.device.proofs.create.create.Kinds as create-kinds
 use Rattle.device.proofs.create.create.Reads as create
 
@@ -37,6 +39,9 @@ is-packet-size-only κs a x y s t p q = (p ∙ sym q, refl)
 
 pub whole-only : Only 0 whole-kinds.ps whole-kinds.r whole.Post (λ κs s. tt {0})
 whole-only κs a x y s t p q = (p ∙ sym q, refl)
+
+pub none-only : Only 0 none-kinds.ps none-kinds.r none.Post (λ κs s. tt {0})
+none-only κs a x y s t p q = (p ∙ sym q, refl)
 
 pub create-only : Only 0 create-kinds.ps create-kinds.r create.Post (λ κs s. tt {0})
 create-only κs a x y s t p q = (once createdOf uncreated uncreated-created x y p q, refl)

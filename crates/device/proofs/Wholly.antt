@@ -3,12 +3,13 @@
 --     passes, stops, either what a call that checks 10 first comes to
 --     whole-sound           its marks are sound over the lent buffer
 --     absent-in-0           in 0 no status is present
+--     packet-below, lun-below, size-below   what creation takes is small
 --     wrapper-fits, packet-fits, packet-bounds   the buffer holds a wrapper and a packet, and P is 8 to 64
 -- Assumes nothing.
 use mathlib.Core.Path.{_≡_, refl, sym, _∙_}
 use mathlib.Core.Bool.{Bool, true, false, cond, _&&_, _||_}
 use mathlib.Core.List.{List}
-use Prim.Native.Nat.{ℕ, _≤_, _<_}
+use Prim.Native.Nat.{ℕ, _^_, _≤_, _<_}
 use native.Mathlib.Omega.{arith}
 use lib.Dec.{eqb, ltb, leb}
 use lib.ListN.{length}
@@ -82,15 +83,15 @@ module _ {A : Type 0} (d : Device) (io : List ℕ) where
 -- ---- the packet size and the buffer
 
 -- no creation rule is violated: each of the tests
-unviolated : (a b c d e : Bool) → _≡_ {A = ℕ} (cond a 2 (cond (b || c) 5 (cond d (cond e 9 0) 8))) 0 → (b ≡ false) × (c ≡ false) × (d ≡ true) × (e ≡ false)
+unviolated : (a b c d e : Bool) → _≡_ {A = ℕ} (cond a 2 (cond (b || c) 5 (cond d (cond e 9 0) 8))) 0 → (b ≡ false) × (c ≡ false) × (d ≡ true) × (e ≡ false) × (a ≡ false)
 unviolated true b c d e h = absurd (omega (arith, h))
 unviolated false true c d e h = absurd (omega (arith, h))
 unviolated false false true d e h = absurd (omega (arith, h))
 unviolated false false false true true h = absurd (omega (arith, h))
-unviolated false false false true false h = (refl, refl, refl, refl)
+unviolated false false false true false h = (refl, refl, refl, refl, refl)
 unviolated false false false false e h = absurd (omega (arith, h))
 
-rules : (f : Fixed) → creation f ≡ 0 → (ltb (f .size) 31 ≡ false) × (ltb (f .size) (f .packetsize) ≡ false) × (isPacketSize (f .packetsize) ≡ true) × (ltb 65536 (f .size) ≡ false)
+rules : (f : Fixed) → creation f ≡ 0 → (ltb (f .size) 31 ≡ false) × (ltb (f .size) (f .packetsize) ≡ false) × (isPacketSize (f .packetsize) ≡ true) × (ltb 65536 (f .size) ≡ false) × (ltb 15 (f .maxlun) ≡ false)
 unfolding creation
 rules f e = unviolated (ltb 15 (f .maxlun)) (ltb (f .size) 31) (ltb (f .size) (f .packetsize)) (isPacketSize (f .packetsize)) (ltb 65536 (f .size)) e
 
@@ -124,6 +125,12 @@ packet-bounds p h =
     (or-true (eqb p 16) _ (within p 16 (omega arith) (omega arith))
     (or-true (eqb p 32) _ (within p 32 (omega arith) (omega arith)) (within p 64 (omega arith) (omega arith)))) h
 
--- a packet size that creation takes is a byte
+-- what creation takes is small: P and max LUN are bytes, the size has 32 bits
 pub packet-below : (f : Fixed) → creation f ≡ 0 → f .packetsize < 256
 packet-below f e = omega (arith, packet-bounds (f .packetsize) (rules f e .2) .1)
+
+pub lun-below : (f : Fixed) → creation f ≡ 0 → f .maxlun < 256
+lun-below f e = omega (arith, ltb-false 15 (f .maxlun) (rules f e .4))
+
+pub size-below : (f : Fixed) → creation f ≡ 0 → f .size < 2 ^ 32
+size-below f e = omega (arith, ltb-false 65536 (f .size) (rules f e .3))

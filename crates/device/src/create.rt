@@ -10,7 +10,7 @@ use wrapper::counters::Left;
 ghost use mathlib.Core.Path.{_≡_};
 ghost use lib.Dec.{eqb};
 ghost use Rattle.answers.specs.Answers.{answer, answerOf};
-ghost use Rattle.device.specs.Create.{isPacketSize, creation, newDevice, createdOf, createCall};
+ghost use Rattle.device.specs.Create.{isPacketSize, creation, newDevice, noDevice, createdOf, createCall};
 
 // The answer, and a device: with any answer but 0 there is no device, and all of this one is 0.
 pub struct Created {
@@ -77,6 +77,17 @@ fn blank(fixed: Fixed) -> Device
     }
 }
 
+// "No device": all of it is 0.
+pub fn none() -> Device
+    ensures { λ r. ⌜ r ≡ noDevice ⌝ }
+{
+    blank(Fixed {
+        packetsize: 0,
+        maxlun: 0,
+        size: 0,
+    })
+}
+
 pub fn create(fixed: Fixed) -> Created
     ensures { λ r. ⌜ createdOf r ≡ createCall fixed ⌝ }
 {
@@ -88,13 +99,9 @@ pub fn create(fixed: Fixed) -> Created
             device: device,
         };
     }
-    let none = blank(Fixed {
-        packetsize: 0,
-        maxlun: 0,
-        size: 0,
-    });
+    let nothing = none();
     Created {
         answer: answer,
-        device: none,
+        device: nothing,
     }
 }

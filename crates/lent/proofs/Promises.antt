@@ -10,7 +10,7 @@ use Rattle.calls.specs.Status.{setStatusCall}
 use Rattle.calls.specs.Data.{readCall, writeCall, writeAllCall}
 use Rattle.calls.specs.Bus.{resetCall, controlCall}
 use Rattle.lent.specs.Lent.{pollingWith, statingWith, movingWith, handlingWith}
-use Rattle.lent.proofs.Types.{device, turn, report, polled, figure, answer, stated, count, moved, request, controlled, handled}
+use Rattle.lent.proofs.Types.{device, turn, report, polled, firmware-status, answer, stated, count, moved, request, controlled, handled}
 use Rattle.lent.proofs.Law.{Kind, mutable, shared, given, Promise}
 
 -- io, packet, one, two, turn
@@ -21,9 +21,9 @@ abbrev pub poll-promise : Promise device report polled poll-others
 poll-promise κs d a d′ r z =
     pollingWith d′ r (now (z .0)) (now (z .1 .0)) ≡ pollCall d (now (a .0)) (Poll.given (now (a .1 .0)) (now (a .1 .1 .0)) (now (a .1 .1 .1 .0)) (a .1 .1 .1 .1 .0))
 
--- io, figure
+-- io, the firmware's status
 abbrev pub set-status-others : List (Kind 1)
-set-status-others = shared 0 tt ∷ given figure ∷ []
+set-status-others = shared 0 tt ∷ given firmware-status ∷ []
 
 abbrev pub set-status-promise : Promise device answer stated set-status-others
 set-status-promise κs d a d′ r z = statingWith d′ r ≡ setStatusCall d (now (a .0)) (a .1 .0)

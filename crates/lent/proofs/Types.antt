@@ -11,8 +11,8 @@ use Rattle.bbb.proofs.Report as Report
 use Rattle.bbb.proofs.Report.Laws as Report′
 use Rattle.bbb.proofs.Polled as Polled
 use Rattle.bbb.proofs.Polled.Laws as Polled′
-use Rattle.calls.proofs.Figure as Figure
-use Rattle.calls.proofs.Figure.Laws as Figure′
+use Rattle.calls.proofs.FirmwareStatus as FirmwareStatus
+use Rattle.calls.proofs.FirmwareStatus.Laws as FirmwareStatus′
 use Rattle.calls.proofs.Stated as Stated
 use Rattle.calls.proofs.Stated.Laws as Stated′
 use Rattle.calls.proofs.Count as Count
@@ -37,8 +37,8 @@ turn = struct-data Turn.the-type Turn′.the-laws Turn′.the-plain Turn′.mir 
 abbrev pub report : Data
 report = struct-data Report.the-type Report′.the-laws Report′.the-plain Report′.mir refl
 
-abbrev pub figure : Data
-figure = struct-data Figure.the-type Figure′.the-laws Figure′.the-plain Figure′.mir refl
+abbrev pub firmware-status : Data
+firmware-status = struct-data FirmwareStatus.the-type FirmwareStatus′.the-laws FirmwareStatus′.the-plain FirmwareStatus′.mir refl
 
 abbrev pub count : Data
 count = struct-data Count.the-type Count′.the-laws Count′.the-plain Count′.mir refl

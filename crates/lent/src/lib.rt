@@ -7,7 +7,7 @@ use bbb::Report;
 use bbb::Turn;
 use calls::Controlled;
 use calls::Count;
-use calls::Figure;
+use calls::FirmwareStatus;
 use calls::Request;
 use device::Device;
 ghost use mathlib.Core.Path.{_≡_};
@@ -35,11 +35,11 @@ pub fn poll(
 }
 
 // The status of the command.
-pub fn set_status(d: &mut Device, io: &[u8], figure: Figure) -> Answer
-    ensures { λ r. ⌜ statingWith (now (d .exit)) r ≡ setStatusCall (now (d .entry)) (now (io .entry)) figure ⌝ }
+pub fn set_status(d: &mut Device, io: &[u8], given: FirmwareStatus) -> Answer
+    ensures { λ r. ⌜ statingWith (now (d .exit)) r ≡ setStatusCall (now (d .entry)) (now (io .entry)) given ⌝ }
 {
     let v = *d;
-    let r = calls::set_status(v, io, figure);
+    let r = calls::set_status(v, io, given);
     *d = r.device;
     r.answer
 }

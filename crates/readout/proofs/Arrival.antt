@@ -14,7 +14,7 @@ use Rattle.ring.specs.States.{stateNumber}
 use Rattle.device.specs.declared.Device.{Device}
 use Rattle.device.specs.Device.{entering0}
 use Rattle.bbb.specs.Poll.{Given, Polling, Point, ends, pollRule, Fits, refusing, pollCall}
-use Rattle.bbb.proofs.Keeping.{by-call, call-whole, call-sizes}
+use Rattle.bbb.proofs.Keeping.{by-call, call-whole, call-sizes, packet-is}
 use Rattle.bbb.proofs.After.{bufferAfter, arrived, read-unread}
 use Rattle.calls.specs.Checks.{isIn}
 use Rattle.calls.specs.Status.{Stating, takesStatus}
@@ -71,7 +71,7 @@ module _ (p : ℕ) (m : List ℕ) (s : Socket) (a : Arriving p m s) where
         record {
           arriving = record {
             whole = call-whole (s .device) (s .io) g (a .whole);
-            packetsize = call-sizes (s .device) (s .io) g .fixed .packetsize ∙ a .fixed .packetsize;
+            packetsize = packet-is (call-sizes (s .device) (s .io) g .fixed) ∙ a .packetsize;
             waits = here .state;
             unread = here .unread;
             none-in-3 = here .none-in-3;
@@ -93,7 +93,7 @@ module _ (p : ℕ) (m : List ℕ) (s : Socket) (a : Arriving p m s) where
   reset-arrives n = record {
     arriving = record {
       whole = record { lent = a .whole .lent; created = a .whole .created; order = a .whole .order; within = a .whole .within; block = a .whole .block; lun = a .whole .lun; status = refl };
-      packetsize = a .fixed .packetsize;
+      packetsize = a .packetsize;
       waits = refl;
       unread = rw append-nil (a .unread);
       none-in-3 = λ in3. absurd (apart refl in3);

@@ -56,9 +56,9 @@ pub data Called : Event → Socket → Shows → Type 0 where
   control-called : (κs : Lfts 1) (a : Dens κs control-kinds.ps) (x : resT control-kinds.r κs .Denot) (z : AtExit (endedOf 1 control-kinds.ps control-kinds.r) κs) → control-reads.Post κs a x z
       → Called (control (a .1 .1 .0)) (socket (a .0) (now (a .1 .0))) (ofBus (now (a .1 .0)) (handledOf x))
   command-called : (κs : Lfts 1) (a : Dens κs command-kinds.ps) (x : resT command-kinds.r κs .Denot) (z : AtExit (endedOf 1 command-kinds.ps command-kinds.r) κs) → command-reads.Post κs a x z
-      → Called command (socket (a .0) (now (a .1 .0))) (ofLook (socket (a .0) (now (a .1 .0))) (shownOf x .number))
+      → Called command (socket (a .0) (now (a .1 .0))) (ofLook (socket (a .0) (now (a .1 .0))) (shownOf x .answer))
   step-called : (κs : Lfts 1) (a : Dens κs step-kinds.ps) (x : resT step-kinds.r κs .Denot) (z : AtExit (endedOf 1 step-kinds.ps step-kinds.r) κs) → step-reads.Post κs a x z
-      → Called commandStep (socket (a .0) (now (a .1 .0))) (ofLook (socket (a .0) (now (a .1 .0))) (steppedOf x .number))
+      → Called commandStep (socket (a .0) (now (a .1 .0))) (ofLook (socket (a .0) (now (a .1 .0))) (steppedOf x .answer))
 
 -- what a call showed is what its event shows
 called-shows : {e : Event} {s : Socket} {o : Shows} → Called e s o → o ≡ shows e s
@@ -70,8 +70,8 @@ called-shows (write-all-called κs a x z p) = ap (ofWrite (now (a .1 .1 .0))) p
 called-shows (read-called κs a x z p) = ap (ofRead (now (a .1 .1 .0))) p
 called-shows (reset-called κs a x z p) = ap (ofBus (now (a .1 .0))) p
 called-shows (control-called κs a x z p) = ap (ofBus (now (a .1 .0))) p
-called-shows (command-called κs a x z p) = ap (λ (o : Showing). ofLook (socket (a .0) (now (a .1 .0))) (o .number)) p
-called-shows (step-called κs a x z p) = ap (λ (o : Stepping). ofLook (socket (a .0) (now (a .1 .0))) (o .number)) p
+called-shows (command-called κs a x z p) = ap (λ (o : Showing). ofLook (socket (a .0) (now (a .1 .0))) (o .answer)) p
+called-shows (step-called κs a x z p) = ap (λ (o : Stepping). ofLook (socket (a .0) (now (a .1 .0))) (o .answer)) p
 
 -- "the firmware keeps one device record": each call is made with the record and the IO buffer that the call before left. The last such
 -- socket, and all bytes sent.
@@ -91,10 +91,10 @@ log-run (then {e} {h} {s} {last} {o} {sent} c rest) =
 -- A story whose calls were made: what they sent, and the poll that was called next.
 pub record Kept (t : Story) (last : Socket) (sent : List ℕ) : Type 0 where
   pub not-before : servedSince t < number t → (rest : List ℕ) × (0 < length rest) × (sent ++ rest ≡ theData t ++ theStatus t)
-  pub exactly : servedSince t + 1 ≡ number t → {g : Given} {o : Shows} → Called (poll g) last o → Later (poll g) last → isServed (o .number) ≡ true
+  pub exactly : servedSince t + 1 ≡ number t → {g : Given} {o : Shows} → Called (poll g) last o → Later (poll g) last → isServed (o .answer) ≡ true
       → (sent ++ o .sent ≡ theData t ++ theStatus t) × Between (o .socket)
 
-served-called : {g : Given} {s : Socket} {o : Shows} → Called (poll g) s o → isServed (o .number) ≡ true → served (poll g) s ≡ 1
+served-called : {g : Given} {s : Socket} {o : Shows} → Called (poll g) s o → isServed (o .answer) ≡ true → served (poll g) s ≡ 1
 unfolding served isPoll
 served-called c does = rw (← called-shows c, does)
 

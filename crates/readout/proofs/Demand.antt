@@ -128,9 +128,9 @@ module _ (t : Story) (u : Supposed t) where
   arrived-there : Transfer (wrapper t) (P t) (sentIn (toStatus t) (t .start)) (putIn (toStatus t) (t .start)) (reached t)
   arrived-there = rw (all-append (λ (o : Shows). o .sent) (toWrapper t) (t .before) (t .start), all-append (λ (o : Shows). o .put) (toWrapper t) (t .before) (t .start), reached-is) (met-before .transfer)
 
-  here : Accepted (reached t .device) (t .figure) (setStatusCall (reached t .device) (reached t .io) (t .figure))
+  here : Accepted (reached t .device) (t .given) (setStatusCall (reached t .device) (reached t .io) (t .given))
   unfolding accepts isStatus shows
-  here = status-accepted (reached t .device) (reached t .io) (t .figure) (u .accepted)
+  here = status-accepted (reached t .device) (reached t .io) (t .given) (u .accepted)
 
   -- the record with it
   told-is : told t .device ≡ withFigure (t .given) (reached t .device)
@@ -151,7 +151,7 @@ module _ (t : Story) (u : Supposed t) where
       let d : Device = reached t .device in
       let same-state : told t .device .state ≡ d .state = ap (λ (d : Device). d .state) told-is in
       let same-left : told t .device .left .0 ≡ R t = ap (λ (d : Device). d .left .0) told-is in
-      let same-size : told t .device .fixed .packetsize ≡ P t = ap (λ (d : Device). d .fixed .packetsize) told-is ∙ arrived-there .fixed .packetsize in
+      let same-size : told t .device .fixed .packetsize ≡ P t = ap (λ (d : Device). d .fixed .packetsize) told-is ∙ arrived-there .packetsize in
       takes-due (told t .device .state) (told t .device .fixed .packetsize) (told t .device .left .0) (length (unreadIn (told t))) (rw same-state takes) ∙ rw (same-left, same-size)
 
   -- the transfer goes on with it
@@ -230,7 +230,7 @@ module _ (t : Story) (u : Supposed t) where
       let k : Device = ended t .device in
       let more : 0 < due (ended t) = omega (arith, z .count) in
       let o : Owes (wrapper t) (host t) (firmware t) (k .status) =
-      owes (wrapper t) (host t) (firmware t) (k .fixed .packetsize) (rw (z .transfer .fixed .packetsize) positive) (k .state) (k .status) (k .left .0) (unreadIn (ended t)) _ _ (z .status) (z .transfer .phase) more in
+      owes (wrapper t) (host t) (firmware t) (k .fixed .packetsize) (rw (z .transfer .packetsize) positive) (k .state) (k .status) (k .left .0) (unreadIn (ended t)) _ _ (z .status) (z .transfer .phase) more in
       record { rest = o .rest; some = o .some; prefix = o .whole ∙ rw (z .status, the-status) }
 
   ends : servedSince t + 1 ≡ number t → (g : Given) → Later (poll g) (ended t) → served (poll g) (ended t) ≡ 1 → Ends t g
@@ -243,7 +243,7 @@ module _ (t : Story) (u : Supposed t) where
       let same : o .device .status ≡ Present (statusOfNumber (t .given .status)) (residueOf (L t) (t .given .figure)) = st .status (later .no-status) ∙ z .status in
       let none-due : due o ≡ 0 = omega (arith, st .count (rw (z .status)) (later .full), z .count) in
       let r : Rests (wrapper t) (host t ++ shows (poll g) e .sent) (firmware t ++ shows (poll g) e .put) (o .device .state) (o .device .status) (unreadIn o) =
-      rests (wrapper t) _ _ (o .device .fixed .packetsize) (rw (st .transfer .fixed .packetsize) positive) (o .device .state) (o .device .status) (o .device .left .0) (unreadIn o) _ _ same (st .transfer .phase) none-due in
+      rests (wrapper t) _ _ (o .device .fixed .packetsize) (rw (st .transfer .packetsize) positive) (o .device .state) (o .device .status) (o .device .left .0) (unreadIn o) _ _ same (st .transfer .phase) none-due in
       let bytes : host t ++ shows (poll g) e .sent ≡ theData t ++ theStatus t =
       r .whole ∙ ap₂ (λ (ys zs : List ℕ). dataOf (wrapper t .direction) (L t) ys ++ zs) (ap (λ (l : List ℕ). firmware t ++ l) (poll-puts g e) ∙ append-nil (firmware t)) (ap (bytesFor (wrapper t .tag)) same ∙ the-status) in
       record {

@@ -23,7 +23,7 @@ use Rattle.device.specs.declared.Status.{Status}
 use Rattle.device.specs.Device.{numbersOf, isPresent}
 use Rattle.device.specs.Broken.{statusFits, Whole}
 use Rattle.bbb.specs.Poll.{Given, Polling, Point, bufferAt, leaving, noDataRule, toHostRule, fromHostRule, ordered, startRule, messageAt, behind31, parseRule, refusing, pollRule, pollCall}
-use Rattle.bbb.proofs.Keeping.{Follows, follows-received, follows-31, by-call, call-whole, call-sizes}
+use Rattle.bbb.proofs.Keeping.{Follows, follows-received, follows-31, by-call, call-whole, call-sizes, packet-is}
 use Rattle.bbb.proofs.After.{P, firstFor, arrived, read-unread, parse-message, parse-rest, parse-valid}
 use Rattle.calls.specs.Status.{takesStatus}
 use Rattle.readout.specs.History.{Socket, socket, poll, Shows, shows, firstOf}
@@ -150,7 +150,7 @@ module _ (p : ℕ) (m : List ℕ) (s : Socket) (a : Arriving p m s) (few : lengt
       let whole : Whole (numbersOf (pollCall (s .device) (s .io) g .device)) (length (pollCall (s .device) (s .io) g .io)) = call-whole (s .device) (s .io) g (a .whole) in
       let takes : takesStatus (stateNumber (pollCall (s .device) (s .io) g .device .state)) ≡ true = absent-takes (b .leads .phase) (rw (b .leads .status) (b .absent)) (whole .status) in
       record {
-        transfer = record { whole = whole; packetsize = call-sizes (s .device) (s .io) g .fixed .packetsize ∙ a .fixed .packetsize; wrapper = b .leads .wrapper; phase = b .leads .phase };
+        transfer = record { whole = whole; packetsize = packet-is (call-sizes (s .device) (s .io) g .fixed) ∙ a .packetsize; wrapper = b .leads .wrapper; phase = b .leads .phase };
         takes = takes;
         wire = b .leads .wire takes;
       }

@@ -34,9 +34,9 @@ use Rattle.device.specs.declared.Status.{Status}
 use Rattle.device.specs.declared.Status.the-variants.{Absent, Present}
 use Rattle.device.specs.Device.{numbersOf, isPresent}
 use Rattle.device.specs.Broken.{Whole}
-use Rattle.bbb.specs.Poll.{Given, Polling, Point, bufferAt, reaching, leaving, ends, statusBy, sendStatus, dataBy, sendData, offers, takeBy, takeData, enterStatus, statusAwaitRule, toHostEndingRule, fallsShort, toHostRule, fromHostEndingRule, fromHostRule, pollRule, Fits}
+use Rattle.bbb.specs.Poll.{Given, Polling, Point, bufferAt, reaching, leaving, ends, sendBy, send, sendStatus, sendData, offers, takeBy, takeData, enterStatus, statusAwaitRule, toHostEndingRule, fallsShort, toHostRule, fromHostEndingRule, fromHostRule, pollRule, Fits}
 use Rattle.bbb.proofs.Keeping.{follows-filled, follows-status, Sizes, poll-sizes}
-use Rattle.bbb.proofs.After.{P, inFor, outFor, offered, bufferAfter, Idle, data-unread, data-sent, data-left, data-told, data-unserved, status-unread, status-sent, status-told, status-unserved, fill-exact, topped, stated, stated-unread, stated-sound, take-left, take-taken, take-answer, take-unserved}
+use Rattle.bbb.proofs.After.{P, inFor, outFor, offered, bufferAfter, Idle, send-unread, send-sent, send-answer, send-unserved, data-left, fill-exact, topped, stated, stated-unread, stated-sound, take-left, take-taken, take-answer, take-unserved}
 use Rattle.calls.specs.Status.{takesStatus}
 use Rattle.readout.specs.History.{isServed, socket}
 use Rattle.readout.specs.Demand.{Full, ceiling, filledTo, dataOf}
@@ -59,7 +59,7 @@ poll-long d io g whole fits =
 
 -- 1 for a served poll
 abbrev pub one : Polling → ℕ
-one o = cond (isServed (o .answer .number)) 1 0
+one o = cond (isServed (o .answer)) 1 0
 
 -- served polls due where the status is not yet put in
 abbrev pub owing : Point → ℕ
@@ -86,7 +86,7 @@ pub record Fit (w : Wrapper) (x : Point) : Type 0 where
   pub status : 13 ≤ length (x .io)
   pub wrapper : x .device .wrapper ≡ w
 
-unserved : (e : Endpoint) → serves e ≡ false → isServed (answeredBy e .number) ≡ false
+unserved : (e : Endpoint) → serves e ≡ false → isServed (answeredBy e) ≡ false
 unfolding isServed
 unserved Served h = absurd (clash h)
 unserved Busy h = refl
@@ -145,7 +145,7 @@ module _ (w : Wrapper) (got put : List ℕ) (g : Given) where
         rw (e, unserved (inFor g) idle) (add-zero _))
 
     pub leads-status : Goes x (ceiling (length (unreadBytes (bufferAt x))) (P x)) (sendStatus g x)
-    unfolding sendStatus statusBy takesStatus
+    unfolding send sendBy takesStatus
     leads-status long = record {
       wrapper = fit .wrapper;
       status = refl;
@@ -249,7 +249,7 @@ module _ (w : Wrapper) (got put : List ℕ) (g : Given) where
           ∙ all
 
       leads-fill : Goes x (owing x) (sendData g (topped x))
-      unfolding sendData dataBy fallen left xs takesStatus
+      unfolding send sendBy fallen left xs takesStatus
       leads-fill long =
           let f : Figures = figures in
           record {
@@ -294,7 +294,7 @@ module _ (w : Wrapper) (got put : List ℕ) (g : Given) where
       }
 
       leads-data : Goes x (owing x) (sendData g (reaching DataTransferToHost x))
-      unfolding sendData dataBy fallen
+      unfolding send sendBy fallen
       leads-data long =
           let y : Point = reaching DataTransferToHost x in
           let ys : List ℕ = bytesOf (sendData g y) in

@@ -24,7 +24,7 @@ use Rattle.device.specs.Device.{numbersOf, isPresent, withMarks}
 use Rattle.device.specs.Broken.{Whole}
 use Rattle.device.proofs.Wholly.{whole-sound, wrapper-fits, packet-fits, packet-known, packet-bounds}
 use Rattle.bbb.specs.Poll.{Given, Polling, Point, point, bufferAt, sendStatus, statusTransferRule, ruleIn, pollRule, Fits, refusing, pollCall}
-use Rattle.bbb.proofs.Keeping.{by-call, call-whole, call-sizes}
+use Rattle.bbb.proofs.Keeping.{by-call, call-whole, call-sizes, packet-is}
 use Rattle.calls.specs.declared.FirmwareStatus.{FirmwareStatus}
 use Rattle.calls.specs.declared.Request.{Request}
 use Rattle.calls.specs.Checks.{isIn, bufferOf}
@@ -125,7 +125,7 @@ module _ (w : Wrapper) (p : ℕ) (got put : List ℕ) (few : length put ≤ w .l
       record {
         transfer = record {
           whole = call-whole (s .device) (s .io) g (t .whole);
-          packetsize = call-sizes (s .device) (s .io) g .fixed .packetsize ∙ t .fixed .packetsize;
+          packetsize = packet-is (call-sizes (s .device) (s .io) g .fixed) ∙ t .packetsize;
           wrapper = l .wrapper;
           phase = rw append-nil (l .phase);
         };
@@ -155,10 +155,10 @@ module _ (w : Wrapper) (p : ℕ) (got put : List ℕ) (s : Socket) (t : Transfer
   unfolding shows served isPoll accepts isStatus withFigure
   status-steps f =
       by-status (s .device) (s .io) f
-      (λ (o : Stating). Whole (numbersOf (o .device)) (length (s .io)) → Steps w p got put s (eqb (o .number) 0) 0 (ofStatus (s .io) o))
+      (λ (o : Stating). Whole (numbersOf (o .device)) (length (s .io)) → Steps w p got put s (eqb (o .answer .number) 0) 0 (ofStatus (s .io) o))
       (λ _. unchanged 10 false) (λ _. unchanged 12 false)
       (λ takes _ whole. record {
-        transfer = record { whole = whole; packetsize = t .fixed .packetsize; wrapper = t .wrapper; phase = rw (append-nil, append-nil) (restated (s .device .state) _ takes (t .phase)) };
+        transfer = record { whole = whole; packetsize = t .packetsize; wrapper = t .wrapper; phase = rw (append-nil, append-nil) (restated (s .device .state) _ takes (t .phase)) };
         status = λ refused. absurd (clash refused);
         count = λ _ _. add-zero _;
         wire = λ _. nothing-moved (s .device .left .0);
@@ -191,12 +191,12 @@ module _ (w : Wrapper) (p : ℕ) (got put : List ℕ) (s : Socket) (t : Transfer
     marked σ at-σ n ys phase level = record {
       transfer = record {
         whole = whole;
-        packetsize = same-packetsize ∙ t .fixed .packetsize;
+        packetsize = same-packetsize ∙ t .packetsize;
         wrapper = ap (λ (x : Device). x .wrapper) keeps ∙ t .wrapper;
         phase = rw (append-nil, same-state, same-status, same-left, at-σ) phase;
       };
       status = λ _. same-status;
-      count = λ _ _. rw (same-state, same-left, same-packetsize, at-σ, t .fixed .packetsize) (add-zero _ ∙ level _ _);
+      count = λ _ _. rw (same-state, same-left, same-packetsize, at-σ, t .packetsize) (add-zero _ ∙ level _ _);
       wire = λ _. same-left ∙ nothing-moved (s .device .left .0);
     }
 

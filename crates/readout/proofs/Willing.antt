@@ -24,13 +24,13 @@ use Rattle.readout.specs.Demand.{Willing}
 
 -- it answers 0, 1 or 4
 abbrev Does : Polling → Type 0
-Does o = isServed (o .answer .number) ≡ true
+Does o = isServed (o .answer) ≡ true
 
 module _ (g : Given) (first : serves (endpointOf (g .turn .first)) ≡ true) (second : serves (endpointOf (g .turn .second)) ≡ true) (into : serves (endpointOf (g .turn .write)) ≡ true) where
   -- a read answers 0 or 1
-  read-does : (p : ℕ) (e : Endpoint) (s : Buffer) → serves e ≡ true → isServed (readAnswer p e s .number) ≡ true
+  read-does : (p : ℕ) (e : Endpoint) (s : Buffer) → serves e ≡ true → isServed (readAnswer p e s) ≡ true
   unfolding readAnswer isServed
-  read-does p e s serving = of-picked (λ (t : Answering). isServed (t .number) ≡ true) (lacksRoom p s) (λ _. refl) (λ _. rw (answers-0 e serving))
+  read-does p e s serving = of-picked (λ (t : Answering). isServed t ≡ true) (lacksRoom p s) (λ _. refl) (λ _. rw (answers-0 e serving))
 
   offered-serves : (n : ℕ) → serves (offeredBy n (g .turn)) ≡ true
   unfolding offeredBy

@@ -113,7 +113,7 @@ full8 = record {
 
 -- what each event of a history answered
 unfoldable pub answersIn : List Event → Socket → List ℕ
-answersIn h s = all (λ (o : Shows). o .number ∷ []) h s
+answersIn h s = all (λ (o : Shows). o .answer .number ∷ []) h s
 
 -- what each poll sent that sent something
 unfoldable pub behind : List ℕ → List (List ℕ) → List (List ℕ)

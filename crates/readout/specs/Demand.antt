@@ -53,7 +53,7 @@ parsed t = run (toWrapper t) (t .start)
 abbrev pub reached : Story → Socket
 reached t = run (toStatus t) (t .start)
 
-abbrev pub answer : Story → Socket
+abbrev pub told : Story → Socket
 told t = next (status (t .given)) (reached t)
 
 abbrev pub ended : Story → Socket

@@ -5,6 +5,7 @@ use mathlib.Core.List.{List, [], _∷_, _++_, flatten}
 use Prim.Native.Nat.{ℕ, _+_}
 use lib.Dec.{eqb}
 use lib.ListN.{take}
+use Rattle.answers.specs.Answers.{Answering}
 use Rattle.device.specs.declared.Device.{Device}
 use Rattle.bbb.specs.Poll.{Given, Polling, pollCall}
 use Rattle.calls.specs.declared.FirmwareStatus.{FirmwareStatus}
@@ -39,36 +40,36 @@ pub data Event : Type 0 where
   command : Event
   commandStep : Event
 
--- What an event leaves, and what it shows: 01's number, the OUT packets taken, the bytes sent to the host, and the bytes that the
+-- What an event leaves, and what it shows: the answer, the OUT packets taken, the bytes sent to the host, and the bytes that the
 -- firmware put in.
 pub record Shows : Type 0 where
   pub socket : Socket
-  pub number : ℕ
+  pub answer : Answering
   pub taken : List (List ℕ)
   pub sent : List ℕ
   pub put : List ℕ
 
 -- of the two packets offered so many were taken; "The packet buffer holds the sent bytes in front"
 abbrev pub ofPoll : Given → Polling → Shows
-ofPoll g o = record { socket = socket (o .device) (o .io); number = o .answer .number; taken = take (o .taken) (g .one ∷ g .two ∷ []); sent = take (o .sent) (o .packet); put = [] }
+ofPoll g o = record { socket = socket (o .device) (o .io); answer = o .answer; taken = take (o .taken) (g .one ∷ g .two ∷ []); sent = take (o .sent) (o .packet); put = [] }
 
 abbrev pub ofStatus : List ℕ → Stating → Shows
-ofStatus io o = record { socket = socket (o .device) io; number = o .number; taken = []; sent = []; put = [] }
+ofStatus io o = record { socket = socket (o .device) io; answer = o .answer; taken = []; sent = []; put = [] }
 
 -- of the source so many bytes were put in
 abbrev pub ofWrite : List ℕ → Moving → Shows
-ofWrite src o = record { socket = socket (o .device) (o .bytes); number = o .number; taken = []; sent = []; put = take (o .count) src }
+ofWrite src o = record { socket = socket (o .device) (o .bytes); answer = o .answer; taken = []; sent = []; put = take (o .count) src }
 
 abbrev pub ofRead : List ℕ → Moving → Shows
-ofRead io o = record { socket = socket (o .device) io; number = o .number; taken = []; sent = []; put = [] }
+ofRead io o = record { socket = socket (o .device) io; answer = o .answer; taken = []; sent = []; put = [] }
 
 -- what a control request gets back goes over the control endpoint, and is none of the bytes sent here
 abbrev pub ofBus : List ℕ → Handling → Shows
-ofBus io o = record { socket = socket (o .device) io; number = o .number; taken = []; sent = []; put = [] }
+ofBus io o = record { socket = socket (o .device) io; answer = o .answer; taken = []; sent = []; put = [] }
 
 -- showing the command, or offering it, changes nothing
-abbrev pub ofLook : Socket → ℕ → Shows
-ofLook s number = record { socket = s; number = number; taken = []; sent = []; put = [] }
+abbrev pub ofLook : Socket → Answering → Shows
+ofLook s a = record { socket = s; answer = a; taken = []; sent = []; put = [] }
 
 unfoldable pub shows : Event → Socket → Shows
 shows (poll g) s = ofPoll g (pollCall (s .device) (s .io) g)
@@ -78,8 +79,8 @@ shows (writeAll src) s = ofWrite src (writeAllCall (s .device) (s .io) src)
 shows (read dst) s = ofRead (s .io) (readCall (s .device) (s .io) dst)
 shows reset s = ofBus (s .io) (resetCall (s .device) (s .io))
 shows (control q) s = ofBus (s .io) (controlCall (s .device) (s .io) q)
-shows command s = ofLook s (commandCall (s .device) (s .io) .number)
-shows commandStep s = ofLook s (stepCall (s .device) (s .io) .number)
+shows command s = ofLook s (commandCall (s .device) (s .io) .answer)
+shows commandStep s = ofLook s (stepCall (s .device) (s .io) .answer)
 
 abbrev pub next : Event → Socket → Socket
 next e s = shows e s .socket
@@ -116,8 +117,8 @@ arrivedIn h s = all (λ (o : Shows). firstOf (o .taken)) h s
 
 -- "A served poll is one not refused with 10 or 11 in which each endpoint asked does its part": 6 is "the endpoint asked is busy", 7 "the
 -- endpoint asked fails". A poll that asks none, such as one with answer 1 or 4, is served.
-unfoldable pub isServed : ℕ → Bool
-isServed number = not (eqb number 6 || (eqb number 7 || (eqb number 10 || eqb number 11)))
+unfoldable pub isServed : Answering → Bool
+isServed a = not (eqb (a .number) 6 || (eqb (a .number) 7 || (eqb (a .number) 10 || eqb (a .number) 11)))
 
 unfoldable pub isPoll : Event → Bool
 isPoll (poll g) = true
@@ -132,7 +133,7 @@ isPoll commandStep = false
 
 -- 1 for a served poll, else 0; and how many a history has
 unfoldable pub served : Event → Socket → ℕ
-served e s = cond (isPoll e && isServed (shows e s .number)) 1 0
+served e s = cond (isPoll e && isServed (shows e s .answer)) 1 0
 
 unfoldable pub servedIn : List Event → Socket → ℕ
 servedIn [] s = 0
@@ -165,7 +166,7 @@ isStatus commandStep = false
 
 -- a status that is accepted: answer 0
 unfoldable pub accepts : Event → Socket → Bool
-accepts e s = isStatus e && eqb (shows e s .number) 0
+accepts e s = isStatus e && eqb (shows e s .answer .number) 0
 
 -- ---- what holds at each event of a history
 

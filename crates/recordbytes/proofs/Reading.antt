@@ -17,13 +17,14 @@ use Rattle.wrapper.specs.declared.Wrapper.{Wrapper}
 use Rattle.wrapper.specs.declared.status.CommandStatus.{CommandStatus}
 use Rattle.wrapper.specs.Status.{statusOfNumber}
 use Rattle.wrapper.specs.Wrapper.{directionOfNumber}
+use Rattle.device.specs.declared.Fixed.{Fixed}
 use Rattle.device.specs.declared.Device.{Device}
 use Rattle.device.specs.declared.Numbers.{Numbers}
 use Rattle.device.specs.declared.Status.{Status}
 use Rattle.device.specs.declared.Status.the-variants.{Absent, Present}
 use Rattle.device.specs.Device.{numbersOf}
 use Rattle.recordbytes.specs.Layout as field
-use Rattle.recordbytes.specs.Record.{isKnown, statusBy, statusAt, marksAt, wrapperAt, deviceAt}
+use Rattle.recordbytes.specs.Record.{isKnown, statusBy, statusAt, marksAt, wrapperAt, fixedAt, deviceAt}
 
 -- ---- whether bytes are a record
 
@@ -83,13 +84,16 @@ module _ (r : List ℕ) where
   unfolding wrapperAt
   reads-wrapper en ed ek et el eu eb = rw (ed, en, ek, et, el, eu, eb)
 
-  pub reads-device : {n p m size l : ℕ} {s : State} {marks : Marks} {w : Wrapper} {status : Status} → n ≡ get field.state r → s ≡ stateOfNumber n → marks ≡ marksAt r → w ≡ wrapperAt r → status ≡ statusAt r
-      → p ≡ get field.packetSize r → m ≡ get field.maxLun r → size ≡ get field.size r → l ≡ get field.left r
-      → _≡_ {A = Device} (record { packetsize = p; maxlun = m; size = size; state = s; marks = marks; wrapper = w; status = status; left = record { 0 = l } }) (deviceAt r)
+  pub reads-fixed : {p m s : ℕ} → p ≡ get field.packetSize r → m ≡ get field.maxLun r → s ≡ get field.size r → _≡_ {A = Fixed} (record { packetsize = p; maxlun = m; size = s }) (fixedAt r)
+  unfolding fixedAt
+  reads-fixed ep em es = rw (ep, em, es)
+
+  pub reads-device : {n l : ℕ} {f : Fixed} {s : State} {marks : Marks} {w : Wrapper} {status : Status} → f ≡ fixedAt r → n ≡ get field.state r → s ≡ stateOfNumber n → marks ≡ marksAt r → w ≡ wrapperAt r → status ≡ statusAt r
+      → l ≡ get field.left r → _≡_ {A = Device} (record { fixed = f; state = s; marks = marks; wrapper = w; status = status; left = record { 0 = l } }) (deviceAt r)
   unfolding deviceAt
-  reads-device en es em ew et ep ex ez el = rw (es, en, em, ew, et, ep, ex, ez, el)
+  reads-device ef en es em ew et el = rw (ef, es, en, em, ew, et, el)
 
   pub reads-numbers : {d : Device} {x : Numbers} → d ≡ deviceAt r → x ≡ numbersOf d → x ≡ numbersOf (deviceAt r)
   reads-numbers ed ex = rw (← ed, ex)
 
-pub ruleset ways = (not-52, no-state, no-flag, no-status, by-direction, no-status-there, status-there, reads-status, reads-marks, reads-block, reads-wrapper, reads-device, reads-numbers)
+pub ruleset ways = (not-52, no-state, no-flag, no-status, by-direction, no-status-there, status-there, reads-status, reads-marks, reads-block, reads-wrapper, reads-fixed, reads-device, reads-numbers)

@@ -25,13 +25,14 @@ use Rattle.wrapper.specs.declared.status.CommandStatus.the-variants.{Passed}
 use Rattle.wrapper.specs.Status.{statusNumber}
 use Rattle.wrapper.specs.Wrapper.{directionNumber, directionOfNumber, blank}
 use Rattle.wrapper.proofs.Numbers.{direction-back, direction-small, status-back, status-small}
+use Rattle.device.specs.declared.Fixed.{Fixed}
 use Rattle.device.specs.declared.Device.{Device}
 use Rattle.device.specs.declared.Status.{Status}
 use Rattle.device.specs.declared.Status.the-variants.{Absent, Present}
 use Rattle.device.specs.Create.{newDevice}
 use Rattle.recordbytes.specs.Layout as field
-use Rattle.recordbytes.specs.Record.{isKnown, statusBy, statusAt, marksAt, wrapperAt, deviceAt, storeState, storeMarks, storeLeft, storeStatus, storeWrapper, storeDevice, newRecord}
-use Rattle.recordbytes.specs.Storable.{Storable, RecordOf}
+use Rattle.recordbytes.specs.Record.{isKnown, statusBy, statusAt, marksAt, wrapperAt, fixedAt, deviceAt, storeState, storeMarks, storeLeft, storeStatus, storeWrapper, storeDevice, newRecord}
+use Rattle.recordbytes.specs.Storable.{Storable, RecordOf, Fixable}
 use Rattle.recordbytes.proofs.Storing.{isApart}
 use Rattle.recordbytes.proofs.Reading.{reads-marks, reads-wrapper, reads-device, reads-status}
 use Rattle.recordbytes.proofs.Stored.{Write, write, storeAll, areWithin, areApart, length-all, bytes-elsewhere, get-elsewhere, get-there, known-is}
@@ -150,6 +151,11 @@ module _ (d : Device) (r : List ℕ) (long : length r ≡ field.recordSize) (six
   of-none : (g : Field) → areApart g (lastWrites d) ≡ true → besideStatus g → g .start + g .width ≤ 36 → areApart g (wrapperWrites (d .wrapper)) ≡ true → get g (storeDevice d r) ≡ get g r
   of-none g a b h c = of-first g a b ∙ behind-wrapper r long (d .wrapper) sixteen g h c
 
+  -- what creation wrote stays
+  fixed-kept : fixedAt (storeDevice d r) ≡ fixedAt r
+  unfolding fixedAt isApart
+  fixed-kept = rw (of-none field.packetSize refl refl (leb-true 1 36 refl) refl, of-none field.maxLun refl refl (leb-true 2 36 refl) refl, of-none field.size refl refl (leb-true 8 36 refl) refl)
+
   state-read : get field.state (storeDevice d r) ≡ stateNumber (d .state)
   unfolding isApart
   state-read =
@@ -197,17 +203,14 @@ module _ (d : Device) (r : List ℕ) (long : length r ≡ field.recordSize) (six
 pub back : (d : Device) (r : List ℕ) → Storable d → RecordOf d r → deviceAt (storeDevice d r) ≡ d
 unfolding isApart
 back d r s o =
-    let none = of-none d r (o .long) (s .block) in
     sym
     (reads-device (storeDevice d r)
+    (sym (fixed-kept d r (o .long) (s .block) ∙ o .fixed))
     (sym (state-read d r (o .long) (s .block)))
     (sym (state-back (d .state)))
     (sym (marks-read d r (o .long) (s .block) (s .read) (s .write)))
     (sym (wrapper-read d r (o .long) (s .block) s))
     (sym (status-read d r (o .long) (s .block) (s .residue)))
-    (sym (none field.packetSize refl refl (leb-true 1 36 refl) refl ∙ o .packetsize))
-    (sym (none field.maxLun refl refl (leb-true 2 36 refl) refl ∙ o .maxlun))
-    (sym (none field.size refl refl (leb-true 8 36 refl) refl ∙ o .size))
     (sym (left-read d r (o .long) (s .block) (s .left))))
 
 -- and the bytes are a record: without a status its byte stays, so that it must have been one
@@ -227,35 +230,35 @@ back-known d r long sixteen h =
 
 pub of-read : (r : List ℕ) → length r ≡ field.recordSize → RecordOf (deviceAt r) r
 unfolding deviceAt
-of-read r long = record { long = long; packetsize = refl; maxlun = refl; size = refl }
+of-read r long = record { long = long; fixed = refl }
 
 -- ---- a new device
 
-abbrev newWrites : ℕ → ℕ → ℕ → List Write
-newWrites p maxlun size = write field.packetSize p ∷ write field.maxLun maxlun ∷ write field.size size ∷ []
+abbrev newWrites : Fixed → List Write
+newWrites f = write field.packetSize (f .packetsize) ∷ write field.maxLun (f .maxlun) ∷ write field.size (f .size) ∷ []
 
 abbrev zeros : List ℕ
 zeros = replicate 52 0
 
-module _ (p maxlun size : ℕ) where
-  new-writes : newRecord p maxlun size ≡ storeAll (newWrites p maxlun size) zeros
+module _ (f : Fixed) where
+  new-writes : newRecord f ≡ storeAll (newWrites f) zeros
   unfolding newRecord
   new-writes = refl
 
-  new-length : length (newRecord p maxlun size) ≡ field.recordSize
-  new-length = rw new-writes (length-all 52 (newWrites p maxlun size) zeros refl refl)
+  new-length : length (newRecord f) ≡ field.recordSize
+  new-length = rw new-writes (length-all 52 (newWrites f) zeros refl refl)
 
   -- a field apart from the three has its zeros
-  new-bytes : (g : Field) → areApart g (newWrites p maxlun size) ≡ true → bytesAt g (newRecord p maxlun size) ≡ bytesAt g zeros
-  new-bytes g a = rw new-writes (bytes-elsewhere 52 g (newWrites p maxlun size) zeros refl refl a)
+  new-bytes : (g : Field) → areApart g (newWrites f) ≡ true → bytesAt g (newRecord f) ≡ bytesAt g zeros
+  new-bytes g a = rw new-writes (bytes-elsewhere 52 g (newWrites f) zeros refl refl a)
 
-  new-get : (g : Field) → areApart g (newWrites p maxlun size) ≡ true → get g (newRecord p maxlun size) ≡ get g zeros
+  new-get : (g : Field) → areApart g (newWrites f) ≡ true → get g (newRecord f) ≡ get g zeros
   unfolding get
   new-get g a = rw (new-bytes g a)
 
-  pub new-known : isKnown (newRecord p maxlun size) ≡ true
+  pub new-known : isKnown (newRecord f) ≡ true
   unfolding isApart get bytesAt counted ordered
-  new-known = known-is (newRecord p maxlun size) (record {
+  new-known = known-is (newRecord f) (record {
     long = new-length;
     state = rw (new-get field.state refl) (leb-true 0 8 refl);
     flag = rw (new-get field.present refl) (leb-true 0 1 refl);
@@ -263,20 +266,19 @@ module _ (p maxlun size : ℕ) where
     direction = rw (new-get field.direction refl) (leb-true 0 2 refl);
   })
 
-  new-three : p < 256 → maxlun < 256 → size < 2 ^ 32
-      → (get field.packetSize (newRecord p maxlun size) ≡ p) × (get field.maxLun (newRecord p maxlun size) ≡ maxlun) × (get field.size (newRecord p maxlun size) ≡ size)
-  unfolding isApart
-  new-three hp hm hs = (
-    ap (get field.packetSize) new-writes ∙ get-there 52 [] field.packetSize p (write field.maxLun maxlun ∷ write field.size size ∷ []) zeros refl refl refl hp,
-    ap (get field.maxLun) new-writes ∙ get-there 52 (write field.packetSize p ∷ []) field.maxLun maxlun (write field.size size ∷ []) zeros refl refl refl hm,
-    ap (get field.size) new-writes ∙ get-there 52 (write field.packetSize p ∷ write field.maxLun maxlun ∷ []) field.size size [] zeros refl refl refl hs,
-  )
+  new-fixed : Fixable f → fixedAt (newRecord f) ≡ f
+  unfolding fixedAt isApart
+  new-fixed fits =
+      let p = ap (get field.packetSize) new-writes ∙ get-there 52 [] field.packetSize (f .packetsize) (write field.maxLun (f .maxlun) ∷ write field.size (f .size) ∷ []) zeros refl refl refl (fits .packetsize) in
+      let m = ap (get field.maxLun) new-writes ∙ get-there 52 (write field.packetSize (f .packetsize) ∷ []) field.maxLun (f .maxlun) (write field.size (f .size) ∷ []) zeros refl refl refl (fits .maxlun) in
+      let s = ap (get field.size) new-writes ∙ get-there 52 (write field.packetSize (f .packetsize) ∷ write field.maxLun (f .maxlun) ∷ []) field.size (f .size) [] zeros refl refl refl (fits .size) in
+      rw (p, m, s)
 
-  new-wrapper : wrapperAt (newRecord p maxlun size) ≡ blank
+  new-wrapper : wrapperAt (newRecord f) ≡ blank
   unfolding isApart get bytesAt counted ordered directionOfNumber blank
   new-wrapper =
       sym
-      (reads-wrapper (newRecord p maxlun size)
+      (reads-wrapper (newRecord f)
       (sym (new-get field.direction refl))
       refl
       (sym (new-bytes field.block refl))
@@ -285,24 +287,19 @@ module _ (p maxlun size : ℕ) where
       (sym (new-get field.lun refl))
       (sym (new-get field.blockLength refl)))
 
-  pub new-holds : p < 256 → maxlun < 256 → size < 2 ^ 32 → deviceAt (newRecord p maxlun size) ≡ newDevice p maxlun size
+  pub new-holds : Fixable f → deviceAt (newRecord f) ≡ newDevice f
   unfolding isApart get bytesAt counted ordered stateOfNumber statusBy
-  new-holds hp hm hs =
-      let q : List ℕ = newRecord p maxlun size in
-      let three = new-three hp hm hs in
+  new-holds fits =
+      let q : List ℕ = newRecord f in
       sym
       (reads-device q
+      (sym (new-fixed fits))
       (sym (new-get field.state refl))
       refl
       (reads-marks q (sym (new-get field.readMark refl)) (sym (new-get field.writeMark refl)))
       (sym new-wrapper)
       (reads-status q (sym (new-get field.present refl)) (sym (new-get field.status refl)) (sym (new-get field.residue refl)) refl)
-      (sym (three .0))
-      (sym (three .1))
-      (sym (three .2))
       (sym (new-get field.left refl)))
 
-  pub of-new : p < 256 → maxlun < 256 → size < 2 ^ 32 → RecordOf (newDevice p maxlun size) (newRecord p maxlun size)
-  of-new hp hm hs =
-      let three = new-three hp hm hs in
-      record { long = new-length; packetsize = three .0; maxlun = three .1; size = three .2 }
+  pub of-new : Fixable f → RecordOf (newDevice f) (newRecord f)
+  of-new fits = record { long = new-length; fixed = new-fixed fits }

@@ -6,7 +6,8 @@
 use mathlib.Core.Path.{_≡_, refl, sym, _∙_}
 use mathlib.Core.Bool.{Bool, true, false, _||_}
 use mathlib.Core.List.{List}
-use Prim.Native.Nat.{ℕ, _+_, _^_, _≤_, _<_}
+use Prim.Native.Nat.{ℕ, _+_, _%_, _^_, _≤_, _<_}
+use native.Mathlib.Nat.{mod-eq-of-lt}
 use lib.Dec.{eqb, leb}
 use lib.ListN.{length, set, replicate}
 use borrow.Author.Tests.{eq-eqb, ne-eqb, eqb-true, leb-true}
@@ -24,10 +25,12 @@ use Rattle.wrapper.specs.declared.counters.Residue.{Residue}
 use Rattle.wrapper.specs.declared.status.CommandStatus.{CommandStatus}
 use Rattle.wrapper.specs.Status.{statusNumber}
 use Rattle.wrapper.specs.Wrapper.{directionNumber}
+use Rattle.device.specs.declared.Fixed.{Fixed}
 use Rattle.device.specs.declared.Status.{Status}
 use Rattle.device.specs.declared.Status.the-variants.{Absent, Present}
 use Rattle.recordbytes.specs.Layout as field
 use Rattle.recordbytes.specs.Record.{store, joined, storeState, storeMarks, storeLeft, storeStatus, storeWrapper, newRecord}
+use Rattle.recordbytes.specs.Storable.{Fixable}
 
 -- ---- one field
 
@@ -106,9 +109,9 @@ module _ (r : List ℕ) where
   leaves-wrapper h block en ha hb hc hd he hl = rw (he, hd, hc, hb, ha, en) at hl
 
 -- zeros hide all that was there
-pub leaves-new : (r : List ℕ) (packetsize maxlun size : ℕ) {a b c l : List ℕ} → length r ≡ field.recordSize → a ≡ overlay r 0 (replicate 52 0) → b ≡ store field.packetSize packetsize a
-    → c ≡ store field.maxLun maxlun b → l ≡ store field.size size c → l ≡ newRecord packetsize maxlun size
+pub leaves-new : (r : List ℕ) (f : Fixed) → Fixable f → {a b c l : List ℕ} {k : ℕ} → length r ≡ field.recordSize → a ≡ overlay r 0 (replicate 52 0) → b ≡ store field.packetSize (f .packetsize % 256) a
+    → c ≡ store field.maxLun (f .maxlun) b → k ≡ f .size → l ≡ store field.size k c → l ≡ newRecord f
 unfolding newRecord
-leaves-new r packetsize maxlun size h ha hb hc hl = rw (hc, hb, ha ∙ overlay-whole r (replicate 52 0) (sym h)) at hl
+leaves-new r f fits h ha hb hc hk hl = rw (hk, hc, hb, mod-eq-of-lt (fits .packetsize), ha ∙ overlay-whole r (replicate 52 0) (sym h)) at hl
 
 pub ruleset ways = (leaves-new, leaves-byte, keeps-byte, leaves-four, keeps-four, leaves-state, leaves-left, leaves-marks, leaves-absent, leaves-present, leaves-wrapper)

@@ -10,6 +10,7 @@ use Rattle.ring.specs.declared.State.the-variants.{DataTransferNoData}
 use Rattle.wrapper.specs.declared.DataDirection.the-variants.{Out}
 use Rattle.wrapper.specs.declared.status.CommandStatus.the-variants.{Failed}
 use Rattle.device.specs.declared.Status.the-variants.{Absent, Present}
+use Rattle.device.specs.Create.{fixed}
 use Rattle.recordbytes.specs.Layout as field
 use Rattle.recordbytes.specs.Record.{isKnown, statusAt, deviceAt, store, storeStatus, storeDevice, newRecord}
 
@@ -25,14 +26,12 @@ table =
     -- the fields stand one behind the other, without a gap
     case (tile 0 field.table 52) true
     -- the bytes of a new device with P 64, max LUN 3 and a buffer of 512
-    ∷ case (newRecord 64 3 512)
+    ∷ case (newRecord (fixed 64 3 512))
     (64 ∷ 3 ∷ 0 ∷ 0 ∷ 0 ∷ 2 ∷ 0 ∷ 0 ∷ 0 ∷ 0 ∷ 0 ∷ 0 ∷ 0 ∷ 0 ∷ 0 ∷ 0 ∷ 0 ∷ 0 ∷ 0 ∷ 0 ∷ 0 ∷ 0 ∷ 0 ∷ 0 ∷ 0 ∷ 0
     ∷ 0 ∷ 0 ∷ 0 ∷ 0 ∷ 0 ∷ 0 ∷ 0 ∷ 0 ∷ 0 ∷ 0 ∷ 0 ∷ 0 ∷ 0 ∷ 0 ∷ 0 ∷ 0 ∷ 0 ∷ 0 ∷ 0 ∷ 0 ∷ 0 ∷ 0 ∷ 0 ∷ 0 ∷ 0 ∷ 0 ∷ [])
     -- every field of a record that has another number in each
     ∷ case (deviceAt (numbered 2 1 1 2)) (record {
-      packetsize = 0;
-      maxlun = 1;
-      size = 0x07060504;
+      fixed = fixed 0 1 0x07060504;
       state = DataTransferNoData;
       marks = at 0x0B0A0908 0x0F0E0D0C;
       wrapper = record {
@@ -47,7 +46,7 @@ table =
       left = record { 0 = 0x13121110 };
     })
     -- the same device, stored over a new one
-    ∷ case (storeDevice (deviceAt (numbered 2 1 1 2)) (newRecord 0 1 0x07060504)) (numbered 2 1 1 2)
+    ∷ case (storeDevice (deviceAt (numbered 2 1 1 2)) (newRecord (fixed 0 1 0x07060504))) (numbered 2 1 1 2)
     -- the highest number of each, and one above; a byte less
     ∷ case (isKnown (numbered 8 1 2 2)) true
     ∷ case (isKnown (numbered 9 1 2 2)) false
@@ -60,6 +59,6 @@ table =
     ∷ case (statusAt (numbered 2 0 1 2)) Absent
     -- a number that stands there changes nothing, another its four bytes
     ∷ case (store field.tag 0x1F1E1D1C (numbered 2 1 1 2)) (numbered 2 1 1 2)
-    ∷ case (store field.left 0x04030201 (newRecord 64 3 512))
+    ∷ case (store field.left 0x04030201 (newRecord (fixed 64 3 512)))
     (64 ∷ 3 ∷ 0 ∷ 0 ∷ 0 ∷ 2 ∷ 0 ∷ 0 ∷ 0 ∷ 0 ∷ 0 ∷ 0 ∷ 0 ∷ 0 ∷ 0 ∷ 0 ∷ 1 ∷ 2 ∷ 3 ∷ 4 ∷ replicate 32 0)
     ∷ []

@@ -15,6 +15,7 @@ use Rattle.wrapper.specs.declared.Wrapper.{Wrapper}
 use Rattle.wrapper.specs.declared.counters.Left.{Left}
 use Rattle.wrapper.specs.Status.{statusNumber, statusOfNumber}
 use Rattle.wrapper.specs.Wrapper.{directionNumber, directionOfNumber}
+use Rattle.device.specs.declared.Fixed.{Fixed}
 use Rattle.device.specs.declared.Device.{Device}
 use Rattle.device.specs.declared.Status.{Status}
 use Rattle.device.specs.declared.Status.the-variants.{Absent, Present}
@@ -52,11 +53,12 @@ wrapperAt r = record {
   block = bytesAt field.block r;
 }
 
+unfoldable pub fixedAt : List ℕ → Fixed
+fixedAt r = record { packetsize = get field.packetSize r; maxlun = get field.maxLun r; size = get field.size r }
+
 unfoldable pub deviceAt : List ℕ → Device
 deviceAt r = record {
-  packetsize = get field.packetSize r;
-  maxlun = get field.maxLun r;
-  size = get field.size r;
+  fixed = fixedAt r;
   state = stateOfNumber (get field.state r);
   marks = marksAt r;
   wrapper = wrapperAt r;
@@ -98,10 +100,10 @@ storeWrapper w r =
     (store field.direction (directionNumber (w .direction)) r)))))
     (field.block .start) (w .block)
 
--- what a call that leaves this device leaves of the record's bytes; P, max LUN and the buffer's length never change
+-- what a call that leaves this device leaves of the record's bytes; what creation fixed never changes
 unfoldable pub storeDevice : Device → List ℕ → List ℕ
 storeDevice d r = storeLeft (d .left) (storeMarks (d .marks) (storeState (d .state) (storeStatus (d .status) (storeWrapper (d .wrapper) r))))
 
 -- the bytes of a new device: 0 but for P, max LUN and the buffer's length
-unfoldable pub newRecord : ℕ → ℕ → ℕ → List ℕ
-newRecord packetsize maxlun size = store field.size size (store field.maxLun maxlun (store field.packetSize packetsize (replicate field.recordSize 0)))
+unfoldable pub newRecord : Fixed → List ℕ
+newRecord f = store field.size (f .size) (store field.maxLun (f .maxlun) (store field.packetSize (f .packetsize) (replicate field.recordSize 0)))

@@ -3,12 +3,13 @@ use mathlib.Core.Path.{_≡_}
 use mathlib.Core.List.{List}
 use Prim.Native.Nat.{ℕ, _<_, _^_}
 use lib.ListN.{length}
-use Rattle.fields.specs.Field.{get}
 use Rattle.wrapper.specs.declared.counters.Residue.{Residue}
 use Rattle.wrapper.specs.declared.status.CommandStatus.{CommandStatus}
+use Rattle.device.specs.declared.Fixed.{Fixed}
 use Rattle.device.specs.declared.Device.{Device}
 use Rattle.device.specs.declared.Status.the-variants.{Present}
 use Rattle.recordbytes.specs.Layout as field
+use Rattle.recordbytes.specs.Record.{fixedAt}
 
 -- each number that storing writes fits into its field: one byte, or four; and the block has its 16 bytes
 pub record Storable (d : Device) : Type 0 where
@@ -22,9 +23,13 @@ pub record Storable (d : Device) : Type 0 where
   pub blocklength : d .wrapper .blocklength < 256
   pub block : length (d .wrapper .block) ≡ 16
 
--- 52 bytes with the device's packet size, max LUN and size in their fields: what creation wrote, and nothing else writes
+-- 52 bytes with what creation fixed in its fields: it wrote them, and nothing else does
 pub record RecordOf (d : Device) (r : List ℕ) : Type 0 where
   pub long : length r ≡ field.recordSize
-  pub packetsize : get field.packetSize r ≡ d .packetsize
-  pub maxlun : get field.maxLun r ≡ d .maxlun
-  pub size : get field.size r ≡ d .size
+  pub fixed : fixedAt r ≡ d .fixed
+
+-- what creation fixes fits into its fields
+pub record Fixable (f : Fixed) : Type 0 where
+  pub packetsize : f .packetsize < 256
+  pub maxlun : f .maxlun < 256
+  pub size : f .size < 2 ^ 32

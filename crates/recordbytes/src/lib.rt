@@ -6,6 +6,7 @@ pub mod store;
 
 use buffer::Marks;
 use device::Device;
+use device::Fixed;
 use device::Numbers;
 use device::Status;
 use device::numbers_of;
@@ -22,7 +23,7 @@ ghost use lib.ListN.{length};
 ghost use Rattle.fields.specs.Field.{bytesAt};
 ghost use Rattle.device.specs.Device.{numbersOf};
 ghost use Rattle.recordbytes.specs.Layout as field;
-ghost use Rattle.recordbytes.specs.Record.{isKnown, statusBy, statusAt, marksAt, wrapperAt, deviceAt};
+ghost use Rattle.recordbytes.specs.Record.{isKnown, statusBy, statusAt, marksAt, wrapperAt, fixedAt, deviceAt};
 
 // Whether bytes are a record: 52 of them, and a number of a state, a flag, a status and a direction where one is due.
 pub fn known(r: &[u8]) -> bool
@@ -110,19 +111,29 @@ fn wrapper_at(r: &[u8]) -> Wrapper
     }
 }
 
+fn fixed_at(r: &[u8]) -> Fixed
+    requires { ⌜ length (now r) ≡ field.recordSize ⌝ }
+    ensures { λ x. ⌜ x ≡ fixedAt (now (r .entry)) ⌝ }
+{
+    Fixed {
+        packetsize: byte(r, 0) as usize,
+        maxlun: byte(r, 1),
+        size: le32(r, 4) as usize,
+    }
+}
+
 // The device that a record holds.
 pub fn device_at(r: &[u8]) -> Device
     requires { ⌜ length (now r) ≡ field.recordSize ⌝ }
     ensures { λ x. ⌜ x ≡ deviceAt (now (r .entry)) ⌝ }
 {
+    let fixed = fixed_at(r);
     let state = state_of_number(byte(r, 2));
     let marks = marks_at(r);
     let wrapper = wrapper_at(r);
     let status = status_at(r);
     Device {
-        packetsize: byte(r, 0) as usize,
-        maxlun: byte(r, 1),
-        size: le32(r, 4) as usize,
+        fixed: fixed,
         state: state,
         marks: marks,
         wrapper: wrapper,

@@ -1,6 +1,7 @@
 // A device's parts into the bytes of a record. Where a number stands in its field already, nothing is written.
 use buffer::Marks;
 use buffer::span::put;
+use device::Fixed;
 use device::Status;
 use fields::byte;
 use fields::le32;
@@ -17,6 +18,7 @@ ghost use lib.ListN.{length};
 ghost use Rattle.fields.specs.Field.{littleEndian, oneByte};
 ghost use Rattle.recordbytes.specs.Layout as field;
 ghost use Rattle.recordbytes.specs.Record.{joined, store, storeState, storeMarks, storeLeft, storeStatus, storeWrapper, newRecord};
+ghost use Rattle.recordbytes.specs.Storable.{Fixable};
 
 fn store8(r: &mut [u8], at: usize, n: u8)
     requires { ⌜ at < length (now r) ⌝ }
@@ -45,15 +47,15 @@ pub fn narrow(n: usize) -> u32
 }
 
 // A new device's record: all bytes are written, whatever they were.
-pub fn new(r: &mut [u8], packetsize: u8, maxlun: u8, size: u32)
-    requires { ⌜ length (now r) ≡ field.recordSize ⌝ }
-    ensures { λ _. ⌜ now (r .exit) ≡ newRecord packetsize maxlun size ⌝ }
+pub fn new(r: &mut [u8], fixed: Fixed)
+    requires { ⌜ (length (now r) ≡ field.recordSize) × Fixable fixed ⌝ }
+    ensures { λ _. ⌜ now (r .exit) ≡ newRecord fixed ⌝ }
 {
     let zeros = [0u8; 52];
     put(r, 0, &zeros);
-    store8(r, 0, packetsize);
-    store8(r, 1, maxlun);
-    store32(r, 4, size);
+    store8(r, 0, (fixed.packetsize % 256) as u8);
+    store8(r, 1, fixed.maxlun);
+    store32(r, 4, narrow(fixed.size));
 }
 
 pub fn state(r: &mut [u8], state: State)

@@ -16,8 +16,8 @@ same-length-2 c = search needs
 returns : tie.Need-returns
 returns c = search (ways, needs)
 
-figure-of-requires : tie.Need-figure-of-requires
-figure-of-requires c κs = search (ways, needs)
+status-of-requires : tie.Need-status-of-requires
+status-of-requires c κs = search (ways, needs)
 
 set-status-requires : tie.Need-set-status-requires
 set-status-requires c κs = search needs
@@ -104,4 +104,4 @@ returns-8 : tie.Need-returns-8
 returns-8 c = search (ways, needs)
 
 pub act-spec : {M : Type 1} → statement M
-act-spec = tie.close (tie.spec poll-requires same-length same-length-2 returns figure-of-requires set-status-requires stated-requires same-length-3 returns-2 write-data-requires moved-requires same-length-4 returns-3 try-write-data-all-requires moved-requires-2 same-length-5 returns-4 read-data-requires same-length-6 same-length-7 returns-5 reset-requires same-length-8 same-length-9 returns-6 control-requires same-length-10 same-length-11 returns-7 command-requires same-length-12 same-length-13 returns-8)
+act-spec = tie.close (tie.spec poll-requires same-length same-length-2 returns status-of-requires set-status-requires stated-requires same-length-3 returns-2 write-data-requires moved-requires same-length-4 returns-3 try-write-data-all-requires moved-requires-2 same-length-5 returns-4 read-data-requires same-length-6 same-length-7 returns-5 reset-requires same-length-8 same-length-9 returns-6 control-requires same-length-10 same-length-11 returns-7 command-requires same-length-12 same-length-13 returns-8)

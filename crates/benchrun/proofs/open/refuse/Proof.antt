@@ -14,14 +14,14 @@ slice-write-text-2 c = refuses-second (now (c .before .args .text)) (c .before .
 slice-write-text-3 : tie.Need-slice-write-text-3
 slice-write-text-3 c = refuses-third (now (c .before .args .text)) (c .before .pre)
 
-create-requires : tie.Need-create-requires
-create-requires c κs = search needs
+none-requires : tie.Need-none-requires
+none-requires c κs = search needs
 
 same-length : tie.Need-same-length
 same-length c = search needs
 
 returns : tie.Need-returns
-returns c = refuses _ (c .before .before .before .pre) (c .before .create .result) (c .before .create .ensures)
+returns c = refuses _ (c .before .before .pre) (c .none .ensures)
 
 pub refuse-spec : {M : Type 1} → statement M
 refuse-spec =
@@ -30,6 +30,6 @@ refuse-spec =
     slice-write-text
     slice-write-text-2
     slice-write-text-3
-    create-requires
+    none-requires
     same-length
     returns)
