@@ -4,11 +4,5 @@ use Rattle.device.proofs.Laws.{ways}
 use Rattle.device.proofs.create.blank.Statement.{statement}
 use Rattle.device.proofs.create.blank.Tie as tie
 
-no-wrapper-requires : tie.Need-no-wrapper-requires
-no-wrapper-requires c κs = search needs
-
-returns : tie.Need-returns
-returns c = search (ways, needs)
-
 pub blank-spec : {M : Type 1} → statement M
-blank-spec = tie.close (tie.spec no-wrapper-requires returns)
+blank-spec = tie.close (tie.spec (λ c. search needs) (λ c. search (ways, needs)))
