@@ -5,23 +5,11 @@ use Rattle.bbb.proofs.Polling.{first-fits, is-fitting, tells-10, tells-
 use Rattle.bbb.proofs.poll.Statement.{statement}
 use Rattle.bbb.proofs.poll.Tie as tie
 
-numbers-of-requires : tie.Need-numbers-of-requires
-numbers-of-requires c κs = search needs
-
-whole-requires : tie.Need-whole-requires
-whole-requires c κs = search needs
-
-fits-requires : tie.Need-fits-requires
-fits-requires c κs = search needs
-
 open-requires : tie.Need-open-requires
 open-requires c κs =
     let test = c .before .before in
     let whole = test .before .before in
     (tested _ _ (whole .before .whole .ensures) (whole .if1 .taken), first-fits _ _ _ _ (test .before .fits2 .ensures) (test .if2 .taken))
-
-wrapper-then-requires : tie.Need-wrapper-then-requires
-wrapper-then-requires c κs = search needs
 
 go-on-requires : tie.Need-go-on-requires
 go-on-requires c κs =
@@ -34,15 +22,6 @@ go-on-requires c κs =
       is-fitting _ _ _ _ (test .before .fits2 .ensures) (test .if2 .taken),
     )
 
-changed-requires : tie.Need-changed-requires
-changed-requires c κs = search needs
-
-same-length : tie.Need-same-length
-same-length c = search needs
-
-same-length-2 : tie.Need-same-length-2
-same-length-2 c = search needs
-
 returns : tie.Need-returns
 returns c =
     let went = c .before .before .before .before .before .before in
@@ -53,16 +32,10 @@ returns c =
     polls _ _ _ (whole .before .before .numbers-of .ensures) (whole .before .whole .ensures) (whole .if1 .taken) (test .before .fits2 .ensures) (test .if2 .taken) _
     (found .«open» .ensures) (went .go-on .ensures) (took .wrapper-then .ensures) (c .changed .ensures)
 
-refused-requires : tie.Need-refused-requires
-refused-requires c κs = search needs
-
 returns-2 : tie.Need-returns-2
 returns-2 c =
     let whole = c .before .before .before in
     tells-11 _ _ _ (whole .before .before .numbers-of .ensures) (whole .before .whole .ensures) (whole .if1 .taken) (c .before .before .fits2 .ensures) (c .before .if2 .left) (c .refused .ensures)
-
-refused-requires-2 : tie.Need-refused-requires-2
-refused-requires-2 c κs = search needs
 
 returns-3 : tie.Need-returns-3
 returns-3 c =
@@ -70,4 +43,9 @@ returns-3 c =
     tells-10 _ _ _ (whole .before .before .numbers-of .ensures) (whole .before .whole .ensures) (whole .if1 .left) (c .refused2 .ensures)
 
 pub poll-spec : {M : Type 1} → statement M
-poll-spec = tie.close (tie.spec numbers-of-requires whole-requires fits-requires open-requires wrapper-then-requires go-on-requires changed-requires same-length same-length-2 returns refused-requires returns-2 refused-requires-2 returns-3)
+poll-spec =
+    tie.close (tie.spec
+    (λ c. search needs) (λ c. search needs) (λ c. search needs) open-requires (λ c. search needs) go-on-requires (λ c. search needs)
+    (λ c. search needs) (λ c. search needs) returns
+    (λ c. search needs) returns-2
+    (λ c. search needs) returns-3)
