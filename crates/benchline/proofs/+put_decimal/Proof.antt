@@ -23,32 +23,8 @@ abbrev asked : ℕ → In 1 kinds.ps
 asked t = and 1 kinds.ps (falls 1 kinds.ps _<_ μ t) reads.Pre
 
 module _ (t : ℕ) where
-  cast-text : lts.Need-cast-text (asked t, reads.Post) (given t) reads.Post
-  cast-text c = search needs
-
-  add-text : lts.Need-add-text (asked t, reads.Post) (given t) reads.Post
-  add-text c = search needs
-
-  slice-write-text : lts.Need-slice-write-text (asked t, reads.Post) (given t) reads.Post
-  slice-write-text c = search (ways, needs)
-
-  add-result : lts.Need-add-result (asked t, reads.Post) (given t) reads.Post
-  add-result c = search needs
-
-  same-length : lts.Need-same-length (asked t, reads.Post) (given t) reads.Post
-  same-length c = search needs
-
-  returns : lts.Need-returns (asked t, reads.Post) (given t) reads.Post
-  returns c = search (ways, needs)
-
   put-decimal-requires : lts.Need-put-decimal-requires (asked t, reads.Post) (given t) reads.Post
   put-decimal-requires c κs = (omega arith, search (ways, needs))
-
-  cast-text-2 : lts.Need-cast-text-2 (asked t, reads.Post) (given t) reads.Post
-  cast-text-2 c = search needs
-
-  add-text-2 : lts.Need-add-text-2 (asked t, reads.Post) (given t) reads.Post
-  add-text-2 c = search needs
 
   slice-write-text-2 : lts.Need-slice-write-text-2 (asked t, reads.Post) (given t) reads.Post
   slice-write-text-2 c = search (ways, needs)
@@ -56,29 +32,9 @@ module _ (t : ℕ) where
   add-result-2 : lts.Need-add-result-2 (asked t, reads.Post) (given t) reads.Post
   add-result-2 c = omega (arith, slice-write-text-2 c)
 
-  same-length-2 : lts.Need-same-length-2 (asked t, reads.Post) (given t) reads.Post
-  same-length-2 c = search needs
-
-  returns-2 : lts.Need-returns-2 (asked t, reads.Post) (given t) reads.Post
-  returns-2 c = search (ways, needs)
-
 pub +put-decimal-spec : {M : Type 1} → statement M
 +put-decimal-spec =
-    close μ λ t.
-    lts.spec
-    (asked t, reads.Post)
-    (given t)
-    reads.Post
-    (cast-text t)
-    (add-text t)
-    (slice-write-text t)
-    (add-result t)
-    (same-length t)
-    (returns t)
-    (put-decimal-requires t)
-    (cast-text-2 t)
-    (add-text-2 t)
-    (slice-write-text-2 t)
-    (add-result-2 t)
-    (same-length-2 t)
-    (returns-2 t)
+    close μ λ t. lts.spec (asked t, reads.Post) (given t) reads.Post
+    (λ c. search needs) (λ c. search needs) (λ c. search (ways, needs)) (λ c. search needs) (λ c. search needs) (λ c. search (ways, needs))
+    (put-decimal-requires t) (λ c. search needs) (λ c. search needs) (slice-write-text-2 t) (add-result-2 t) (λ c. search needs)
+    (λ c. search (ways, needs))

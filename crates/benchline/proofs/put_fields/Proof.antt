@@ -6,12 +6,6 @@ use Rattle.benchline.proofs.Ways.{ways}
 use Rattle.benchline.proofs.put_fields.Statement.{statement}
 use Rattle.benchline.proofs.put_fields.Tie as tie
 
-put-numbers-requires : tie.Need-put-numbers-requires
-put-numbers-requires c κs = search (ways, needs)
-
-put-stalls-requires : tie.Need-put-stalls-requires
-put-stalls-requires c κs = search (ways, needs)
-
 slice-write-text : tie.Need-slice-write-text
 slice-write-text c = search (ways, needs)
 
@@ -21,16 +15,7 @@ add-result c = omega (arith, slice-write-text c)
 same-length : tie.Need-same-length
 same-length c = simp length-set (omega arith)
 
-returns : tie.Need-returns
-returns c = search (ways, needs)
-
 pub put-fields-spec : {M : Type 1} → statement M
 put-fields-spec =
-    tie.close
-    (tie.spec
-    put-numbers-requires
-    put-stalls-requires
-    slice-write-text
-    add-result
-    same-length
-    returns)
+    tie.close (tie.spec
+    (λ c. search (ways, needs)) (λ c. search (ways, needs)) slice-write-text add-result same-length (λ c. search (ways, needs)))

@@ -6,12 +6,6 @@ use Rattle.benchline.proofs.Ways.{ways}
 use Rattle.benchline.proofs.put_line.Statement.{statement}
 use Rattle.benchline.proofs.put_line.Tie as tie
 
-put-fields-requires : tie.Need-put-fields-requires
-put-fields-requires c κs = search (ways, needs)
-
-put-bytes-requires : tie.Need-put-bytes-requires
-put-bytes-requires c κs = search (ways, needs)
-
 slice-write-text : tie.Need-slice-write-text
 slice-write-text c = search (ways, needs)
 
@@ -21,16 +15,7 @@ add-result c = omega (arith, slice-write-text c)
 same-length : tie.Need-same-length
 same-length c = simp length-set (omega arith)
 
-returns : tie.Need-returns
-returns c = search (ways, needs)
-
 pub put-line-spec : {M : Type 1} → statement M
 put-line-spec =
-    tie.close
-    (tie.spec
-    put-fields-requires
-    put-bytes-requires
-    slice-write-text
-    add-result
-    same-length
-    returns)
+    tie.close (tie.spec
+    (λ c. search (ways, needs)) (λ c. search (ways, needs)) slice-write-text add-result same-length (λ c. search (ways, needs)))

@@ -8,9 +8,6 @@ use Rattle.buffer.proofs.Ways.{tested, broken, passes}
 use Rattle.buffer.proofs.available.Statement.{statement}
 use Rattle.buffer.proofs.available.Tie as tie
 
-sound-requires : tie.Need-sound-requires
-sound-requires c κs = search needs
-
 sub-t5 : tie.Need-sub-t5
 sub-t5 c =
     let a = c .before .before .before .before .args in
@@ -26,4 +23,4 @@ unfolding availableCall
 returns-2 c = broken _ (c .before .sound .ensures) _ _ (c .if1 .left)
 
 pub available-spec : {M : Type 1} → statement M
-available-spec = tie.close (tie.spec sound-requires sub-t5 returns returns-2)
+available-spec = tie.close (tie.spec (λ c. search needs) sub-t5 returns returns-2)

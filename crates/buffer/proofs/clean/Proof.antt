@@ -7,12 +7,6 @@ use Rattle.buffer.proofs.Ways.{broken, passes, counts}
 use Rattle.buffer.proofs.clean.Statement.{statement}
 use Rattle.buffer.proofs.clean.Tie as tie
 
-sound-requires : tie.Need-sound-requires
-sound-requires c κs = search needs
-
-clean-requires : tie.Need-clean-requires
-clean-requires c κs = search needs
-
 returns : tie.Need-returns
 unfolding cleanCall emptied
 returns c = passes _ (c .before .before .sound .ensures) _ (c .before .if1 .taken) (counts refl (ap (buffer _) (c .clean .ensures)))
@@ -22,4 +16,4 @@ unfolding cleanCall
 returns-2 c = broken _ (c .before .sound .ensures) _ _ (c .if1 .left)
 
 pub clean-spec : {M : Type 1} → statement M
-clean-spec = tie.close (tie.spec sound-requires clean-requires returns returns-2)
+clean-spec = tie.close (tie.spec (λ c. search needs) (λ c. search needs) returns returns-2)

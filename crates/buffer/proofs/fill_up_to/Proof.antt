@@ -5,14 +5,8 @@ use Rattle.buffer.proofs.Ways.{tested, broken, passes, counts}
 use Rattle.buffer.proofs.fill_up_to.Statement.{statement}
 use Rattle.buffer.proofs.fill_up_to.Tie as tie
 
-sound-requires : tie.Need-sound-requires
-sound-requires c κs = search needs
-
 fill-up-to-requires : tie.Need-fill-up-to-requires
 fill-up-to-requires c κs = tested _ (c .before .before .sound .ensures) (c .before .if1 .taken)
-
-same-length : tie.Need-same-length
-same-length c = search needs
 
 returns : tie.Need-returns
 unfolding fillCall
@@ -26,4 +20,4 @@ unfolding fillCall
 returns-2 c = broken _ (c .before .sound .ensures) _ _ (c .if1 .left)
 
 pub fill-up-to-spec : {M : Type 1} → statement M
-fill-up-to-spec = tie.close (tie.spec sound-requires fill-up-to-requires same-length returns returns-2)
+fill-up-to-spec = tie.close (tie.spec (λ c. search needs) fill-up-to-requires (λ c. search needs) returns returns-2)

@@ -5,14 +5,8 @@ use Rattle.buffer.proofs.Ways.{tested, broken, passes, counts}
 use Rattle.buffer.proofs.read.Statement.{statement}
 use Rattle.buffer.proofs.read.Tie as tie
 
-sound-requires : tie.Need-sound-requires
-sound-requires c κs = search needs
-
 read-requires : tie.Need-read-requires
 read-requires c κs = (tested _ (c .before .before .sound .ensures) (c .before .if1 .taken), search needs)
-
-same-length : tie.Need-same-length
-same-length c = search needs
 
 returns : tie.Need-returns
 unfolding readCall readInto
@@ -30,4 +24,4 @@ returns-2 c =
     (broken _ e _ _ (c .if1 .left), broken _ e _ _ (c .if1 .left))
 
 pub read-spec : {M : Type 1} → statement M
-read-spec = tie.close (tie.spec sound-requires read-requires same-length returns returns-2)
+read-spec = tie.close (tie.spec (λ c. search needs) read-requires (λ c. search needs) returns returns-2)

@@ -6,14 +6,8 @@ use Rattle.buffer.proofs.Ways.{tested, broken, passes, counts}
 use Rattle.buffer.proofs.shift.Statement.{statement}
 use Rattle.buffer.proofs.shift.Tie as tie
 
-sound-requires : tie.Need-sound-requires
-sound-requires c κs = search needs
-
 shift-requires : tie.Need-shift-requires
 shift-requires c κs = tested _ (c .before .before .sound .ensures) (c .before .if1 .taken)
-
-same-length : tie.Need-same-length
-same-length c = search needs
 
 returns : tie.Need-returns
 unfolding shiftCall
@@ -27,4 +21,4 @@ unfolding shiftCall
 returns-2 c = broken _ (c .before .sound .ensures) _ _ (c .if1 .left)
 
 pub shift-spec : {M : Type 1} → statement M
-shift-spec = tie.close (tie.spec sound-requires shift-requires same-length returns returns-2)
+shift-spec = tie.close (tie.spec (λ c. search needs) shift-requires (λ c. search needs) returns returns-2)

@@ -5,14 +5,8 @@ use Rattle.buffer.proofs.Ways.{tested, broken, passes, counts}
 use Rattle.buffer.proofs.write.Statement.{statement}
 use Rattle.buffer.proofs.write.Tie as tie
 
-sound-requires : tie.Need-sound-requires
-sound-requires c κs = search needs
-
 write-requires : tie.Need-write-requires
 write-requires c κs = tested _ (c .before .before .sound .ensures) (c .before .if1 .taken)
-
-same-length : tie.Need-same-length
-same-length c = search needs
 
 returns : tie.Need-returns
 unfolding writeCall
@@ -26,4 +20,4 @@ unfolding writeCall
 returns-2 c = broken _ (c .before .sound .ensures) _ _ (c .if1 .left)
 
 pub write-spec : {M : Type 1} → statement M
-write-spec = tie.close (tie.spec sound-requires write-requires same-length returns returns-2)
+write-spec = tie.close (tie.spec (λ c. search needs) write-requires (λ c. search needs) returns returns-2)

@@ -5,14 +5,8 @@ use Rattle.buffer.proofs.Ways.{tested, broken, passes, all-taken, overf
 use Rattle.buffer.proofs.write_all.Statement.{statement}
 use Rattle.buffer.proofs.write_all.Tie as tie
 
-sound-requires : tie.Need-sound-requires
-sound-requires c κs = search needs
-
 write-all-requires : tie.Need-write-all-requires
 write-all-requires c κs = tested _ (c .before .before .sound .ensures) (c .before .if1 .taken)
-
-same-length : tie.Need-same-length
-same-length c = search needs
 
 returns : tie.Need-returns
 unfolding writeAllCall
@@ -20,9 +14,6 @@ returns c =
     let call = c .before .before .before .before in
     let test = call .before .before in
     passes _ (test .before .sound .ensures) _ (test .if1 .taken) (all-taken _ _ _ (call .write-all .ensures .0) (call .write-all .ensures .1 .same) (c .if2 .taken))
-
-same-length-2 : tie.Need-same-length-2
-same-length-2 c = search needs
 
 returns-2 : tie.Need-returns-2
 unfolding writeAllCall
@@ -36,4 +27,7 @@ unfolding writeAllCall
 returns-3 c = broken _ (c .before .sound .ensures) _ _ (c .if1 .left)
 
 pub write-all-spec : {M : Type 1} → statement M
-write-all-spec = tie.close (tie.spec sound-requires write-all-requires same-length returns same-length-2 returns-2 returns-3)
+write-all-spec =
+    tie.close (tie.spec
+    (λ c. search needs) write-all-requires (λ c. search needs) returns
+    (λ c. search needs) returns-2 returns-3)

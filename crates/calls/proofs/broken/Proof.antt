@@ -4,14 +4,5 @@ use Rattle.calls.proofs.Laws.{ways}
 use Rattle.calls.proofs.broken.Statement.{statement}
 use Rattle.calls.proofs.broken.Tie as tie
 
-numbers-of-requires : tie.Need-numbers-of-requires
-numbers-of-requires c κs = search needs
-
-whole-requires : tie.Need-whole-requires
-whole-requires c κs = search needs
-
-returns : tie.Need-returns
-returns c = search (ways, needs)
-
 pub broken-spec : {M : Type 1} → statement M
-broken-spec = tie.close (tie.spec numbers-of-requires whole-requires returns)
+broken-spec = tie.close (tie.spec (λ c. search needs) (λ c. search needs) (λ c. search (ways, needs)))

@@ -6,15 +6,6 @@ use Rattle.fields.proofs.Field.{shifted-one}
 use Rattle.fields.proofs.bits_of.Statement.{statement}
 use Rattle.fields.proofs.bits_of.Tie as tie
 
-shared-slice-read-result : tie.Need-shared-slice-read-result
-shared-slice-read-result c = search needs
-
-shr-result : tie.Need-shr-result
-shr-result c = search needs
-
-shl-result : tie.Need-shl-result
-shl-result c = search needs
-
 rem-result : tie.Need-rem-result
 rem-result c = rw (shifted-one (c .before .args .width) (search needs)) (pow-pos _)
 
@@ -23,4 +14,4 @@ unfolding getBits
 returns c = rw (shifted-one (c .before .args .width) (search needs))
 
 pub bits-of-spec : {M : Type 1} → statement M
-bits-of-spec = tie.close (tie.spec shared-slice-read-result shr-result shl-result rem-result returns)
+bits-of-spec = tie.close (tie.spec (λ c. search needs) (λ c. search needs) (λ c. search needs) rem-result returns)

@@ -4,11 +4,8 @@ use Rattle.fields.proofs.Field.{byte-read}
 use Rattle.fields.proofs.byte.Statement.{statement}
 use Rattle.fields.proofs.byte.Tie as tie
 
-shared-slice-read-result : tie.Need-shared-slice-read-result
-shared-slice-read-result c = search needs
-
 returns : tie.Need-returns
 returns c = byte-read _ _ (search needs)
 
 pub byte-spec : {M : Type 1} → statement M
-byte-spec = tie.close (tie.spec shared-slice-read-result returns)
+byte-spec = tie.close (tie.spec (λ c. search needs) returns)

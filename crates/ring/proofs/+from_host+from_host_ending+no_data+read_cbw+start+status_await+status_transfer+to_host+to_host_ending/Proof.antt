@@ -122,13 +122,8 @@ from-host-of t = (status-await-below t, status-await.Post, from-host-ending-belo
 from-host-meets : {M : Type 1} (t : ℕ) → from-host-lts.Closed (from-host-of t) (from-host-at t) from-host.Post M
 from-host-meets t =
     from-host-lts.spec (from-host-of t) (from-host-at t) from-host.Post
-    (λ c. search (calls, needs))  -- sub-status-await
-    (λ c κs. search (calls, needs))  -- status-await-requires
-    (λ c. search (ways, needs))  -- returns
-    (λ c. search (calls, needs))  -- sub-from-host-ending
-    (λ c κs. search (calls, needs))  -- from-host-ending-requires
-    (λ c. search (ways, needs))  -- returns-2
-    (λ c. search (ways, needs))  -- returns-3
+    (λ c. search (calls, needs)) (λ c κs. search (calls, needs)) (λ c. search (ways, needs))
+    (λ c. search (calls, needs)) (λ c κs. search (calls, needs)) (λ c. search (ways, needs)) (λ c. search (ways, needs))
 
 abbrev from-host-ending-of : ℕ → from-host-ending-lts.Claims
 from-host-ending-of t = (status-transfer-below t, status-transfer.Post)
@@ -136,10 +131,7 @@ from-host-ending-of t = (status-transfer-below t, status-transfer.Post)
 from-host-ending-meets : {M : Type 1} (t : ℕ) → from-host-ending-lts.Closed (from-host-ending-of t) (from-host-ending-at t) from-host-ending.Post M
 from-host-ending-meets t =
     from-host-ending-lts.spec (from-host-ending-of t) (from-host-ending-at t) from-host-ending.Post
-    (λ c. search (calls, needs))  -- sub-status-transfer
-    (λ c κs. search (calls, needs))  -- status-transfer-requires
-    (λ c. search (ways, needs))  -- returns
-    (λ c. search (ways, needs))  -- returns-2
+    (λ c. search (calls, needs)) (λ c κs. search (calls, needs)) (λ c. search (ways, needs)) (λ c. search (ways, needs))
 
 abbrev no-data-of : ℕ → no-data-lts.Claims
 no-data-of t = (status-await-below t, status-await.Post)
@@ -147,9 +139,7 @@ no-data-of t = (status-await-below t, status-await.Post)
 no-data-meets : {M : Type 1} (t : ℕ) → no-data-lts.Closed (no-data-of t) (no-data-at t) no-data.Post M
 no-data-meets t =
     no-data-lts.spec (no-data-of t) (no-data-at t) no-data.Post
-    (λ c. search (calls, needs))  -- sub-status-await
-    (λ c κs. search (calls, needs))  -- status-await-requires
-    (λ c. search (ways, needs))  -- returns
+    (λ c. search (calls, needs)) (λ c κs. search (calls, needs)) (λ c. search (ways, needs))
 
 abbrev read-cbw-of : ℕ → read-cbw-lts.Claims
 read-cbw-of t = (start-below t, start.Post)
@@ -157,14 +147,8 @@ read-cbw-of t = (start-below t, start.Post)
 read-cbw-meets : {M : Type 1} (t : ℕ) → read-cbw-lts.Closed (read-cbw-of t) (read-cbw-at t) read-cbw.Post M
 read-cbw-meets t =
     read-cbw-lts.spec (read-cbw-of t) (read-cbw-at t) read-cbw.Post
-    (λ c. search (calls, needs))  -- enum-told
-    (λ c. search (calls, needs))  -- enum-told-2
-    (λ c. search (calls, needs))  -- enum-told-3
-    (λ c. search (calls, needs))  -- sub-start
-    (λ c κs. search (calls, needs))  -- start-requires
-    (λ c. search (ways, needs))  -- returns
-    (λ c. search (ways, needs))  -- returns-2
-    (λ c. search (ways, needs))  -- returns-3
+    (λ c. search (calls, needs)) (λ c. search (calls, needs)) (λ c. search (calls, needs)) (λ c. search (calls, needs))
+    (λ c κs. search (calls, needs)) (λ c. search (ways, needs)) (λ c. search (ways, needs)) (λ c. search (ways, needs))
 
 abbrev start-of : ℕ → start-lts.Claims
 start-of t = (from-host-below t, from-host.Post, to-host-below t, to-host.Post, no-data-below t, no-data.Post)
@@ -172,18 +156,9 @@ start-of t = (from-host-below t, from-host.Post, to-host-below t, to-host.Post, 
 start-meets : {M : Type 1} (t : ℕ) → start-lts.Closed (start-of t) (start-at t) start.Post M
 start-meets t =
     start-lts.spec (start-of t) (start-at t) start.Post
-    (λ c. search (calls, needs))  -- enum-told
-    (λ c. search (calls, needs))  -- sub-from-host
-    (λ c κs. search (calls, needs))  -- from-host-requires
-    (λ c. search (calls, needs))  -- enum-told-2
-    (λ c. search (calls, needs))  -- sub-to-host
-    (λ c κs. search (calls, needs))  -- to-host-requires
-    (λ c. search (calls, needs))  -- enum-told-3
-    (λ c. search (calls, needs))  -- sub-no-data
-    (λ c κs. search (calls, needs))  -- no-data-requires
-    (λ c. search (ways, needs))  -- returns
-    (λ c. search (ways, needs))  -- returns-2
-    (λ c. search (ways, needs))  -- returns-3
+    (λ c. search (calls, needs)) (λ c. search (calls, needs)) (λ c κs. search (calls, needs)) (λ c. search (calls, needs))
+    (λ c. search (calls, needs)) (λ c κs. search (calls, needs)) (λ c. search (calls, needs)) (λ c. search (calls, needs))
+    (λ c κs. search (calls, needs)) (λ c. search (ways, needs)) (λ c. search (ways, needs)) (λ c. search (ways, needs))
 
 abbrev status-await-of : ℕ → status-await-lts.Claims
 status-await-of t = (status-transfer-below t, status-transfer.Post)
@@ -191,10 +166,7 @@ status-await-of t = (status-transfer-below t, status-transfer.Post)
 status-await-meets : {M : Type 1} (t : ℕ) → status-await-lts.Closed (status-await-of t) (status-await-at t) status-await.Post M
 status-await-meets t =
     status-await-lts.spec (status-await-of t) (status-await-at t) status-await.Post
-    (λ c. search (calls, needs))  -- sub-status-transfer
-    (λ c κs. search (calls, needs))  -- status-transfer-requires
-    (λ c. search (ways, needs))  -- returns
-    (λ c. search (ways, needs))  -- returns-2
+    (λ c. search (calls, needs)) (λ c κs. search (calls, needs)) (λ c. search (ways, needs)) (λ c. search (ways, needs))
 
 abbrev status-transfer-of : ℕ → status-transfer-lts.Claims
 status-transfer-of t = (read-cbw-below t, read-cbw.Post)
@@ -202,11 +174,8 @@ status-transfer-of t = (read-cbw-below t, read-cbw.Post)
 status-transfer-meets : {M : Type 1} (t : ℕ) → status-transfer-lts.Closed (status-transfer-of t) (status-transfer-at t) status-transfer.Post M
 status-transfer-meets t =
     status-transfer-lts.spec (status-transfer-of t) (status-transfer-at t) status-transfer.Post
-    (λ c. search (calls, needs))  -- sub-read-cbw
-    (λ c κs. search (calls, needs))  -- read-cbw-requires
-    (λ c. search (ways, needs))  -- returns
-    (λ c. search (ways, needs))  -- returns-2
-    (λ c. search (ways, needs))  -- returns-3
+    (λ c. search (calls, needs)) (λ c κs. search (calls, needs)) (λ c. search (ways, needs)) (λ c. search (ways, needs))
+    (λ c. search (ways, needs))
 
 abbrev to-host-of : ℕ → to-host-lts.Claims
 to-host-of t = (status-await-below t, status-await.Post, to-host-ending-below t, to-host-ending.Post)
@@ -214,13 +183,8 @@ to-host-of t = (status-await-below t, status-await.Post, to-host-ending-below t,
 to-host-meets : {M : Type 1} (t : ℕ) → to-host-lts.Closed (to-host-of t) (to-host-at t) to-host.Post M
 to-host-meets t =
     to-host-lts.spec (to-host-of t) (to-host-at t) to-host.Post
-    (λ c. search (calls, needs))  -- sub-status-await
-    (λ c κs. search (calls, needs))  -- status-await-requires
-    (λ c. search (ways, needs))  -- returns
-    (λ c. search (calls, needs))  -- sub-to-host-ending
-    (λ c κs. search (calls, needs))  -- to-host-ending-requires
-    (λ c. search (ways, needs))  -- returns-2
-    (λ c. search (ways, needs))  -- returns-3
+    (λ c. search (calls, needs)) (λ c κs. search (calls, needs)) (λ c. search (ways, needs))
+    (λ c. search (calls, needs)) (λ c κs. search (calls, needs)) (λ c. search (ways, needs)) (λ c. search (ways, needs))
 
 abbrev to-host-ending-of : ℕ → to-host-ending-lts.Claims
 to-host-ending-of t = (status-transfer-below t, status-transfer.Post)
@@ -228,10 +192,7 @@ to-host-ending-of t = (status-transfer-below t, status-transfer.Post)
 to-host-ending-meets : {M : Type 1} (t : ℕ) → to-host-ending-lts.Closed (to-host-ending-of t) (to-host-ending-at t) to-host-ending.Post M
 to-host-ending-meets t =
     to-host-ending-lts.spec (to-host-ending-of t) (to-host-ending-at t) to-host-ending.Post
-    (λ c. search (calls, needs))  -- sub-status-transfer
-    (λ c κs. search (calls, needs))  -- status-transfer-requires
-    (λ c. search (ways, needs))  -- returns
-    (λ c. search (ways, needs))  -- returns-2
+    (λ c. search (calls, needs)) (λ c κs. search (calls, needs)) (λ c. search (ways, needs)) (λ c. search (ways, needs))
 
 pub +from-host+from-host-ending+no-data+read-cbw+start+status-await+status-transfer+to-host+to-host-ending-spec : {M : Type 1} → statement M
 +from-host+from-host-ending+no-data+read-cbw+start+status-await+status-transfer+to-host+to-host-ending-spec =

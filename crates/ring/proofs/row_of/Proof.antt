@@ -4,59 +4,10 @@ use Rattle.ring.proofs.Laws.{rows}
 use Rattle.ring.proofs.row_of.Statement.{statement}
 use Rattle.ring.proofs.row_of.Tie as tie
 
-enum-told : tie.Need-enum-told
-enum-told c = search needs
-
-enum-told-2 : tie.Need-enum-told-2
-enum-told-2 c = search needs
-
-enum-told-3 : tie.Need-enum-told-3
-enum-told-3 c = search needs
-
-enum-told-4 : tie.Need-enum-told-4
-enum-told-4 c = search needs
-
-enum-told-5 : tie.Need-enum-told-5
-enum-told-5 c = search needs
-
-enum-told-6 : tie.Need-enum-told-6
-enum-told-6 c = search needs
-
-enum-told-7 : tie.Need-enum-told-7
-enum-told-7 c = search needs
-
-enum-told-8 : tie.Need-enum-told-8
-enum-told-8 c = search needs
-
-enum-told-9 : tie.Need-enum-told-9
-enum-told-9 c = search needs
-
-returns : tie.Need-returns
-returns c = search (rows, needs)
-
-returns-2 : tie.Need-returns-2
-returns-2 c = search (rows, needs)
-
-returns-3 : tie.Need-returns-3
-returns-3 c = search (rows, needs)
-
-returns-4 : tie.Need-returns-4
-returns-4 c = search (rows, needs)
-
-returns-5 : tie.Need-returns-5
-returns-5 c = search (rows, needs)
-
-returns-6 : tie.Need-returns-6
-returns-6 c = search (rows, needs)
-
-returns-7 : tie.Need-returns-7
-returns-7 c = search (rows, needs)
-
-returns-8 : tie.Need-returns-8
-returns-8 c = search (rows, needs)
-
-returns-9 : tie.Need-returns-9
-returns-9 c = search (rows, needs)
-
 pub row-of-spec : {M : Type 1} → statement M
-row-of-spec = tie.close (tie.spec enum-told enum-told-2 enum-told-3 enum-told-4 enum-told-5 enum-told-6 enum-told-7 enum-told-8 enum-told-9 returns returns-2 returns-3 returns-4 returns-5 returns-6 returns-7 returns-8 returns-9)
+row-of-spec =
+    tie.close (tie.spec
+    (λ c. search needs) (λ c. search needs) (λ c. search needs) (λ c. search needs) (λ c. search needs) (λ c. search needs)
+    (λ c. search needs) (λ c. search needs) (λ c. search needs) (λ c. search (rows, needs)) (λ c. search (rows, needs))
+    (λ c. search (rows, needs)) (λ c. search (rows, needs)) (λ c. search (rows, needs)) (λ c. search (rows, needs))
+    (λ c. search (rows, needs)) (λ c. search (rows, needs)) (λ c. search (rows, needs)))

@@ -4,14 +4,5 @@ use Rattle.bbb.proofs.Acting.{ways}
 use Rattle.bbb.proofs.act.falls_short.Statement.{statement}
 use Rattle.bbb.proofs.act.falls_short.Tie as tie
 
-cast-if1 : tie.Need-cast-if1
-cast-if1 c = search needs
-
-returns : tie.Need-returns
-returns c = search (ways, needs)
-
-returns-2 : tie.Need-returns-2
-returns-2 c = search (ways, needs)
-
 pub falls-short-spec : {M : Type 1} → statement M
-falls-short-spec = tie.close (tie.spec cast-if1 returns returns-2)
+falls-short-spec = tie.close (tie.spec (λ c. search needs) (λ c. search (ways, needs)) (λ c. search (ways, needs)))

@@ -3,11 +3,5 @@ use Rattle.benchfile.proofs.Rules.{rules}
 use Rattle.benchfile.proofs.event.agree.Statement.{statement}
 use Rattle.benchfile.proofs.event.agree.Tie as tie
 
-returns : tie.Need-returns
-returns c = search rules
-
-returns-2 : tie.Need-returns-2
-returns-2 c = search rules
-
 pub agree-spec : {M : Type 1} → statement M
-agree-spec = tie.close (tie.spec returns returns-2)
+agree-spec = tie.close (tie.spec (λ c. search rules) (λ c. search rules))

@@ -4,24 +4,6 @@ use Rattle.buffer.proofs.Ways.{fits, fills}
 use Rattle.buffer.proofs.marked.fill_up_to.Statement.{statement}
 use Rattle.buffer.proofs.marked.fill_up_to.Tie as tie
 
-make-room-requires : tie.Need-make-room-requires
-make-room-requires c κs = search needs
-
-sub-least : tie.Need-sub-least
-sub-least c = search needs
-
-least-requires : tie.Need-least-requires
-least-requires c κs = search needs
-
-fill-requires : tie.Need-fill-requires
-fill-requires c κs = search needs
-
-add-t10 : tie.Need-add-t10
-add-t10 c = search needs
-
-same-length : tie.Need-same-length
-same-length c = search needs
-
 returns : tie.Need-returns
 returns c =
     let fill = c .before .before in
@@ -31,4 +13,6 @@ returns c =
     (fits _ _ _ _ (made .make-room .ensures) (fit .least .ensures), fills _ _ _ _ _ (start .pre) (made .make-room .ensures) (fit .least .ensures) _ (fill .fill .ensures))
 
 pub fill-up-to-spec : {M : Type 1} → statement M
-fill-up-to-spec = tie.close (tie.spec make-room-requires sub-least least-requires fill-requires add-t10 same-length returns)
+fill-up-to-spec =
+    tie.close (tie.spec
+    (λ c. search needs) (λ c. search needs) (λ c. search needs) (λ c. search needs) (λ c. search needs) (λ c. search needs) returns)

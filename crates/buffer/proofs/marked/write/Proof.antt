@@ -6,26 +6,11 @@ use Rattle.buffer.proofs.Ways.{cut, fits, writes}
 use Rattle.buffer.proofs.marked.write.Statement.{statement}
 use Rattle.buffer.proofs.marked.write.Tie as tie
 
-make-room-requires : tie.Need-make-room-requires
-make-room-requires c κs = search needs
-
-sub-least : tie.Need-sub-least
-sub-least c = search needs
-
-least-requires : tie.Need-least-requires
-least-requires c κs = search needs
-
 slice-aggregate-put : tie.Need-slice-aggregate-put
 slice-aggregate-put c = sym (cut _ _ _ (c .before .before .least .ensures))
 
 put-requires : tie.Need-put-requires
 put-requires c κs = rw (cut _ _ _ (c .before .before .least .ensures)) (omega arith)
-
-add-t9 : tie.Need-add-t9
-add-t9 c = search needs
-
-same-length : tie.Need-same-length
-same-length c = search needs
 
 returns : tie.Need-returns
 returns c =
@@ -36,4 +21,7 @@ returns c =
     (fits _ _ _ _ (made .make-room .ensures) (fit .least .ensures), writes _ _ _ _ (start .pre) (made .make-room .ensures) (fit .least .ensures) _ (put .put .ensures))
 
 pub write-spec : {M : Type 1} → statement M
-write-spec = tie.close (tie.spec make-room-requires sub-least least-requires slice-aggregate-put put-requires add-t9 same-length returns)
+write-spec =
+    tie.close (tie.spec
+    (λ c. search needs) (λ c. search needs) (λ c. search needs) slice-aggregate-put put-requires (λ c. search needs) (λ c. search needs)
+    returns)

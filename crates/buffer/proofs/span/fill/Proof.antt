@@ -17,18 +17,6 @@ abbrev μ-loop : tie.MeasureT-loop
 loop-holds : tie.Need-loop-holds Inv-loop μ-loop
 loop-holds c = laid-start _ _ _
 
-add-io : tie.Need-add-io Inv-loop μ-loop
-add-io c = omega arith
-
-slice-write-io : tie.Need-slice-write-io Inv-loop μ-loop
-slice-write-io c = omega arith
-
-add-i : tie.Need-add-i Inv-loop μ-loop
-add-i c = omega arith
-
-loop-less : tie.Need-loop-less Inv-loop μ-loop
-loop-less c = omega arith
-
 loop-again : tie.Need-loop-again Inv-loop μ-loop
 loop-again c =
     let head = c .before in
@@ -36,23 +24,10 @@ loop-again c =
     let n = length-replicate (a .n) (a .v) in
     laid-turn _ _ _ _ _ _ (omega arith) (head .loop .inv) (omega arith) (sym (getD-replicate (a .n) (head .loop .i) (a .v) 0 (c .loop-test .taken)))
 
-same-length : tie.Need-same-length Inv-loop μ-loop
-same-length c = search needs
-
 returns : tie.Need-returns Inv-loop μ-loop
 returns c = laid-end _ _ _ _ _ (c .before .loop .inv) (omega (arith, length-replicate (c .before .before .args .n) (c .before .before .args .v)))
 
 pub fill-spec : {M : Type 1} → statement M
 fill-spec =
-    tie.close
-    (tie.spec
-    Inv-loop
-    μ-loop
-    loop-holds
-    add-io
-    slice-write-io
-    add-i
-    loop-less
-    loop-again
-    same-length
-    returns)
+    tie.close (tie.spec Inv-loop μ-loop
+    loop-holds (λ c. omega arith) (λ c. omega arith) (λ c. omega arith) (λ c. omega arith) loop-again (λ c. search needs) returns)

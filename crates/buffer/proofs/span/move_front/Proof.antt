@@ -18,21 +18,6 @@ abbrev μ-loop : tie.MeasureT-loop
 loop-holds : tie.Need-loop-holds Inv-loop μ-loop
 loop-holds c = laid-start _ _ _
 
-add-io : tie.Need-add-io Inv-loop μ-loop
-add-io c = omega arith
-
-slice-read-io : tie.Need-slice-read-io Inv-loop μ-loop
-slice-read-io c = omega arith
-
-slice-write-io : tie.Need-slice-write-io Inv-loop μ-loop
-slice-write-io c = omega arith
-
-add-i : tie.Need-add-i Inv-loop μ-loop
-add-i c = omega arith
-
-loop-less : tie.Need-loop-less Inv-loop μ-loop
-loop-less c = omega arith
-
 loop-again : tie.Need-loop-again Inv-loop μ-loop
 loop-again c =
     let turn = c .before in
@@ -40,9 +25,6 @@ loop-again c =
     let a = head .before .args in
     let n = length-part (a .from) (a .n) (a .io .now) (head .before .pre) in
     rw zero-add at (laid-turn _ _ _ _ _ _ (omega arith) (head .loop .inv) (omega arith) (unmoved _ _ _ _ _ (head .loop .inv) (turn .loop-test .taken) (head .before .pre)))
-
-same-length : tie.Need-same-length Inv-loop μ-loop
-same-length c = search needs
 
 returns : tie.Need-returns Inv-loop μ-loop
 returns c =
@@ -52,16 +34,6 @@ returns c =
 
 pub move-front-spec : {M : Type 1} → statement M
 move-front-spec =
-    tie.close
-    (tie.spec
-    Inv-loop
-    μ-loop
-    loop-holds
-    add-io
-    slice-read-io
-    slice-write-io
-    add-i
-    loop-less
-    loop-again
-    same-length
-    returns)
+    tie.close (tie.spec Inv-loop μ-loop
+    loop-holds (λ c. omega arith) (λ c. omega arith) (λ c. omega arith) (λ c. omega arith) (λ c. omega arith) loop-again
+    (λ c. search needs) returns)

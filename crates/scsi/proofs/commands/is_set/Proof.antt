@@ -4,11 +4,5 @@ use Rattle.scsi.proofs.Laws.{ways}
 use Rattle.scsi.proofs.commands.is_set.Statement.{statement}
 use Rattle.scsi.proofs.commands.is_set.Tie as tie
 
-bits-of-requires : tie.Need-bits-of-requires
-bits-of-requires c κs = search needs
-
-returns : tie.Need-returns
-returns c = search (ways, needs)
-
 pub is-set-spec : {M : Type 1} → statement M
-is-set-spec = tie.close (tie.spec bits-of-requires returns)
+is-set-spec = tie.close (tie.spec (λ c. search needs) (λ c. search (ways, needs)))

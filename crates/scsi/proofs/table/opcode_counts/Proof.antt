@@ -6,9 +6,6 @@ use Rattle.scsi.proofs.Laws.{ways}
 use Rattle.scsi.proofs.table.opcode_counts.Statement.{statement}
 use Rattle.scsi.proofs.table.opcode_counts.Tie as tie
 
-returns : tie.Need-returns
-returns c = search (ways, needs)
-
 returns-2 : tie.Need-returns-2
 unfolding counts
 returns-2 c = rw (c .before .if1 .left, c .if2 .taken)
@@ -18,4 +15,4 @@ unfolding counts
 returns-3 c = rw (c .before .if1 .left, ne-eqb _ _ (c .if2 .left))
 
 pub opcode-counts-spec : {M : Type 1} → statement M
-opcode-counts-spec = tie.close (tie.spec returns returns-2 returns-3)
+opcode-counts-spec = tie.close (tie.spec (λ c. search (ways, needs)) returns-2 returns-3)

@@ -7,15 +7,6 @@ use Rattle.wrapper.specs.Counters.{fallen}
 use Rattle.wrapper.proofs.counters.left_after.Statement.{statement}
 use Rattle.wrapper.proofs.counters.left_after.Tie as tie
 
-cast-if1 : tie.Need-cast-if1
-cast-if1 c = search needs
-
-cast-t7 : tie.Need-cast-t7
-cast-t7 c = search needs
-
-sub-t8 : tie.Need-sub-t8
-sub-t8 c = search needs
-
 returns : tie.Need-returns
 unfolding fallen
 returns c = refl
@@ -25,4 +16,4 @@ unfolding fallen
 returns-2 c = ap (λ (k : ℕ). record { 0 = k }) (omega arith)
 
 pub left-after-spec : {M : Type 1} → statement M
-left-after-spec = tie.close (tie.spec cast-if1 cast-t7 sub-t8 returns returns-2)
+left-after-spec = tie.close (tie.spec (λ c. search needs) (λ c. search needs) (λ c. search needs) returns returns-2)

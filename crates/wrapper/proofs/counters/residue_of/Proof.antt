@@ -7,9 +7,6 @@ use Rattle.wrapper.specs.Counters.{residueOf}
 use Rattle.wrapper.proofs.counters.residue_of.Statement.{statement}
 use Rattle.wrapper.proofs.counters.residue_of.Tie as tie
 
-sub-t5 : tie.Need-sub-t5
-sub-t5 c = search needs
-
 returns : tie.Need-returns
 unfolding residueOf
 returns c = refl
@@ -19,4 +16,4 @@ unfolding residueOf
 returns-2 c = ap (λ (k : ℕ). record { 0 = k }) (omega arith)
 
 pub residue-of-spec : {M : Type 1} → statement M
-residue-of-spec = tie.close (tie.spec sub-t5 returns returns-2)
+residue-of-spec = tie.close (tie.spec (λ c. search needs) returns returns-2)
