@@ -3,7 +3,7 @@ use Rattle.bbb.proofs.Computing as bbb
 use Rattle.recordbytes.proofs.Computing as recordbytes
 use Rattle.border.specs.Word.{word}
 use Rattle.border.specs.Record.{isHeld, onDevice}
-use Rattle.pollbytes.specs.Poll.{pollOn}
+use Rattle.ringbytes.specs.Poll.{pollOn}
 use Rattle.databytes.specs.Data.{readOn, writeOn, writeAllOn}
 use Rattle.callbytes.specs.Calls.{createOn, statusOn, resetOn, controlOn}
 use Rattle.callbytes.specs.Command.{commandOn, stepOn}
