@@ -4,7 +4,7 @@ use Rattle.calls.proofs.Computing as calls
 use Rattle.recordbytes.proofs.Computing as recordbytes
 use Rattle.border.specs.Word.{word}
 use Rattle.border.specs.Record.{isHeld, onDevice}
-use Rattle.pollbytes.specs.Poll.{pollOn}
+use Rattle.ringbytes.specs.Poll.{pollOn}
 use Rattle.databytes.specs.Data.{readOn, writeOn, writeAllOn}
 use Rattle.callbytes.specs.Calls.{createOn, statusOn, resetOn, controlOn}
 use Rattle.callbytes.specs.Command.{commandOn, stepOn}

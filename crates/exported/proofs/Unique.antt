@@ -7,8 +7,8 @@ use Prim.Native.Nat.{ℕ}
 use denote.Ref.{now}
 use Rattle.fields.proofs.Only.{Only}
 use Rattle.scsi.proofs.Unique as scsi
-use Rattle.pollbytes.specs.Poll.{polls}
-use Rattle.pollbytes.proofs.Unique.{polled-once}
+use Rattle.ringbytes.specs.Poll.{polls}
+use Rattle.ringbytes.proofs.Unique.{polled-once}
 use Rattle.databytes.specs.Data.{moves}
 use Rattle.databytes.proofs.Unique.{moved-once}
 use Rattle.callbytes.proofs.Unique.{left-once, shown-once}

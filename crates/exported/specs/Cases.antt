@@ -12,7 +12,7 @@ use Rattle.calls.specs.declared.Request.{Request}
 use Rattle.recordbytes.specs.Record.{newRecord}
 use Rattle.border.specs.Word.{word}
 use Rattle.border.specs.Record.{isHeld}
-use Rattle.pollbytes.specs.Poll.{polls, pollOn}
+use Rattle.ringbytes.specs.Poll.{polls, pollOn}
 use Rattle.databytes.specs.Data.{moves, readOn, writeOn, writeAllOn}
 use Rattle.callbytes.specs.Calls.{leaves, createOn, statusOn, resetOn, controlOn}
 use Rattle.callbytes.specs.Command.{shows, commandOn, stepOn}

@@ -5,9 +5,10 @@
 //     decode    the decoder's two entries, and BOT's verdict on a message
 mod decode;
 
+use bbb::Turn;
 ghost use mathlib.Core.Path.{_≡_};
 ghost use Rattle.bbb.specs.Poll.{given};
-ghost use Rattle.pollbytes.specs.Poll.{polls, pollOn};
+ghost use Rattle.ringbytes.specs.Poll.{polls, pollOn};
 ghost use Rattle.databytes.specs.Data.{moves, readOn, writeOn, writeAllOn};
 ghost use Rattle.callbytes.specs.Calls.{leaves, createOn, statusOn, resetOn, controlOn};
 ghost use Rattle.callbytes.specs.Command.{shows, commandOn, stepOn};
@@ -32,7 +33,18 @@ pub extern "C" fn souk_poll(
 ) -> u64
     ensures { λ x. ⌜ polls x (now («record» .exit)) (now (io .exit)) (now (packet .exit)) ≡ pollOn (now («record» .entry)) (now (io .entry)) (given (now (packet .entry)) (now (one .entry)) (now (two .entry)) (record { first = first; second = second; write = write })) ⌝ }
 {
-    pollbytes::poll(record, io, packet, one, two, first, second, write)
+    pollbytes::poll(
+        record,
+        io,
+        packet,
+        one,
+        two,
+        Turn {
+            first: first,
+            second: second,
+            write: write,
+        },
+    )
 }
 
 #[no_mangle]

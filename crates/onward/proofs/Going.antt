@@ -11,13 +11,12 @@ use native.Mathlib.Nat.{min-le-right, min-eq-right, max-eq-left}
 use native.Mathlib.Omega.{arith}
 use lib.Dec.{eqb, ltb}
 use lib.ListN.{length, take, drop}
-use lib.Seq.{take-all, take-take}
+use lib.Seq.{take-take}
 use borrow.Table.Steps.{cases}
 use borrow.Author.Tests.{eq-eqb, ne-eqb, eqb-true, le-ltb}
 use Rattle.fields.specs.Field.{get}
 use Rattle.fields.specs.Overlay.{overlay}
 use Rattle.fields.proofs.Bools.{not-false, clash}
-use Rattle.fields.proofs.Overlay.{overlay-whole}
 use Rattle.buffer.specs.declared.Marks.{Marks}
 use Rattle.buffer.specs.Buffer.{Buffer, buffer, at, unread, unreadBytes, room, withRoom, appended, lacksRoom, writtenAll, ready, given, readOff}
 use Rattle.answers.specs.declared.Endpoint.the-variants.{Served}
@@ -275,11 +274,4 @@ pub leaves-taken : (n : Numbers) (io r one : List ℕ) {x : ℕ} {falls : Left} 
     → TakesOn n io r one x l io′
 leaves-taken n io r one ef ea el eio ex = record { told = ex; bytes = el ∙ rw (ea, ef); io = eio }
 
--- ---- a packet through a local array
-
-pub through : (d : List ℕ) (at n : ℕ) (src zeros : List ℕ) {b d′ : List ℕ} → d′ ≡ overlay d at b → b ≡ overlay zeros 0 (take n src) → length src ≡ n → length zeros ≡ n → d′ ≡ overlay d at src
-through d at n src zeros ed eb es ez =
-    let all : take n src ≡ src = take-all n src (omega (arith, es)) in
-    ed ∙ ap (overlay d at) (eb ∙ ap (overlay zeros 0) all ∙ overlay-whole zeros src (es ∙ sym ez))
-
-pub ruleset ways = (sends-6, sends-4, is-steady, may-send, may-take, leaves-sent, leaves-taken, through)
+pub ruleset ways = (sends-6, sends-4, is-steady, may-send, may-take, leaves-sent, leaves-taken)

@@ -1,4 +1,4 @@
--- proofs.Round     a poll through the whole ring, and the call that chooses between the ways
+-- proofs.Short     a poll that goes the short way is 01's poll
 -- proofs.Unique    no second answer satisfies the promise
-pub mod Round
+pub mod Short
 pub mod Unique

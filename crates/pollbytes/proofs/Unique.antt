@@ -1,17 +1,12 @@
 -- No second answer satisfies the promise: what the `ensures` of the poll says is true of one result alone, and of one content of each lent slice
 -- at exit. `Post` is the contract itself, as the check reads it. Assumes nothing.
-use mathlib.Core.Path.{_≡_, sym, ap, _∙_}
-use mathlib.Core.List.{List}
-use Prim.Native.Nat.{ℕ}
+use mathlib.Core.Path.{sym, _∙_}
 use denote.Ref.{now}
 use Rattle.fields.proofs.Only.{Only}
-use Rattle.pollbytes.specs.Poll.{Polled, polls}
+use Rattle.ringbytes.specs.Poll.{polls}
+use Rattle.ringbytes.proofs.Unique.{polled-once}
 use Rattle.pollbytes.proofs.poll.Kinds as poll-kinds
 use Rattle.pollbytes.proofs.poll.Reads as poll
-
--- what a poll leaves tells each part of it; record and buffers are looked at together, beside the result 0
-pub polled-once : {x y : ℕ} {r r′ io io′ p p′ : List ℕ} → polls x r io p ≡ polls y r′ io′ p′ → (x ≡ y) × (polls 0 r io p ≡ polls 0 r′ io′ p′)
-polled-once e = (ap (λ (o : Polled). o .result) e, ap (λ (o : Polled). polls 0 (o .bytes) (o .io) (o .packet)) e)
 
 pub poll-only : Only 5 poll-kinds.ps poll-kinds.r poll.Post (λ κs s. polls 0 (now (s .0)) (now (s .1 .0)) (now (s .1 .1 .0)))
 poll-only κs a x y s t p q = polled-once (p ∙ sym q)

@@ -1,160 +1,45 @@
-// One poll of a record of bytes: in the midst of a transfer, or the checks and then the whole ring.
-use answers::answer_number;
-use bbb::Change;
-use bbb::Report;
+// One poll of a record of bytes: in the midst of a transfer, or any other. The short way can be taken out: what is promised is what the
+// ring promises.
 use bbb::Turn;
-use bbb::fits;
-use bbb::go_on;
-use bbb::is_valid;
-use bbb::open::Opened;
-use bbb::open::open;
-use border::word::stalls_number;
-use border::word::word;
-use device::Numbers;
-use device::Status;
-use device::whole;
 use onward::send_on;
 use onward::sends_on;
 use onward::take_on;
 use onward::takes_on;
-use recordbytes::known;
 use recordbytes::numbers_at;
-use recordbytes::store;
-use wrapper::head_of;
 ghost use mathlib.Core.Path.{_≡_};
-ghost use mathlib.Core.Bool.{true, cond};
-ghost use Prim.Native.Nat.{_<_, _^_};
-ghost use lib.ListN.{length};
-ghost use Rattle.answers.specs.Answers as answers;
-ghost use Rattle.buffer.specs.Buffer.{Sound, buffer};
-ghost use Rattle.device.specs.declared.Status.the-variants.{Absent};
-ghost use Rattle.device.specs.Device.{numbersOf};
-ghost use Rattle.device.specs.Broken.{Whole};
-ghost use Rattle.bbb.specs.Poll.{given, Fits};
-ghost use Rattle.bbb.specs.Phases.{isValidFound, InFront, justRead};
-ghost use Rattle.wrapper.specs.Wrapper.{wrapperOf};
-ghost use Rattle.recordbytes.specs.Layout.{recordSize};
-ghost use Rattle.recordbytes.specs.Record.{isKnown, deviceAt, storeStatus, storeWrapper};
-ghost use Rattle.border.specs.Word as spec;
-ghost use Rattle.pollbytes.specs.Poll.{Keepable, keptChange, polls, pollOn};
+ghost use Rattle.bbb.specs.Poll.{given};
+ghost use Rattle.ringbytes.specs.Poll.{polls, pollOn};
 
-// The wrapper that opening found, if it is valid: it stands in the IO buffer, just in front of the read mark.
-fn keep_wrapper(record: &mut [u8], o: Opened, io: &[u8])
-    requires { ⌜ (length (now «record») ≡ recordSize) × Sound (buffer (now io) (o .marks)) × InFront o ⌝ }
-    ensures { λ _. ⌜ now («record» .exit) ≡ cond (isValidFound (o .found)) (storeWrapper (wrapperOf (justRead (now (io .entry)) (o .marks))) (now («record» .entry))) (now («record» .entry)) ⌝ }
-{
-    let found = o.found;
-    let marks = o.marks;
-    if is_valid(found) {
-        let end = marks.read;
-        let message = &io[end - 31..end];
-        let head = head_of(message);
-        store::wrapper(record, head, &message[15..31]);
-    }
-}
-
-// Entering 0 clears the status.
-fn clear(record: &mut [u8], cleared: bool)
-    requires { ⌜ length (now «record») ≡ recordSize ⌝ }
-    ensures { λ _. ⌜ now («record» .exit) ≡ cond cleared (storeStatus Absent (now («record» .entry))) (now («record» .entry)) ⌝ }
-{
-    if cleared {
-        store::status(record, Status::Absent);
-    }
-}
-
-// What else changed of the record.
-fn keep(record: &mut [u8], c: Change)
-    requires { ⌜ (length (now «record») ≡ recordSize) × Keepable c ⌝ }
-    ensures { λ _. ⌜ now («record» .exit) ≡ keptChange c (now («record» .entry)) ⌝ }
-{
-    let state = c.state;
-    let marks = c.marks;
-    let left = c.left;
-    clear(record, c.cleared);
-    store::state(record, state);
-    store::marks(record, marks);
-    store::left(record, left);
-}
-
-fn told(report: Report) -> u64
-    requires { ⌜ report .sent < 2 ^ 32 ⌝ }
-    ensures { λ x. ⌜ x ≡ spec.word (answers.told (report .outcome) .number) (answers.told (report .outcome) .carried) (spec.stallsNumber (report .stalls)) (report .taken) (report .sent) ⌝ }
-{
-    let outcome = report.outcome;
-    let answer = outcome.answer;
-    let stalls = report.stalls;
-    word(
-        answer_number(answer),
-        outcome.carried,
-        stalls_number(stalls),
-        report.taken,
-        store::narrow(report.sent),
-    )
-}
-
-// The poll of a record that is whole, with offers that fit.
-fn go_round(
-    record: &mut [u8],
-    n: Numbers,
-    io: &mut [u8],
-    packet: &mut [u8],
-    one: &[u8],
-    two: &[u8],
-    turn: Turn,
-) -> u64
-    requires { ⌜ (isKnown (now «record») ≡ true) × (n ≡ numbersOf (deviceAt (now «record»))) × Whole n (length (now io)) × Fits (n .packetsize) (now packet) (now one) (now two) ⌝ }
-    ensures { λ x. ⌜ polls x (now («record» .exit)) (now (io .exit)) (now (packet .exit)) ≡ pollOn (now («record» .entry)) (now (io .entry)) (given (now (packet .entry)) (now (one .entry)) (now (two .entry)) turn) ⌝ }
-{
-    let o = open(n, io, one, turn.first);
-    keep_wrapper(record, o, io);
-    let c = go_on(n, o, io, packet, one, two, turn);
-    let report = c.report;
-    keep(record, c);
-    told(report)
-}
-
-// The two kinds of poll in the midst of a transfer, which most are; they are never 10 or 11. Then 10, then 11, then any other. Half its
-// lines are parameters.
+// The two kinds of poll in the midst of a transfer, which most are; they are never 10 or 11. Then any other. Half its lines are parameters.
 pub fn poll(
     record: &mut [u8],
     io: &mut [u8],
     packet: &mut [u8],
     one: &[u8],
     two: &[u8],
-    first: u8,
-    second: u8,
-    write: u8,
+    turn: Turn,
 ) -> u64
-    ensures { λ x. ⌜ polls x (now («record» .exit)) (now (io .exit)) (now (packet .exit)) ≡ pollOn (now («record» .entry)) (now (io .entry)) (given (now (packet .entry)) (now (one .entry)) (now (two .entry)) (record { first = first; second = second; write = write })) ⌝ }
+    ensures { λ x. ⌜ polls x (now («record» .exit)) (now (io .exit)) (now (packet .exit)) ≡ pollOn (now («record» .entry)) (now (io .entry)) (given (now (packet .entry)) (now (one .entry)) (now (two .entry)) turn) ⌝ }
 {
-    if sends_on(record, io.len(), packet.len(), one.len(), two.len(), write) {
+    if sends_on(
+        record,
+        io.len(),
+        packet.len(),
+        one.len(),
+        two.len(),
+        turn.write,
+    ) {
         return send_on(record, numbers_at(record), io, packet);
     }
-    if takes_on(record, io.len(), packet.len(), one.len(), two.len(), first) {
+    if takes_on(
+        record,
+        io.len(),
+        packet.len(),
+        one.len(),
+        two.len(),
+        turn.first,
+    ) {
         return take_on(record, numbers_at(record), io, one);
     }
-    if !known(record) {
-        return 10;
-    }
-    let n = numbers_at(record);
-    if !whole(n, io.len()) {
-        return 10;
-    }
-    if !fits(n.packetsize, packet.len(), one.len(), two.len()) {
-        return 11;
-    }
-    go_round(
-        record,
-        n,
-        io,
-        packet,
-        one,
-        two,
-        Turn {
-            first: first,
-            second: second,
-            write: write,
-        },
-    )
+    ringbytes::poll(record, io, packet, one, two, turn)
 }

@@ -1,8 +1,8 @@
--- `pollbytes::told` meets its contract: the parts of a report in one number. Assumes nothing.
-use Rattle.pollbytes.proofs.Round.{ways}
+-- `ringbytes::told` meets its contract: the parts of a report in one number. Assumes nothing.
+use Rattle.ringbytes.proofs.Round.{ways}
 use borrow.Author.Needs.{needs}
-use Rattle.pollbytes.proofs.told.Statement.{statement}
-use Rattle.pollbytes.proofs.told.Tie as tie
+use Rattle.ringbytes.proofs.told.Statement.{statement}
+use Rattle.ringbytes.proofs.told.Tie as tie
 
 answer-number-requires : tie.Need-answer-number-requires
 answer-number-requires c κs = search needs

@@ -1,10 +1,10 @@
--- `pollbytes::keep_wrapper` meets its contract: the wrapper in front of the read mark, or none. Assumes nothing.
-use Rattle.pollbytes.proofs.Round.{ways}
+-- `ringbytes::keep_wrapper` meets its contract: the wrapper in front of the read mark, or none. Assumes nothing.
+use Rattle.ringbytes.proofs.Round.{ways}
 use Rattle.bbb.proofs.Polling.{found-31, found-part}
 use native.Mathlib.Omega.{arith}
 use borrow.Author.Needs.{needs}
-use Rattle.pollbytes.proofs.keep_wrapper.Statement.{statement}
-use Rattle.pollbytes.proofs.keep_wrapper.Tie as tie
+use Rattle.ringbytes.proofs.keep_wrapper.Statement.{statement}
+use Rattle.ringbytes.proofs.keep_wrapper.Tie as tie
 
 is-valid-requires : tie.Need-is-valid-requires
 is-valid-requires c κs = search needs

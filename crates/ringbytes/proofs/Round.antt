@@ -1,4 +1,4 @@
--- The poll of a record that is whole, through the whole ring, and what the call that chooses between the ways owes (`ways`). Assumes nothing.
+-- A poll through the whole ring: what the functions of a round owe (`ways`), a round, and the call that tests first. Assumes nothing.
 use mathlib.Core.Path.{_≡_, refl, sym, ap, _∙_, subst}
 use mathlib.Core.Bool.{Bool, true, false, not, cond}
 use mathlib.Core.List.{List}
@@ -30,17 +30,14 @@ use Rattle.bbb.specs.Poll.{Given, Polling, Fits, isFitting, refusing, pollingOf
 use Rattle.bbb.specs.Phases.{openOf, isValidFound, InFront, Opens, opened, openedIo, justRead, wrapperThen, endedOf, goneOn, changedBy}
 use Rattle.bbb.proofs.Polling as bbb
 use Rattle.bbb.proofs.Keeping.{call-whole, call-sizes}
-use Rattle.recordbytes.specs.Layout.{recordSize}
 use Rattle.recordbytes.specs.Record.{isKnown, deviceAt, joined, storeState, storeMarks, storeLeft, storeStatus, storeWrapper, storeDevice}
 use Rattle.recordbytes.proofs.Stored.{Known, is-known}
-use Rattle.recordbytes.proofs.Parts.{device-kept, polled, moved-to, moved-within, parsed}
+use Rattle.recordbytes.proofs.Parts.{device-kept, polled, moved-to, parsed}
 use Rattle.border.specs.Word.{word, plain, stallsNumber}
 use Rattle.border.specs.Record.{onDevice}
-use Rattle.onward.specs.Onward.{Ready, MaySend, SendsOn, MayTake, TakesOn}
-use Rattle.pollbytes.specs.Poll.{Keepable, keptChange, polls, pollOn}
-use Rattle.pollbytes.specs.Poll as spec
+use Rattle.ringbytes.specs.Poll.{Keepable, keptChange, polls, pollOn}
+use Rattle.ringbytes.specs.Poll as spec
 use Rattle.border.proofs.Lending.{made}
-use Rattle.onward.proofs.Going.{sentOn, send-rule, takenOn, take-rule}
 
 -- ---- the functions of a round
 
@@ -147,7 +144,7 @@ pub fits-there : (p : ℕ) (packet one two : List ℕ) {u : Bool} → u ≡ isFi
 fits-there p packet one two {u} eu q = bbb.is-fitting p packet one two eu (not-false u q)
 
 module _ (r io : List ℕ) (g : Given) (is : isKnown r ≡ true) where
-  on : (o : Polling) → pollCall (deviceAt r) io g ≡ o → spec.polled r o ≡ pollOn r io g
+  pub on : (o : Polling) → pollCall (deviceAt r) io g ≡ o → spec.polled r o ≡ pollOn r io g
   unfolding pollOn
   on o e = ap (spec.polled r) (sym e) ∙ made r (polls (plain 10) r io (g .packet)) (λ (d : Device). spec.polled r (pollCall d io g)) is
 
@@ -170,55 +167,5 @@ module _ (r io : List ℕ) (g : Given) {b : Bool} (eb : b ≡ isKnown r) where
         let is = known-there r eb qb in
         let unfit : isFitting (deviceAt r .packetsize) (length (g .packet)) (length (g .one)) (length (g .two)) ≡ false = sym (rw en at eu) ∙ not-true u q in
         sym (same r io g is 11) ∙ on r io g is (refusing (deviceAt r) io g 11) (rw (← en, ← ev, not-false v qv, unfit))
-
--- ---- in the midst of a transfer
-
-module _ (r io packet one two : List ℕ) (y : Ready r (length io) (length packet) (length one) (length two)) where
-  ready-long : length r ≡ recordSize
-  ready-long = is-known r (y .known) .long
-
-  offers-fit : Fits (deviceAt r .packetsize) packet one two
-  offers-fit = bbb.is-fitting (deviceAt r .packetsize) packet one two refl (y .fits)
-
-module _ (r : List ℕ) {len packet one two turn : ℕ} {t : Bool} where
-  pub send-long : (t ≡ true → MaySend r len packet one two turn) → t ≡ true → length r ≡ recordSize
-  send-long tells q = is-known r (tells q .ready .known) .long
-
-  pub take-long : (t ≡ true → MayTake r len packet one two turn) → t ≡ true → length r ≡ recordSize
-  take-long tells q = is-known r (tells q .ready .known) .long
-
-module _ (r io packet one two : List ℕ) {turn : ℕ} {t : Bool} where
-  pub send-needs : (t ≡ true → MaySend r (length io) (length packet) (length one) (length two) turn) → t ≡ true → {n : Numbers} → n ≡ numbersOf (deviceAt r)
-      → (length r ≡ recordSize) × Whole n (length io) × (n .packetsize ≤ length packet) × (n .packetsize ≤ n .marks .write - n .marks .read)
-  send-needs tells q en =
-      let y = tells q in
-      rw en (ready-long r io packet one two (y .ready), y .ready .whole, offers-fit r io packet one two (y .ready) .into, y .sends .unread)
-
-  pub take-needs : (t ≡ true → MayTake r (length io) (length packet) (length one) (length two) turn) → t ≡ true → {n : Numbers} → n ≡ numbersOf (deviceAt r)
-      → (length r ≡ recordSize) × Whole n (length io) × (length one ≤ n .packetsize) × (n .packetsize ≤ length io - n .marks .write)
-  take-needs tells q en =
-      let y = tells q in
-      rw en (ready-long r io packet one two (y .ready), y .ready .whole, offers-fit r io packet one two (y .ready) .first, y .takes .room)
-
-module _ (r io : List ℕ) (g : Given) {t : Bool} where
-  pub poll-sends : (t ≡ true → MaySend r (length io) (length (g .packet)) (length (g .one)) (length (g .two)) (g .turn .write)) → t ≡ true → {n : Numbers} → n ≡ numbersOf (deviceAt r)
-      → {x : ℕ} {r′ packet′ : List ℕ} → SendsOn n io r (g .packet) x r′ packet′ → polls x r′ io packet′ ≡ pollOn r io g
-  poll-sends tells q en {x} {r′} {packet′} h =
-      let y = tells q in
-      let whole = y .ready .whole in
-      let fits = offers-fit r io (g .packet) (g .one) (g .two) (y .ready) in
-      let it : SendsOn (numbersOf (deviceAt r)) io r (g .packet) x r′ packet′ = subst (λ (m : Numbers). SendsOn m io r (g .packet) x r′ packet′) en h in
-      let kept : r′ ≡ storeDevice (sentOn (deviceAt r) io g whole fits .device) r = it .bytes ∙ sym (moved-to r (is-known r (y .ready .known)) _ _ _) in
-      rw (it .told, it .packet, kept) (on r io g (y .ready .known) (sentOn (deviceAt r) io g whole fits) (send-rule (deviceAt r) io g whole fits (y .sends)))
-
-  pub poll-takes : (t ≡ true → MayTake r (length io) (length (g .packet)) (length (g .one)) (length (g .two)) (g .turn .first)) → t ≡ true → {n : Numbers} → n ≡ numbersOf (deviceAt r)
-      → {x : ℕ} {r′ io′ : List ℕ} → TakesOn n io r (g .one) x r′ io′ → polls x r′ io′ (g .packet) ≡ pollOn r io g
-  poll-takes tells q en {x} {r′} {io′} h =
-      let y = tells q in
-      let whole = y .ready .whole in
-      let fits = offers-fit r io (g .packet) (g .one) (g .two) (y .ready) in
-      let it : TakesOn (numbersOf (deviceAt r)) io r (g .one) x r′ io′ = subst (λ (m : Numbers). TakesOn m io r (g .one) x r′ io′) en h in
-      let kept : r′ ≡ storeDevice (takenOn (deviceAt r) io g whole fits .device) r = it .bytes ∙ sym (moved-within r (is-known r (y .ready .known)) _ _) in
-      rw (it .told, it .io, kept) (on r io g (y .ready .known) (takenOn (deviceAt r) io g whole fits) (take-rule (deviceAt r) io g whole fits (y .takes)))
 
 pub ruleset ways = (tells, clears, clears-not, keeps, keeps-found, keeps-none)

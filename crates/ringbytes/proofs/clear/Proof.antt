@@ -1,8 +1,8 @@
--- `pollbytes::clear` meets its contract: the status goes, or stays. Assumes nothing.
-use Rattle.pollbytes.proofs.Round.{ways}
+-- `ringbytes::clear` meets its contract: the status goes, or stays. Assumes nothing.
+use Rattle.ringbytes.proofs.Round.{ways}
 use borrow.Author.Needs.{needs}
-use Rattle.pollbytes.proofs.clear.Statement.{statement}
-use Rattle.pollbytes.proofs.clear.Tie as tie
+use Rattle.ringbytes.proofs.clear.Statement.{statement}
+use Rattle.ringbytes.proofs.clear.Tie as tie
 
 status-requires : tie.Need-status-requires
 status-requires c κs = search needs

@@ -1,10 +1,10 @@
--- `pollbytes::go_round` meets its contract: what opening, the ring and the stores leave is what 01 says. Assumes nothing.
+-- `ringbytes::go_round` meets its contract: what opening, the ring and the stores leave is what 01 says. Assumes nothing.
 use mathlib.Core.Path.{refl, _∙_}
 use borrow.Author.Needs.{needs}
 use Rattle.border.proofs.Lending.{known-long}
-use Rattle.pollbytes.proofs.Round.{keepable, rounds}
-use Rattle.pollbytes.proofs.go_round.Statement.{statement}
-use Rattle.pollbytes.proofs.go_round.Tie as tie
+use Rattle.ringbytes.proofs.Round.{keepable, rounds}
+use Rattle.ringbytes.proofs.go_round.Statement.{statement}
+use Rattle.ringbytes.proofs.go_round.Tie as tie
 
 open-requires : tie.Need-open-requires
 open-requires c κs = search needs

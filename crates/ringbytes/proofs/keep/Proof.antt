@@ -1,8 +1,8 @@
--- `pollbytes::keep` meets its contract: the parts of a change, stored in turn. Assumes nothing.
-use Rattle.pollbytes.proofs.Round.{ways}
+-- `ringbytes::keep` meets its contract: the parts of a change, stored in turn. Assumes nothing.
+use Rattle.ringbytes.proofs.Round.{ways}
 use borrow.Author.Needs.{needs}
-use Rattle.pollbytes.proofs.keep.Statement.{statement}
-use Rattle.pollbytes.proofs.keep.Tie as tie
+use Rattle.ringbytes.proofs.keep.Statement.{statement}
+use Rattle.ringbytes.proofs.keep.Tie as tie
 
 clear-requires : tie.Need-clear-requires
 clear-requires c κs = search needs
