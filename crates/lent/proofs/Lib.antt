@@ -1,16 +1,6 @@
--- proofs.Data        what a thin call asks of the plain types that it names
--- proofs.Frame       a list of locals as one item: allocated, given arguments, freed
--- proofs.Passed      the parameters that a thin call passes on, as the machine sees them
--- proofs.Thin        a thin call over a lent record, walked once for every such call
--- proofs.Law         the law: a thin call meets its contract if the core by value meets its own
 -- proofs.Types       the plain types of the calls here
 -- proofs.Promises    what the law is told of each call
 -- proofs.Unique      no contract has a second answer
-pub mod Data
-pub mod Frame
-pub mod Passed
-pub mod Thin
-pub mod Law
 pub mod Types
 pub mod Promises
 pub mod Unique

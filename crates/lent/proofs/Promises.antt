@@ -11,7 +11,7 @@ use Rattle.calls.specs.Data.{readCall, writeCall, writeAllCall}
 use Rattle.calls.specs.Bus.{resetCall, controlCall}
 use Rattle.lent.specs.Lent.{pollingWith, statingWith, movingWith, handlingWith}
 use Rattle.lent.proofs.Types.{device, turn, report, polled, firmware-status, answer, stated, count, moved, request, controlled, handled}
-use Rattle.lent.proofs.Law.{Kind, mutable, shared, given, Promise}
+use Rattle.thin.proofs.Law.{Kind, mutable, shared, given, Promise}
 
 -- io, packet, one, two, turn
 abbrev pub poll-others : List (Kind 4)

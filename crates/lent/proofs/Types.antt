@@ -1,6 +1,6 @@
 -- The plain types that the calls name, as `Data.antt` asks for them, of the modules that a check makes of each type. Assumes nothing.
 use mathlib.Core.Path.{refl}
-use Rattle.lent.proofs.Data.{Data, Pair, struct-data, enum-data, struct-pair}
+use Rattle.thin.proofs.Data.{Data, Pair, struct-data, enum-data, struct-pair}
 use Rattle.answers.proofs.Answer as Answer
 use Rattle.answers.proofs.Answer.Laws as Answer′
 use Rattle.device.proofs.Device as Device

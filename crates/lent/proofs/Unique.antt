@@ -21,9 +21,9 @@ use denote.Triple.End.{all, Outs}
 use denote.Triple.Clauses.{Ended, Clauses, AtExit}
 use Rattle.bbb.proofs.Unique as bbb
 use Rattle.calls.proofs.Unique as calls
-use Rattle.lent.proofs.Data.{Data, Pair}
+use Rattle.thin.proofs.Data.{Data, Pair}
 use Rattle.lent.proofs.Types.{device, report, polled, answer, stated, count, moved, controlled, handled}
-use Rattle.lent.proofs.Law.{Kind, slots, Promise}
+use Rattle.thin.proofs.Law.{Kind, slots, Promise}
 use Rattle.lent.proofs.Promises.{poll-others, poll-promise, set-status-others, set-status-promise}
 use Rattle.lent.proofs.Promises.{read-data-others, read-data-promise, write-data-others, write-data-promise, try-write-data-all-others, try-write-data-all-promise}
 use Rattle.lent.proofs.Promises.{reset-others, reset-promise, control-others, control-promise}

@@ -1,6 +1,6 @@
 -- `lent::control` meets its contract, by the law of a thin call. Assumes nothing.
 use Rattle.lent.proofs.Types.{device, controlled, handled}
-use Rattle.lent.proofs.Law.{thin-spec}
+use Rattle.thin.proofs.Law.{thin-spec}
 use Rattle.lent.proofs.Promises.{control-others, control-promise}
 use Rattle.calls.proofs.control.Symbol as core
 use Rattle.calls.proofs.control.Met.{met}

@@ -1,6 +1,6 @@
 -- `lent::poll` meets its contract, by the law of a thin call. Assumes nothing.
 use Rattle.lent.proofs.Types.{device, report, polled}
-use Rattle.lent.proofs.Law.{thin-spec}
+use Rattle.thin.proofs.Law.{thin-spec}
 use Rattle.lent.proofs.Promises.{poll-others, poll-promise}
 use Rattle.bbb.proofs.poll.Symbol as core
 use Rattle.bbb.proofs.poll.Met.{met}

@@ -1,6 +1,6 @@
 -- `lent::read_data` meets its contract, by the law of a thin call. Assumes nothing.
 use Rattle.lent.proofs.Types.{device, count, moved}
-use Rattle.lent.proofs.Law.{thin-spec}
+use Rattle.thin.proofs.Law.{thin-spec}
 use Rattle.lent.proofs.Promises.{read-data-others, read-data-promise}
 use Rattle.calls.proofs.read_data.Symbol as core
 use Rattle.calls.proofs.read_data.Met.{met}

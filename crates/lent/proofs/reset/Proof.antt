@@ -1,6 +1,6 @@
 -- `lent::reset` meets its contract, by the law of a thin call. Assumes nothing.
 use Rattle.lent.proofs.Types.{device, controlled, handled}
-use Rattle.lent.proofs.Law.{thin-spec}
+use Rattle.thin.proofs.Law.{thin-spec}
 use Rattle.lent.proofs.Promises.{reset-others, reset-promise}
 use Rattle.calls.proofs.reset.Symbol as core
 use Rattle.calls.proofs.reset.Met.{met}

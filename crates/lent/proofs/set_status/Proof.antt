@@ -1,6 +1,6 @@
 -- `lent::set_status` meets its contract, by the law of a thin call. Assumes nothing.
 use Rattle.lent.proofs.Types.{device, answer, stated}
-use Rattle.lent.proofs.Law.{thin-spec}
+use Rattle.thin.proofs.Law.{thin-spec}
 use Rattle.lent.proofs.Promises.{set-status-others, set-status-promise}
 use Rattle.calls.proofs.set_status.Symbol as core
 use Rattle.calls.proofs.set_status.Met.{met}

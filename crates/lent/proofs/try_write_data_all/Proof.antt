@@ -1,6 +1,6 @@
 -- `lent::try_write_data_all` meets its contract, by the law of a thin call. Assumes nothing.
 use Rattle.lent.proofs.Types.{device, count, moved}
-use Rattle.lent.proofs.Law.{thin-spec}
+use Rattle.thin.proofs.Law.{thin-spec}
 use Rattle.lent.proofs.Promises.{try-write-data-all-others, try-write-data-all-promise}
 use Rattle.calls.proofs.try_write_data_all.Symbol as core
 use Rattle.calls.proofs.try_write_data_all.Met.{met}

@@ -19,8 +19,8 @@ use types.Kit.{Given, Item, _⊛_, Goal, Post, runs, Step, step, _$_, move, spli
 use types.Run.{Opds, look, init, stop, hop, fld, load, addr, and-then, no-more, assigns}
 use types.Part.{agg, whole, sub, look-in}
 use denote.Slice.{sliceVal, sliceTy}
-use Rattle.lent.proofs.Data.{Fits}
-use Rattle.lent.proofs.Frame.{Addresses, Values, values, env, cell, right, rooms, cells, at-local, opds-as}
+use Rattle.thin.proofs.Data.{Fits}
+use Rattle.thin.proofs.Frame.{Addresses, Values, values, env, cell, right, rooms, cells, at-local, opds-as}
 
 pub data Passed : Type 0 where
   lends : Lifetime → Passed

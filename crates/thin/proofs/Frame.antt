@@ -20,7 +20,7 @@ use ghost.Atoms.{Atoms}
 use types.Kit.{Given, Item, ‵, _⊛_, ⋆, Goal, allocs, passes, frees, prop, Seq, Step, step, _$_, move, drop, split, join, done}
 use types.Run.{Walks, Finds, Opds, init, forget, alloc1, pass1, pass0, free1}
 use denote.Steps.{nothing}
-use Rattle.lent.proofs.Data.{Fits}
+use Rattle.thin.proofs.Data.{Fits}
 
 abbrev pub Addresses : List Ty → Type 0
 Addresses [] = Unit {0}

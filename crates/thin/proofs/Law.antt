@@ -34,10 +34,10 @@ use denote.Steps.{said}
 use denote.Triple.End.{Kepts, all, Outs}
 use denote.Triple.Statement.{Contract, Triple}
 use denote.Triple.Table.{entered, cited}
-use Rattle.lent.proofs.Data.{Data, Pair}
-use Rattle.lent.proofs.Frame.{values}
-use Rattle.lent.proofs.Passed.{Passed, lends, copies, Helds, tys, helds}
-use Rattle.lent.proofs.Thin.{Core, thin, Exit, thin-runs}
+use Rattle.thin.proofs.Data.{Data, Pair}
+use Rattle.thin.proofs.Frame.{values}
+use Rattle.thin.proofs.Passed.{Passed, lends, copies, Helds, tys, helds}
+use Rattle.thin.proofs.Thin.{Core, thin, Exit, thin-runs}
 
 -- a slice's number is that of its lifetime among the core's
 pub data Kind (n : ℕ) : Type 2 where

@@ -41,10 +41,10 @@ use denote.Triple.End.{Kepts, Fins, Outs, outs, lastsOf}
 use denote.Triple.Clauses.{Ended, Clauses, closing, ensured}
 use denote.Triple.Walked.{says}
 use denote.Exit.{yes, Last}
-use Rattle.lent.proofs.Data.{Data, Pair, pair-ty}
-use Rattle.lent.proofs.Frame.{Addresses, values, locals, env, allots, passes-all, frees-all, at-local, opds-as}
-use Rattle.lent.proofs.Passed.{Passed, Helds, tys, anew, helds, helds-anew, behind, borrowing, operands, borrows, passed-on}
-use Rattle.lent.proofs.Passed.{Found, whole-env, first-found, second-found, found}
+use Rattle.thin.proofs.Data.{Data, Pair, pair-ty}
+use Rattle.thin.proofs.Frame.{Addresses, values, locals, env, allots, passes-all, frees-all, at-local, opds-as}
+use Rattle.thin.proofs.Passed.{Passed, Helds, tys, anew, helds, helds-anew, behind, borrowing, operands, borrows, passed-on}
+use Rattle.thin.proofs.Passed.{Found, whole-env, first-found, second-found, found}
 
 module _ (D X : Data) (O : Pair D X) (n : ℕ) (ss : List (Slot n)) (kept : Kepts ss)
     (Rel : (κs : Lfts n) → D .row .Denot → Denots (typesAt ss κs) → D .row .Denot → X .row .Denot → Outs κs ss kept → Type 0) where

@@ -1,0 +1,10 @@
+-- proofs.Data      what a thin call asks of the plain types that it names
+-- proofs.Frame     a list of locals as one item: allocated, given arguments, freed
+-- proofs.Passed    the parameters that a thin call passes on, as the machine sees them
+-- proofs.Thin      a thin call over a lent record, walked once for every such call
+-- proofs.Law       the law: a thin call meets its contract if the core by value meets its own
+pub mod Data
+pub mod Frame
+pub mod Passed
+pub mod Thin
+pub mod Law
