@@ -5,6 +5,7 @@ use scsi::numbers::decode_into;
 use scsi::numbers::decode_told_into;
 use wrapper::Wrapper;
 use wrapper::direction_number;
+use wrapper::in_status;
 use wrapper::status::StatusByte;
 use wrapper::verdict::verdict_number;
 ghost use mathlib.Core.Path.{_≡_};
@@ -59,7 +60,7 @@ pub extern "C" fn wrapper_status(
 ) -> u32
     ensures { λ r. ⌜ status r (now (bytes .exit)) ≡ shownStatus tag length figure byte (now (bytes .entry)) ⌝ }
 {
-    if bytes.len() != 13 {
+    if bytes.len() != in_status::SIZE {
         return 10;
     }
     let known = wrapper::status::status_of(byte);

@@ -1,7 +1,9 @@
 // The device record as C and Rust keep it: 52 bytes, each field at a fixed place; specs/Layout.antt has the table.
+//     in_record                where each field stands
 //     known                    whether bytes are a record at all
 //     numbers_at, device_at    what they hold
 //     store                    a device's parts written back: only the fields that changed
+pub mod in_record;
 pub mod store;
 
 use buffer::Marks;
@@ -29,19 +31,19 @@ ghost use Rattle.recordbytes.specs.Record.{isKnown, statusBy, statusAt, 
 pub fn known(r: &[u8]) -> bool
     ensures { λ x. ⌜ x ≡ isKnown (now (r .entry)) ⌝ }
 {
-    if r.len() != 52 {
+    if r.len() != in_record::SIZE {
         return false;
     }
-    if 8 < byte(r, 2) {
+    if 8 < byte(r, in_record::STATE) {
         return false;
     }
-    if 1 < byte(r, 3) {
+    if 1 < byte(r, in_record::STATUS_PRESENT) {
         return false;
     }
-    if 2 < byte(r, 24) {
+    if 2 < byte(r, in_record::STATUS) {
         return false;
     }
-    byte(r, 25) <= 2
+    byte(r, in_record::DIRECTION) <= 2
 }
 
 fn status_by(flag: u8, number: u8, residue: u32) -> Status
@@ -58,7 +60,11 @@ fn status_at(r: &[u8]) -> Status
     requires { ⌜ length (now r) ≡ field.recordSize ⌝ }
     ensures { λ x. ⌜ x ≡ statusAt (now (r .entry)) ⌝ }
 {
-    status_by(byte(r, 3), byte(r, 24), le32(r, 20))
+    status_by(
+        byte(r, in_record::STATUS_PRESENT),
+        byte(r, in_record::STATUS),
+        le32(r, in_record::RESIDUE),
+    )
 }
 
 fn marks_at(r: &[u8]) -> Marks
@@ -66,8 +72,8 @@ fn marks_at(r: &[u8]) -> Marks
     ensures { λ x. ⌜ x ≡ marksAt (now (r .entry)) ⌝ }
 {
     Marks {
-        read: le32(r, 8) as usize,
-        write: le32(r, 12) as usize,
+        read: le32(r, in_record::READ_MARK) as usize,
+        write: le32(r, in_record::WRITE_MARK) as usize,
     }
 }
 
@@ -76,22 +82,22 @@ fn block_at(r: &[u8]) -> [u8; 16]
     ensures { λ x. ⌜ x ≡ bytesAt field.block (now (r .entry)) ⌝ }
 {
     [
-        r[36],
-        r[37],
-        r[38],
-        r[39],
-        r[40],
-        r[41],
-        r[42],
-        r[43],
-        r[44],
-        r[45],
-        r[46],
-        r[47],
-        r[48],
-        r[49],
-        r[50],
-        r[51],
+        r[in_record::BLOCK],
+        r[in_record::BLOCK + 1],
+        r[in_record::BLOCK + 2],
+        r[in_record::BLOCK + 3],
+        r[in_record::BLOCK + 4],
+        r[in_record::BLOCK + 5],
+        r[in_record::BLOCK + 6],
+        r[in_record::BLOCK + 7],
+        r[in_record::BLOCK + 8],
+        r[in_record::BLOCK + 9],
+        r[in_record::BLOCK + 10],
+        r[in_record::BLOCK + 11],
+        r[in_record::BLOCK + 12],
+        r[in_record::BLOCK + 13],
+        r[in_record::BLOCK + 14],
+        r[in_record::BLOCK + 15],
     ]
 }
 
@@ -99,14 +105,14 @@ fn wrapper_at(r: &[u8]) -> Wrapper
     requires { ⌜ length (now r) ≡ field.recordSize ⌝ }
     ensures { λ x. ⌜ x ≡ wrapperAt (now (r .entry)) ⌝ }
 {
-    let direction = direction_of_number(byte(r, 25));
+    let direction = direction_of_number(byte(r, in_record::DIRECTION));
     let block = block_at(r);
     Wrapper {
-        tag: le32(r, 28),
-        length: le32(r, 32),
+        tag: le32(r, in_record::TAG),
+        length: le32(r, in_record::DECLARED),
         direction: direction,
-        lun: byte(r, 26),
-        blocklength: byte(r, 27),
+        lun: byte(r, in_record::LUN),
+        blocklength: byte(r, in_record::BLOCK_LENGTH),
         block: block,
     }
 }
@@ -116,9 +122,9 @@ fn fixed_at(r: &[u8]) -> Fixed
     ensures { λ x. ⌜ x ≡ fixedAt (now (r .entry)) ⌝ }
 {
     Fixed {
-        packetsize: byte(r, 0) as usize,
-        maxlun: byte(r, 1),
-        size: le32(r, 4) as usize,
+        packetsize: byte(r, in_record::PACKET_SIZE) as usize,
+        maxlun: byte(r, in_record::MAX_LUN),
+        size: le32(r, in_record::IO_LENGTH) as usize,
     }
 }
 
@@ -128,7 +134,7 @@ pub fn device_at(r: &[u8]) -> Device
     ensures { λ x. ⌜ x ≡ deviceAt (now (r .entry)) ⌝ }
 {
     let fixed = fixed_at(r);
-    let state = state_of_number(byte(r, 2));
+    let state = state_of_number(byte(r, in_record::STATE));
     let marks = marks_at(r);
     let wrapper = wrapper_at(r);
     let status = status_at(r);
@@ -138,7 +144,7 @@ pub fn device_at(r: &[u8]) -> Device
         marks: marks,
         wrapper: wrapper,
         status: status,
-        left: Left(le32(r, 16)),
+        left: Left(le32(r, in_record::LEFT)),
     }
 }
 

@@ -1,4 +1,5 @@
 // A device's parts into the bytes of a record. Where a number stands in its field already, nothing is written.
+use crate::in_record;
 use buffer::Marks;
 use buffer::span::put;
 use device::Fixed;
@@ -51,33 +52,33 @@ pub fn new(r: &mut [u8], fixed: Fixed)
     requires { ⌜ (length (now r) ≡ field.recordSize) × Fixable fixed ⌝ }
     ensures { λ _. ⌜ now (r .exit) ≡ newRecord fixed ⌝ }
 {
-    let zeros = [0u8; 52];
+    let zeros = [0u8; in_record::SIZE];
     put(r, 0, &zeros);
-    store8(r, 0, (fixed.packetsize % 256) as u8);
-    store8(r, 1, fixed.maxlun);
-    store32(r, 4, narrow(fixed.size));
+    store8(r, in_record::PACKET_SIZE, (fixed.packetsize % 256) as u8);
+    store8(r, in_record::MAX_LUN, fixed.maxlun);
+    store32(r, in_record::IO_LENGTH, narrow(fixed.size));
 }
 
 pub fn state(r: &mut [u8], state: State)
     requires { ⌜ length (now r) ≡ field.recordSize ⌝ }
     ensures { λ _. ⌜ now (r .exit) ≡ storeState state (now (r .entry)) ⌝ }
 {
-    store8(r, 2, state_number(state));
+    store8(r, in_record::STATE, state_number(state));
 }
 
 pub fn marks(r: &mut [u8], marks: Marks)
     requires { ⌜ (length (now r) ≡ field.recordSize) × (marks .read < 2 ^ 32) × (marks .write < 2 ^ 32) ⌝ }
     ensures { λ _. ⌜ now (r .exit) ≡ storeMarks marks (now (r .entry)) ⌝ }
 {
-    store32(r, 8, narrow(marks.read));
-    store32(r, 12, narrow(marks.write));
+    store32(r, in_record::READ_MARK, narrow(marks.read));
+    store32(r, in_record::WRITE_MARK, narrow(marks.write));
 }
 
 pub fn left(r: &mut [u8], left: Left)
     requires { ⌜ length (now r) ≡ field.recordSize ⌝ }
     ensures { λ _. ⌜ now (r .exit) ≡ storeLeft left (now (r .entry)) ⌝ }
 {
-    store32(r, 16, left.0);
+    store32(r, in_record::LEFT, left.0);
 }
 
 pub fn status(r: &mut [u8], status: Status)
@@ -85,11 +86,11 @@ pub fn status(r: &mut [u8], status: Status)
     ensures { λ _. ⌜ now (r .exit) ≡ storeStatus status (now (r .entry)) ⌝ }
 {
     match status {
-        Status::Absent => store8(r, 3, 0),
+        Status::Absent => store8(r, in_record::STATUS_PRESENT, 0),
         Status::Present(byte, residue) => {
-            store8(r, 3, 1);
-            store32(r, 20, residue.0);
-            store8(r, 24, status_number(byte));
+            store8(r, in_record::STATUS_PRESENT, 1);
+            store32(r, in_record::RESIDUE, residue.0);
+            store8(r, in_record::STATUS, status_number(byte));
         }
     }
 }
@@ -100,10 +101,10 @@ pub fn wrapper(r: &mut [u8], head: Head, block: &[u8])
     ensures { λ _. ⌜ now (r .exit) ≡ storeWrapper (joined head (now (block .entry))) (now (r .entry)) ⌝ }
 {
     let direction = head.direction;
-    store8(r, 25, direction_number(direction));
-    store8(r, 26, head.lun);
-    store8(r, 27, head.blocklength);
-    store32(r, 28, head.tag);
-    store32(r, 32, head.length);
-    put(r, 36, block);
+    store8(r, in_record::DIRECTION, direction_number(direction));
+    store8(r, in_record::LUN, head.lun);
+    store8(r, in_record::BLOCK_LENGTH, head.blocklength);
+    store32(r, in_record::TAG, head.tag);
+    store32(r, in_record::DECLARED, head.length);
+    put(r, in_record::BLOCK, block);
 }

@@ -2,6 +2,8 @@
 // Every entry of this crate takes any bytes of any length and any number, and ends with an answer. Two functions are inner ones for the
 // layers above and require 31 bytes that were tested: `head_of` and `read_wrapper`.
 pub mod counters;
+pub mod in_status;
+pub mod in_wrapper;
 pub mod status;
 pub mod verdict;
 
@@ -14,7 +16,7 @@ ghost use Rattle.fields.specs.Field.{bytesAt};
 ghost use Rattle.wrapper.specs.Wrapper.{CBWCB, isSigned, isBlockLength, isValid, directionOf, directionNumber, directionOfNumber, wrapperOf, headOf, blank, parsed};
 
 // 55 53 42 43, little-endian.
-const SIGNATURE: u32 = 0x43425355;
+const SIGNED: u32 = 0x43425355;
 
 pub enum DataDirection {
     Out,
@@ -50,8 +52,8 @@ pub struct Parsed {
 pub(crate) fn signed(message: &[u8]) -> bool
     ensures { λ r. ⌜ r ≡ isSigned (now (message .entry)) ⌝ }
 {
-    if message.len() == 31 {
-        return le32(message, 0) == SIGNATURE;
+    if message.len() == in_wrapper::SIZE {
+        return le32(message, in_wrapper::SIGNATURE) == SIGNED;
     }
     false
 }
@@ -71,7 +73,7 @@ pub fn valid(message: &[u8]) -> bool
     ensures { λ r. ⌜ r ≡ isValid (now (message .entry)) ⌝ }
 {
     if signed(message) {
-        return block_fits(byte(message, 14));
+        return block_fits(byte(message, in_wrapper::BLOCK_LENGTH));
     }
     false
 }
@@ -117,22 +119,22 @@ fn block_of(m: &[u8]) -> [u8; 16]
     ensures { λ r. ⌜ r ≡ bytesAt CBWCB (now (m .entry)) ⌝ }
 {
     [
-        m[15],
-        m[16],
-        m[17],
-        m[18],
-        m[19],
-        m[20],
-        m[21],
-        m[22],
-        m[23],
-        m[24],
-        m[25],
-        m[26],
-        m[27],
-        m[28],
-        m[29],
-        m[30],
+        m[in_wrapper::BLOCK],
+        m[in_wrapper::BLOCK + 1],
+        m[in_wrapper::BLOCK + 2],
+        m[in_wrapper::BLOCK + 3],
+        m[in_wrapper::BLOCK + 4],
+        m[in_wrapper::BLOCK + 5],
+        m[in_wrapper::BLOCK + 6],
+        m[in_wrapper::BLOCK + 7],
+        m[in_wrapper::BLOCK + 8],
+        m[in_wrapper::BLOCK + 9],
+        m[in_wrapper::BLOCK + 10],
+        m[in_wrapper::BLOCK + 11],
+        m[in_wrapper::BLOCK + 12],
+        m[in_wrapper::BLOCK + 13],
+        m[in_wrapper::BLOCK + 14],
+        m[in_wrapper::BLOCK + 15],
     ]
 }
 
@@ -141,14 +143,14 @@ pub fn head_of(m: &[u8]) -> Head
     requires { ⌜ length (now m) ≡ 31 ⌝ }
     ensures { λ r. ⌜ r ≡ headOf (wrapperOf (now (m .entry))) ⌝ }
 {
-    let length = le32(m, 8);
-    let direction = direction_of(length, bits_of(m, 12, 7, 1));
+    let length = le32(m, in_wrapper::LENGTH);
+    let direction = direction_of(length, bits_of(m, in_wrapper::FLAGS, 7, 1));
     Head {
-        tag: le32(m, 4),
+        tag: le32(m, in_wrapper::TAG),
         length: length,
         direction: direction,
-        lun: bits_of(m, 13, 0, 4),
-        blocklength: byte(m, 14),
+        lun: bits_of(m, in_wrapper::LUN, 0, 4),
+        blocklength: byte(m, in_wrapper::BLOCK_LENGTH),
     }
 }
 

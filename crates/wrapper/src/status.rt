@@ -1,11 +1,12 @@
 // The status (CSW): what it can say, and its 13 bytes.
 use crate::counters::Residue;
+use crate::in_status;
 use fields::put_le32;
 ghost use mathlib.Core.Path.{_≡_};
 ghost use Rattle.wrapper.specs.Status.{told, statusCall, statusNumber, statusOfNumber, statusBytes};
 
 // 55 53 42 53, little-endian.
-const SIGNATURE: u32 = 0x53425355;
+const SIGNED: u32 = 0x53425355;
 
 pub enum CommandStatus {
     Passed,
@@ -54,13 +55,13 @@ pub fn status_of_number(number: u8) -> CommandStatus
 }
 
 // The status as it goes over the wire.
-pub fn status_bytes(tag: u32, residue: Residue, status: CommandStatus) -> [u8; 13]
+pub fn status_bytes(tag: u32, residue: Residue, status: CommandStatus) -> [u8; in_status::SIZE]
     ensures { λ r. ⌜ r ≡ statusBytes tag residue (statusNumber status) ⌝ }
 {
-    let mut m = [0u8; 13];
-    put_le32(&mut m, 0, SIGNATURE);
-    put_le32(&mut m, 4, tag);
-    put_le32(&mut m, 8, residue.0);
-    m[12] = status_number(status);
+    let mut m = [0u8; in_status::SIZE];
+    put_le32(&mut m, in_status::SIGNATURE, SIGNED);
+    put_le32(&mut m, in_status::TAG, tag);
+    put_le32(&mut m, in_status::RESIDUE, residue.0);
+    m[in_status::STATUS] = status_number(status);
     m
 }

@@ -1,4 +1,5 @@
 // BOT's verdict on one received message, added to what the Rust has.
+use crate::in_wrapper;
 use fields::bits_of;
 use fields::byte;
 ghost use mathlib.Core.Path.{_≡_};
@@ -15,8 +16,8 @@ fn meaningful(message: &[u8], maxlun: u8) -> bool
     requires { ⌜ length (now message) ≡ 31 ⌝ }
     ensures { λ r. ⌜ r ≡ isMeaningful maxlun (now (message .entry)) ⌝ }
 {
-    if bits_of(message, 13, 0, 4) <= maxlun {
-        return crate::block_fits(byte(message, 14));
+    if bits_of(message, in_wrapper::LUN, 0, 4) <= maxlun {
+        return crate::block_fits(byte(message, in_wrapper::BLOCK_LENGTH));
     }
     false
 }
