@@ -69,22 +69,22 @@ module _ (empty entered : Bool) (found : Found) (direction : DataDirection) (len
   status-next p q = rw (p, q)
 
 -- 3 is entered from 5, 6 and 8, with what the wrapper was of no account
-module _ (found : Found) (direction : DataDirection) (length : ℕ) {r : Act} (k : r ≡ statusTransferAct false true found direction length) where
-  entered : r ≡ Enter
-  unfolding statusTransferAct
-  entered = k
+pub enters : (found : Found) (direction : DataDirection) (length : ℕ) {r : Act} → r ≡ statusTransferAct false true found direction length → r ≡ Enter
+unfolding statusTransferAct
+enters found direction length k = k
 
+module _ {r : Act} (k : r ≡ Enter) where
   pub await-present : (present : Bool) → present ≡ true → r ≡ statusAwaitAct present
   unfolding statusAwaitAct
-  await-present present p = rw p entered
+  await-present present p = rw p k
 
   pub to-ending-done : (left : ℕ) → left ≡ 0 → r ≡ toHostEndingAct left
   unfolding toHostEndingAct
-  to-ending-done left p = rw (eq-eqb _ _ p) entered
+  to-ending-done left p = rw (eq-eqb _ _ p) k
 
   pub from-ending-done : (left : ℕ) → left ≡ 0 → r ≡ fromHostEndingAct left
   unfolding fromHostEndingAct
-  from-ending-done left p = rw (eq-eqb _ _ p) entered
+  from-ending-done left p = rw (eq-eqb _ _ p) k
 
 pub await-absent : (present : Bool) → present ≡ false → Wait ≡ statusAwaitAct present
 unfolding statusAwaitAct
@@ -125,7 +125,7 @@ module _ (left : ℕ) (present : Bool) (n : left ≡ 0 → ⊥) (p : present ≡
   unfolding fromHostAct
   from-host-takes = rw (ne-eqb _ _ n, p)
 
-pub ruleset ways = (read-nothing, read-invalid, read-valid, start-out, start-in, start-none, no-data, status-empty, status-enters, status-next, await-present, await-absent, to-ending-done, to-ending-fills, from-ending-done, from-ending-drops, to-host-done, to-host-ends, to-host-sends, from-host-done, from-host-ends, from-host-takes)
+pub ruleset ways = (read-nothing, read-invalid, read-valid, start-out, start-in, start-none, no-data, status-empty, status-enters, status-next, enters, await-present, await-absent, to-ending-done, to-ending-fills, from-ending-done, from-ending-drops, to-host-done, to-host-ends, to-host-sends, from-host-done, from-host-ends, from-host-takes)
 
 -- ---- a poll, by the state in which it starts
 
@@ -137,13 +137,19 @@ starts s t left present empty found direction length p k = rw p k
 
 -- a handler that goes on since a status is present may, and the number falls
 module _ (present : Bool) {n : ℕ} (h : extra present ≤ n) (p : present ≡ true) where
+  two : 2 ≤ n
+  two = rw p at h
+
   pub present-one : 1 ≤ n
-  present-one = rw p at h
+  present-one = omega (arith, two)
+
+  pub present-enters : 1 ≤ n - 1
+  present-enters = omega (arith, two)
 
   pub present-falls : {t : ℕ} → n ≡ t → n - 1 < t
-  present-falls e = omega (arith, present-one)
+  present-falls e = omega (arith, two)
 
-pub present-two : (present : Bool) {n : ℕ} → 1 + extra present ≤ n → present ≡ true → 1 ≤ n - 1
+pub present-two : (present : Bool) {n : ℕ} → 1 + extra present ≤ n → present ≡ true → 2 ≤ n - 1
 present-two present h p = let k = rw p at h in omega arith
 
 -- and one that goes on since nothing is unread
@@ -160,12 +166,12 @@ module _ (empty : Bool) {n : ℕ} (h : whole empty ≤ n) (p : empty ≡ true) w
   pub empty-falls : {t : ℕ} → n ≡ t → n - 1 < t
   empty-falls e = omega (arith, empty-four)
 
-extra-most : (present : Bool) → extra present ≤ 1
+extra-most : (present : Bool) → extra present ≤ 2
 extra-most true = omega arith
 extra-most false = omega arith
 
 -- the number of a poll suffices from any state
-pub present-enough : (k : ℕ) (present : Bool) → k ≤ 3 → k + extra present ≤ 4
+pub present-enough : (k : ℕ) (present : Bool) → k ≤ 2 → k + extra present ≤ 4
 present-enough k present h = omega (arith, extra-most present)
 
 pub await-enough : (present : Bool) → extra present ≤ 4
@@ -175,6 +181,6 @@ pub status-enough : (empty : Bool) → whole empty ≤ 4
 status-enough true = omega arith
 status-enough false = omega arith
 
-pub ruleset calls = (present-one, present-falls, present-two, empty-one, empty-three, empty-falls)
+pub ruleset calls = (present-one, present-enters, present-falls, present-two, empty-one, empty-three, empty-falls)
 
 pub ruleset enough = (present-enough, await-enough, status-enough)

@@ -70,9 +70,9 @@ settled DataTransferToHostEnding left present empty found direction length = toH
 settled DataTransferFromHost left present empty found direction length = fromHostAct left present
 settled DataTransferFromHostEnding left present empty found direction length = fromHostEndingAct left
 
--- How many handlers a handler may still call on: one more where a status is present, since 5, 6 and 8 then go on to 3.
+-- How many calls a handler may still make: two more where a status is present, since 5, 6 and 8 then enter 3, and 3 answers.
 abbrev pub extra : Bool → ℕ
-extra true = 1
+extra true = 2
 extra false = 0
 
 -- From 3 with nothing unread the chain runs round the whole ring.

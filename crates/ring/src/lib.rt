@@ -3,6 +3,7 @@
 use wrapper::DataDirection;
 ghost use mathlib.Core.Path.{_≡_};
 ghost use Prim.Native.Nat.{_+_, _≤_};
+ghost use Rattle.ring.specs.declared.Act.the-variants.{Enter};
 ghost use Rattle.ring.specs.States.{stateNumber, stateOfNumber, rowOf};
 ghost use Rattle.ring.specs.Ring.{extra, whole, readCbwAct, startAct, noDataAct, statusTransferAct, toHostAct, statusAwaitAct, toHostEndingAct, fromHostAct, fromHostEndingAct, settled};
 
@@ -190,6 +191,21 @@ fn status_transfer(
     Act::Next
 }
 
+// 3 from 5, 6 or 8, in the same poll: the status is then unread, so what the wrapper was is of no account.
+fn enter(n: u8) -> Act
+    requires { ⌜ 1 ≤ n ⌝ }
+    ensures { λ r. ⌜ r ≡ Enter ⌝ }
+{
+    status_transfer(
+        n - 1,
+        false,
+        true,
+        Found::Nothing,
+        DataDirection::NotExpected,
+        0,
+    )
+}
+
 // 4
 fn to_host(n: u8, left: u32, present: bool) -> Act
     requires { ⌜ 1 + extra present ≤ n ⌝ }
@@ -210,32 +226,18 @@ fn status_await(n: u8, present: bool) -> Act
     ensures { λ r. ⌜ r ≡ statusAwaitAct present ⌝ }
 {
     if present {
-        return status_transfer(
-            n - 1,
-            false,
-            true,
-            Found::Nothing,
-            DataDirection::NotExpected,
-            0,
-        );
+        return enter(n - 1);
     }
     Act::Wait
 }
 
 // 6
 fn to_host_ending(n: u8, left: u32) -> Act
-    requires { ⌜ 1 ≤ n ⌝ }
+    requires { ⌜ 2 ≤ n ⌝ }
     ensures { λ r. ⌜ r ≡ toHostEndingAct left ⌝ }
 {
     if left == 0 {
-        return status_transfer(
-            n - 1,
-            false,
-            true,
-            Found::Nothing,
-            DataDirection::NotExpected,
-            0,
-        );
+        return enter(n - 1);
     }
     Act::Fill
 }
@@ -256,18 +258,11 @@ fn from_host(n: u8, left: u32, present: bool) -> Act
 
 // 8
 fn from_host_ending(n: u8, left: u32) -> Act
-    requires { ⌜ 1 ≤ n ⌝ }
+    requires { ⌜ 2 ≤ n ⌝ }
     ensures { λ r. ⌜ r ≡ fromHostEndingAct left ⌝ }
 {
     if left == 0 {
-        return status_transfer(
-            n - 1,
-            false,
-            true,
-            Found::Nothing,
-            DataDirection::NotExpected,
-            0,
-        );
+        return enter(n - 1);
     }
     Act::Drop
 }

@@ -1,18 +1,19 @@
 -- Laws of the decoder, and what each way through a function owes (`ways`).
 --     here, past              the table's rule at one row: the row has the opcode and decides, or those behind it do
 --     missing                 an opcode in no row
+--     long-enough             a listed block is as long as the row of its opcode says
 --     listed-known            a block of a listed opcode and length never decodes to Unknown
 --     unlisted-unknown        any other always does, with its opcode
 -- Assumes nothing.
 use mathlib.Core.Path.{_≡_, refl, sym, _∙_}
 use mathlib.Core.Bool.{Bool, true, false, cond, not, _&&_}
 use mathlib.Core.List.{List, [], _∷_, map}
-use Prim.Native.Nat.{ℕ, zero, suc, _+_, _<_}
+use Prim.Native.Nat.{ℕ, zero, suc, _+_, _≤_, _<_, zero-le}
 use native.Mathlib.Numerals.{add-one}
 use lib.Dec.{eqb, leb}
 use lib.ListN.{length, getD, drop, List·getD-map}
 use lib.Seq.{drop-cons}
-use borrow.Author.Tests.{eq-eqb, ne-eqb, not-true}
+use borrow.Author.Tests.{eq-eqb, ne-eqb, not-true, leb-true}
 use Rattle.fields.specs.Field.{Bits, bits, getBits}
 use Rattle.fields.proofs.Bools.{and-left, and-right}
 use Rattle.scsi.specs.declared.PageControl.{PageControl}
@@ -21,7 +22,7 @@ use Rattle.scsi.specs.declared.ScsiCommand.{ScsiCommand}
 use Rattle.scsi.specs.declared.ScsiCommand.the-variants.{Unknown, Inquiry, TestUnitReady, RequestSense, ModeSense6, ModeSense10, ReadCapacity10, ReadCapacity16, Read, Write, ReadFormatCapacities}
 use Rattle.scsi.specs.declared.table.Row.{Row}
 use Rattle.scsi.specs.Commands.{flag, pageControl}
-use Rattle.scsi.specs.Decoding.{Layout, rows, opcodeOf, lists, counts, isListed, fieldsBy, Outcome, decoded, decodeCall}
+use Rattle.scsi.specs.Decoding.{Layout, rows, opcodeOf, lists, shortestOf, counts, isListed, fieldsBy, Outcome, decoded, decodeCall}
 
 -- ---- the table, in the code's form
 
@@ -65,6 +66,20 @@ missing A [] op b m = refl
 missing A (r ∷ rs) op b m =
     let B = A × (op ≡ r .opcode → ⊥) in
     rw (ne-eqb (r .opcode) op (λ e. before B rs op m .1 (sym e))) (missing B rs op b m)
+
+-- ---- a listed block is long enough for its fields
+
+by-row : (rs : List Layout) (op n : ℕ) → lists rs op n ≡ true → shortestOf rs op ≤ n
+unfolding lists
+by-row [] op n h = zero-le
+by-row (r ∷ rs) op n h = picked (eqb (r .opcode) op) h (by-row rs op n)
+  where
+    picked : (b : Bool) → cond b (leb (r .shortest) n) (lists rs op n) ≡ true → (lists rs op n ≡ true → shortestOf rs op ≤ n) → cond b (r .shortest) (shortestOf rs op) ≤ n
+    picked true e behind = leb-true _ _ e
+    picked false e behind = behind e
+
+pub long-enough : (rs : List Layout) {op n k : ℕ} → op ≡ k → lists rs op n ≡ true → shortestOf rs k ≤ n
+long-enough rs {op} {n} e h = rw e at (by-row rs op n h)
 
 -- ---- a listed block is known, and no other
 

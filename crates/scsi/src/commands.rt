@@ -11,7 +11,7 @@ ghost use mathlib.Core.Bool.{true};
 ghost use Prim.Native.Nat.{_≤_, _<_};
 ghost use lib.ListN.{length};
 ghost use Rattle.scsi.specs.Commands.{flag, pageControl, requestSense, inquiry, modeSense6, modeSense10, readCapacity16, read10, write10, read16, write16, readFormatCapacities};
-ghost use Rattle.scsi.specs.Decoding.{rows, lists, fieldsBy};
+ghost use Rattle.scsi.specs.Decoding.{rows, lists, shortestOf, fieldsBy};
 
 // Whether a bit of a byte is set.
 fn is_set(b: &[u8], at: usize, bit: u8) -> bool
@@ -33,7 +33,7 @@ fn control_of(n: u8) -> PageControl
 }
 
 fn request_sense(b: &[u8]) -> ScsiCommand
-    requires { ⌜ 5 ≤ length (now b) ⌝ }
+    requires { ⌜ shortestOf rows 0x03 ≤ length (now b) ⌝ }
     ensures { λ r. ⌜ r ≡ requestSense (now (b .entry)) ⌝ }
 {
     ScsiCommand::RequestSense {
@@ -43,7 +43,7 @@ fn request_sense(b: &[u8]) -> ScsiCommand
 }
 
 fn inquiry(b: &[u8]) -> ScsiCommand
-    requires { ⌜ 5 ≤ length (now b) ⌝ }
+    requires { ⌜ shortestOf rows 0x12 ≤ length (now b) ⌝ }
     ensures { λ r. ⌜ r ≡ inquiry (now (b .entry)) ⌝ }
 {
     ScsiCommand::Inquiry {
@@ -54,7 +54,7 @@ fn inquiry(b: &[u8]) -> ScsiCommand
 }
 
 fn mode_sense_6(b: &[u8]) -> ScsiCommand
-    requires { ⌜ 5 ≤ length (now b) ⌝ }
+    requires { ⌜ shortestOf rows 0x1A ≤ length (now b) ⌝ }
     ensures { λ r. ⌜ r ≡ modeSense6 (now (b .entry)) ⌝ }
 {
     let control = control_of(bits_of(b, 2, 6, 2));
@@ -68,7 +68,7 @@ fn mode_sense_6(b: &[u8]) -> ScsiCommand
 }
 
 fn mode_sense_10(b: &[u8]) -> ScsiCommand
-    requires { ⌜ 9 ≤ length (now b) ⌝ }
+    requires { ⌜ shortestOf rows 0x5A ≤ length (now b) ⌝ }
     ensures { λ r. ⌜ r ≡ modeSense10 (now (b .entry)) ⌝ }
 {
     let control = control_of(bits_of(b, 2, 6, 2));
@@ -82,7 +82,7 @@ fn mode_sense_10(b: &[u8]) -> ScsiCommand
 }
 
 fn read_capacity_16(b: &[u8]) -> ScsiCommand
-    requires { ⌜ 14 ≤ length (now b) ⌝ }
+    requires { ⌜ shortestOf rows 0x9E ≤ length (now b) ⌝ }
     ensures { λ r. ⌜ r ≡ readCapacity16 (now (b .entry)) ⌝ }
 {
     ScsiCommand::ReadCapacity16 {
@@ -91,7 +91,7 @@ fn read_capacity_16(b: &[u8]) -> ScsiCommand
 }
 
 fn read_10(b: &[u8]) -> ScsiCommand
-    requires { ⌜ 9 ≤ length (now b) ⌝ }
+    requires { ⌜ shortestOf rows 0x28 ≤ length (now b) ⌝ }
     ensures { λ r. ⌜ r ≡ read10 (now (b .entry)) ⌝ }
 {
     ScsiCommand::Read {
@@ -101,7 +101,7 @@ fn read_10(b: &[u8]) -> ScsiCommand
 }
 
 fn write_10(b: &[u8]) -> ScsiCommand
-    requires { ⌜ 9 ≤ length (now b) ⌝ }
+    requires { ⌜ shortestOf rows 0x2A ≤ length (now b) ⌝ }
     ensures { λ r. ⌜ r ≡ write10 (now (b .entry)) ⌝ }
 {
     ScsiCommand::Write {
@@ -111,7 +111,7 @@ fn write_10(b: &[u8]) -> ScsiCommand
 }
 
 fn read_16(b: &[u8]) -> ScsiCommand
-    requires { ⌜ 14 ≤ length (now b) ⌝ }
+    requires { ⌜ shortestOf rows 0x88 ≤ length (now b) ⌝ }
     ensures { λ r. ⌜ r ≡ read16 (now (b .entry)) ⌝ }
 {
     ScsiCommand::Read {
@@ -121,7 +121,7 @@ fn read_16(b: &[u8]) -> ScsiCommand
 }
 
 fn write_16(b: &[u8]) -> ScsiCommand
-    requires { ⌜ 14 ≤ length (now b) ⌝ }
+    requires { ⌜ shortestOf rows 0x8A ≤ length (now b) ⌝ }
     ensures { λ r. ⌜ r ≡ write16 (now (b .entry)) ⌝ }
 {
     ScsiCommand::Write {
@@ -131,7 +131,7 @@ fn write_16(b: &[u8]) -> ScsiCommand
 }
 
 fn read_format_capacities(b: &[u8]) -> ScsiCommand
-    requires { ⌜ 9 ≤ length (now b) ⌝ }
+    requires { ⌜ shortestOf rows 0x23 ≤ length (now b) ⌝ }
     ensures { λ r. ⌜ r ≡ readFormatCapacities (now (b .entry)) ⌝ }
 {
     ScsiCommand::ReadFormatCapacities {

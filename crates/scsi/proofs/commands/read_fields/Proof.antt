@@ -1,49 +1,8 @@
 -- `scsi::commands::read_fields` meets its contract: each arm by the table at its opcode. Assumes nothing.
-use borrow.Author.Tests.{leb-true}
-use Rattle.scsi.specs.Decoding.{rows, lists, fieldsBy}
-use Rattle.scsi.proofs.Laws.{missing}
+use Rattle.scsi.specs.Decoding.{rows, fieldsBy}
+use Rattle.scsi.proofs.Laws.{missing, long-enough}
 use Rattle.scsi.proofs.commands.read_fields.Statement.{statement}
 use Rattle.scsi.proofs.commands.read_fields.Tie as tie
-
-request-sense-requires : tie.Need-request-sense-requires
-unfolding lists
-request-sense-requires c κs = leb-true _ _ (rw (c .match .keys2) at (c .before .before .pre))
-
-inquiry-requires : tie.Need-inquiry-requires
-unfolding lists
-inquiry-requires c κs = leb-true _ _ (rw (c .match .keys3) at (c .before .before .pre))
-
-mode-sense-6-requires : tie.Need-mode-sense-6-requires
-unfolding lists
-mode-sense-6-requires c κs = leb-true _ _ (rw (c .match .keys4) at (c .before .before .pre))
-
-read-format-capacities-requires : tie.Need-read-format-capacities-requires
-unfolding lists
-read-format-capacities-requires c κs = leb-true _ _ (rw (c .match .keys5) at (c .before .before .pre))
-
-read-10-requires : tie.Need-read-10-requires
-unfolding lists
-read-10-requires c κs = leb-true _ _ (rw (c .match .keys7) at (c .before .before .pre))
-
-write-10-requires : tie.Need-write-10-requires
-unfolding lists
-write-10-requires c κs = leb-true _ _ (rw (c .match .keys8) at (c .before .before .pre))
-
-mode-sense-10-requires : tie.Need-mode-sense-10-requires
-unfolding lists
-mode-sense-10-requires c κs = leb-true _ _ (rw (c .match .keys9) at (c .before .before .pre))
-
-read-16-requires : tie.Need-read-16-requires
-unfolding lists
-read-16-requires c κs = leb-true _ _ (rw (c .match .keys10) at (c .before .before .pre))
-
-write-16-requires : tie.Need-write-16-requires
-unfolding lists
-write-16-requires c κs = leb-true _ _ (rw (c .match .keys11) at (c .before .before .pre))
-
-read-capacity-16-requires : tie.Need-read-capacity-16-requires
-unfolding lists
-read-capacity-16-requires c κs = leb-true _ _ (rw (c .match .keys12) at (c .before .before .pre))
 
 returns : tie.Need-returns
 unfolding fieldsBy
@@ -97,4 +56,16 @@ returns-13 : tie.Need-returns-13
 returns-13 c = missing _ rows _ _ (c .match .rest)
 
 pub read-fields-spec : {M : Type 1} → statement M
-read-fields-spec = tie.close (tie.spec request-sense-requires inquiry-requires mode-sense-6-requires read-format-capacities-requires read-10-requires write-10-requires mode-sense-10-requires read-16-requires write-16-requires read-capacity-16-requires returns returns-2 returns-3 returns-4 returns-5 returns-6 returns-7 returns-8 returns-9 returns-10 returns-11 returns-12 returns-13)
+read-fields-spec =
+    tie.close (tie.spec
+    (λ c κs. long-enough rows (c .match .keys2) (c .before .before .pre))
+    (λ c κs. long-enough rows (c .match .keys3) (c .before .before .pre))
+    (λ c κs. long-enough rows (c .match .keys4) (c .before .before .pre))
+    (λ c κs. long-enough rows (c .match .keys5) (c .before .before .pre))
+    (λ c κs. long-enough rows (c .match .keys7) (c .before .before .pre))
+    (λ c κs. long-enough rows (c .match .keys8) (c .before .before .pre))
+    (λ c κs. long-enough rows (c .match .keys9) (c .before .before .pre))
+    (λ c κs. long-enough rows (c .match .keys10) (c .before .before .pre))
+    (λ c κs. long-enough rows (c .match .keys11) (c .before .before .pre))
+    (λ c κs. long-enough rows (c .match .keys12) (c .before .before .pre))
+    returns returns-2 returns-3 returns-4 returns-5 returns-6 returns-7 returns-8 returns-9 returns-10 returns-11 returns-12 returns-13)
