@@ -1,8 +1,8 @@
--- `onward::packet::put8` meets its contract: through an array of 8 bytes. Assumes nothing.
+-- `packetcopy::put8` meets its contract: through an array of 8 bytes. Assumes nothing.
 use borrow.Author.Needs.{needs}
-use Rattle.onward.proofs.Through.{ways}
-use Rattle.onward.proofs.packet.put8.Statement.{statement}
-use Rattle.onward.proofs.packet.put8.Tie as tie
+use Rattle.packetcopy.proofs.Through.{ways}
+use Rattle.packetcopy.proofs.put8.Statement.{statement}
+use Rattle.packetcopy.proofs.put8.Tie as tie
 
 pub put8-spec : {M : Type 1} → statement M
 put8-spec =

@@ -1,8 +1,8 @@
--- `onward::packet::put32` meets its contract: through an array of 32 bytes. Assumes nothing.
+-- `packetcopy::put32` meets its contract: through an array of 32 bytes. Assumes nothing.
 use borrow.Author.Needs.{needs}
-use Rattle.onward.proofs.Through.{ways}
-use Rattle.onward.proofs.packet.put32.Statement.{statement}
-use Rattle.onward.proofs.packet.put32.Tie as tie
+use Rattle.packetcopy.proofs.Through.{ways}
+use Rattle.packetcopy.proofs.put32.Statement.{statement}
+use Rattle.packetcopy.proofs.put32.Tie as tie
 
 pub put32-spec : {M : Type 1} → statement M
 put32-spec =

@@ -1,8 +1,8 @@
--- `onward::packet::put64` meets its contract: through an array of 64 bytes. Assumes nothing.
+-- `packetcopy::put64` meets its contract: through an array of 64 bytes. Assumes nothing.
 use borrow.Author.Needs.{needs}
-use Rattle.onward.proofs.Through.{ways}
-use Rattle.onward.proofs.packet.put64.Statement.{statement}
-use Rattle.onward.proofs.packet.put64.Tie as tie
+use Rattle.packetcopy.proofs.Through.{ways}
+use Rattle.packetcopy.proofs.put64.Statement.{statement}
+use Rattle.packetcopy.proofs.put64.Tie as tie
 
 pub put64-spec : {M : Type 1} → statement M
 put64-spec =

@@ -1,8 +1,8 @@
--- `onward::packet::put16` meets its contract: through an array of 16 bytes. Assumes nothing.
+-- `packetcopy::put16` meets its contract: through an array of 16 bytes. Assumes nothing.
 use borrow.Author.Needs.{needs}
-use Rattle.onward.proofs.Through.{ways}
-use Rattle.onward.proofs.packet.put16.Statement.{statement}
-use Rattle.onward.proofs.packet.put16.Tie as tie
+use Rattle.packetcopy.proofs.Through.{ways}
+use Rattle.packetcopy.proofs.put16.Statement.{statement}
+use Rattle.packetcopy.proofs.put16.Tie as tie
 
 pub put16-spec : {M : Type 1} → statement M
 put16-spec =
