@@ -1,8 +1,8 @@
--- `callbytes::command::offer` meets its contract: the command in its six numbers, or nothing. Assumes nothing.
-use Rattle.callbytes.proofs.Ways.{ways}
+-- `commandbytes::offer` meets its contract: the command in its six numbers, or nothing. Assumes nothing.
+use Rattle.commandbytes.proofs.Ways.{ways}
 use borrow.Author.Needs.{needs}
-use Rattle.callbytes.proofs.command.offer.Statement.{statement}
-use Rattle.callbytes.proofs.command.offer.Tie as tie
+use Rattle.commandbytes.proofs.offer.Statement.{statement}
+use Rattle.commandbytes.proofs.offer.Tie as tie
 
 pub offer-spec : {M : Type 1} → statement M
 offer-spec =

@@ -1,9 +1,9 @@
--- `callbytes::command::show` meets its contract: the block laid over all 16 bytes, or nothing. Assumes nothing.
-use Rattle.callbytes.proofs.Ways.{ways}
+-- `commandbytes::show` meets its contract: the block laid over all 16 bytes, or nothing. Assumes nothing.
+use Rattle.commandbytes.proofs.Ways.{ways}
 use native.Mathlib.Omega.{arith}
 use borrow.Author.Needs.{needs}
-use Rattle.callbytes.proofs.command.show.Statement.{statement}
-use Rattle.callbytes.proofs.command.show.Tie as tie
+use Rattle.commandbytes.proofs.show.Statement.{statement}
+use Rattle.commandbytes.proofs.show.Tie as tie
 
 slice-aggregate-put : tie.Need-slice-aggregate-put
 slice-aggregate-put c = search needs

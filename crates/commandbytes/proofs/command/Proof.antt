@@ -1,8 +1,8 @@
--- `callbytes::command::command` meets its contract: other than 16 bytes lent, refused, or the call by value on what the bytes hold. Assumes nothing.
+-- `commandbytes::command` meets its contract: other than 16 bytes lent, refused, or the call by value on what the bytes hold. Assumes nothing.
 use borrow.Author.Needs.{needs}
-use Rattle.callbytes.proofs.Ways.{ways}
-use Rattle.callbytes.proofs.command.command.Statement.{statement}
-use Rattle.callbytes.proofs.command.command.Tie as tie
+use Rattle.commandbytes.proofs.Ways.{ways}
+use Rattle.commandbytes.proofs.command.Statement.{statement}
+use Rattle.commandbytes.proofs.command.Tie as tie
 
 pub command-spec : {M : Type 1} → statement M
 command-spec =

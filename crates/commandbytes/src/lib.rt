@@ -1,4 +1,5 @@
-// The command shown to the firmware, and the command step.
+// The command shown to the firmware, and the command step, over a record of bytes. Each takes any bytes of any length, and tests what it was
+// lent first: a refusal with 10 leaves all of it as it was.
 use answers::answer_number;
 use border::held;
 use border::word::word;
@@ -12,7 +13,7 @@ ghost use mathlib.Core.Path.{_≡_};
 ghost use lib.ListN.{length};
 ghost use Rattle.answers.specs.Answers.{number};
 ghost use Rattle.calls.specs.Command.{shownOf, offers};
-ghost use Rattle.callbytes.specs.Command.{shows, shown, commandOn, offered, stepOn};
+ghost use Rattle.commandbytes.specs.Command.{shows, shown, commandOn, offered, stepOn};
 
 // A command that is shown goes into the lent bytes.
 fn show(c: Shown, block: &mut [u8]) -> u64

@@ -1,8 +1,8 @@
--- `callbytes::command::command_step` meets its contract: other than six numbers lent, refused, or the call by value on what the bytes hold. Assumes nothing.
+-- `commandbytes::command_step` meets its contract: other than six numbers lent, refused, or the call by value on what the bytes hold. Assumes nothing.
 use borrow.Author.Needs.{needs}
-use Rattle.callbytes.proofs.Ways.{ways}
-use Rattle.callbytes.proofs.command.command_step.Statement.{statement}
-use Rattle.callbytes.proofs.command.command_step.Tie as tie
+use Rattle.commandbytes.proofs.Ways.{ways}
+use Rattle.commandbytes.proofs.command_step.Statement.{statement}
+use Rattle.commandbytes.proofs.command_step.Tie as tie
 
 pub command-step-spec : {M : Type 1} → statement M
 command-step-spec =
