@@ -6,7 +6,6 @@ use Prim.Native.Nat.{ℕ}
 use denote.Ref.{now}
 use Rattle.fields.proofs.Only.{Only}
 use Rattle.callbytes.specs.Calls.{Left, leaves}
-use Rattle.callbytes.specs.Command.{Shown, shows}
 use Rattle.callbytes.proofs.create.create.Kinds as create-kinds
 use Rattle.callbytes.proofs.create.create.Reads as create
 use Rattle.callbytes.proofs.status.set_status.Kinds as set-status-kinds
@@ -15,22 +14,10 @@ use Rattle.callbytes.proofs.bus.reset.Kinds as reset-kinds
 use Rattle.callbytes.proofs.bus.reset.Reads as reset
 use Rattle.callbytes.proofs.bus.control.Kinds as control-kinds
 use Rattle.callbytes.proofs.bus.control.Reads as control
-use Rattle.callbytes.proofs.command.command.Kinds as command-kinds
-use Rattle.callbytes.proofs.command.command.Reads as command
-use Rattle.callbytes.proofs.command.command_step.Kinds as command-step-kinds
-use Rattle.callbytes.proofs.command.command_step.Reads as command-step
 
--- ---- what a call leaves tells each part of it
-
--- the record
+-- what a call leaves tells each part of it
 pub left-once : {n k : ℕ} {r l : List ℕ} → leaves n r ≡ leaves k l → (n ≡ k) × (r ≡ l)
 left-once e = (ap (λ (o : Left). o .result) e, ap (λ (o : Left). o .bytes) e)
-
--- what is lent for a command
-pub shown-once : {n k : ℕ} {l m : List ℕ} → shows n l ≡ shows k m → (n ≡ k) × (l ≡ m)
-shown-once e = (ap (λ (o : Shown). o .result) e, ap (λ (o : Shown). o .lent) e)
-
--- ---- the calls
 
 pub create-only : Only 1 create-kinds.ps create-kinds.r create.Post (λ κs s. now (s .0))
 create-only κs a x y s t p q = left-once (p ∙ sym q)
@@ -43,10 +30,3 @@ reset-only κs a x y s t p q = left-once (p ∙ sym q)
 
 pub control-only : Only 2 control-kinds.ps control-kinds.r control.Post (λ κs s. now (s .0))
 control-only κs a x y s t p q = left-once (p ∙ sym q)
-
--- the record is lent for reading alone
-pub command-only : Only 3 command-kinds.ps command-kinds.r command.Post (λ κs s. now (s .1 .1 .0))
-command-only κs a x y s t p q = shown-once (p ∙ sym q)
-
-pub command-step-only : Only 3 command-step-kinds.ps command-step-kinds.r command-step.Post (λ κs s. now (s .1 .1 .0))
-command-step-only κs a x y s t p q = shown-once (p ∙ sym q)

@@ -6,8 +6,6 @@ use mathlib.Core.List.{List, []}
 use Prim.Native.Nat.{ℕ}
 use lib.ListN.{length, getD}
 use borrow.Author.Tests.{eq-eqb, ne-eqb}
-use Rattle.fields.specs.Overlay.{overlay}
-use Rattle.fields.proofs.Overlay.{overlay-whole}
 use Rattle.answers.specs.Answers.{answerOf}
 use Rattle.device.specs.declared.Fixed.{Fixed}
 use Rattle.device.specs.declared.Device.{Device}
@@ -21,13 +19,6 @@ use Rattle.calls.specs.declared.Reply.the-variants.{Nothing, MaxLun}
 use Rattle.calls.specs.declared.Request.{Request}
 use Rattle.calls.specs.declared.Handled.{Handled}
 use Rattle.calls.specs.Bus.{Handling, replied, handledOf, entering, resetCall, controlCall}
-use Rattle.calls.specs.declared.command.Shown as command
-use Rattle.calls.specs.declared.command.Offer.the-variants.{Command}
-use Rattle.calls.specs.declared.command.Offer.the-variants.{Nothing as None}
-use Rattle.calls.specs.declared.command.Step.{Step}
-use Rattle.calls.specs.Command.{shownOf, commandCall, Stepping, offers, steppedOf, stepCall}
-use Rattle.scsi.specs.declared.ScsiCommand.{ScsiCommand}
-use Rattle.scsi.specs.Numbers.{numbers}
 use Rattle.device.specs.declared.create.Created.{Created}
 use Rattle.device.specs.Create.{creation, Creation, createdOf, createCall}
 use Rattle.calls.proofs.After.{by-request, status-keeps}
@@ -38,7 +29,6 @@ use Rattle.recordbytes.proofs.Parts.{status-alone, entered}
 use Rattle.border.specs.Word.{word, plain, stallsNumber}
 use Rattle.border.specs.Record.{onDevice}
 use Rattle.callbytes.specs.Calls.{leaves, createOn, stated, statusOn, handled, resetOn, controlOn}
-use Rattle.callbytes.specs.Command.{shows, shown, commandOn, offered, stepOn}
 use Rattle.border.proofs.Lending.{known-then, long-then, unknown, made}
 
 -- ---- the status
@@ -128,55 +118,6 @@ module _ (r io : List ℕ) {k : Bool} (ek : k ≡ isKnown r) where
     unfolding controlOn
     control-made q m ed em e = bus-made r (λ (d : Device). controlCall d io request) ek q (control-rest (deviceAt r) io request) m (rw ed at em) e
 
--- ---- the command
-
-module _ (r io was : List ℕ) where
-  pub command-wrong : (length was ≡ 16 → ⊥) → shows 10 was ≡ commandOn r io was
-  unfolding commandOn word
-  command-wrong n = rw (ne-eqb _ _ n)
-
-  pub step-wrong : (length was ≡ 6 → ⊥) → shows 10 was ≡ stepOn r io was
-  unfolding stepOn word
-  step-wrong n = rw (ne-eqb _ _ n)
-
-  module _ {k : Bool} (ek : k ≡ isKnown r) where
-    pub command-unknown : length was ≡ 16 → not k ≡ true → shows 10 was ≡ commandOn r io was
-    unfolding commandOn word
-    command-unknown e q = rw (eq-eqb _ _ e) (unknown r ek (shows (plain 10) was) (λ (d : Device). shown was (commandCall d io)) q)
-
-    pub step-unknown : length was ≡ 6 → not k ≡ true → shows 10 was ≡ stepOn r io was
-    unfolding stepOn word
-    step-unknown e q =
-        rw (eq-eqb _ _ e) (unknown r ek (shows (plain 10) was) (λ (d : Device). offered (stepCall d io .answer .number) was (stepCall d io .offers)) q)
-
-    module _ (q : not k ≡ false) {d : Device} (ed : d ≡ deviceAt r) where
-      pub command-made : length was ≡ 16 → (c : command.Shown) → shownOf c ≡ commandCall d io → {x : ℕ} {l : List ℕ} → shows x l ≡ shown was (shownOf c) → shows x l ≡ commandOn r io was
-      unfolding commandOn
-      command-made e c ec ex =
-          rw (eq-eqb _ _ e) (ex ∙ ap (shown was) (rw ed at ec) ∙ made r (shows (plain 10) was) (λ (d : Device). shown was (commandCall d io)) (known-then r ek q))
-
-      pub step-made : length was ≡ 6 → (s : Step) → steppedOf s ≡ stepCall d io → {x : ℕ} {l : List ℕ} → shows x l ≡ offered (answerOf (s .answer) .number) was (offers (s .offer)) → shows x l ≡ stepOn r io was
-      unfolding stepOn
-      step-made e s es ex =
-          rw (eq-eqb _ _ e)
-          (ex ∙ ap (λ (o : Stepping). offered (o .answer .number) was (o .offers)) (rw ed at es)
-          ∙ made r (shows (plain 10) was) (λ (d : Device). offered (stepCall d io .answer .number) was (stepCall d io .offers)) (known-then r ek q))
-
-module _ (was : List ℕ) where
-  module _ (c : command.Shown) {a x : ℕ} (ea : a ≡ answerOf (c .answer) .number) where
-    pub shows-command : length was ≡ 16 → length (c .block) ≡ 16 → c .shown ≡ true → {l : List ℕ} → l ≡ overlay was 0 (c .block) → x ≡ word a (c .lun) 0 1 (c .blocklength) → shows x l ≡ shown was (shownOf c)
-    shows-command e long t el ex = rw (t, el ∙ overlay-whole was (c .block) (long ∙ sym e), ex, ea)
-
-    pub shows-none : c .shown ≡ false → x ≡ word a (c .lun) 0 0 (c .blocklength) → shows x was ≡ shown was (shownOf c)
-    shows-none t ex = rw (t, ex, ea)
-
-  module _ (s : Step) {a x : ℕ} (ea : a ≡ answerOf (s .answer) .number) where
-    pub offers-none : s .offer ≡ None → x ≡ word a 0 0 0 0 → shows x was ≡ offered (answerOf (s .answer) .number) was (offers (s .offer))
-    offers-none en ex = rw (en, ex, ea)
-
-    pub offers-one : (lun : ℕ) (kind : ScsiCommand) → s .offer ≡ Command lun kind → {l : List ℕ} → l ≡ numbers kind → x ≡ word a lun 0 1 0 → shows x l ≡ offered (answerOf (s .answer) .number) was (offers (s .offer))
-    offers-one lun kind en el ex = rw (en, el, ex, ea)
-
 -- ---- creation
 
 module _ (r : List ℕ) (f : Fixed) (c : Created) (ec : createdOf c ≡ createCall f) {n : ℕ} (en : n ≡ answerOf (c .answer) .number) where
@@ -202,4 +143,4 @@ module _ (r : List ℕ) (f : Fixed) (c : Created) (ec : createdOf c ≡ createCa
   unfolding createOn
   create-made q k el = rw (← answered, eq-eqb _ _ q, eq-eqb _ _ k, el)
 
-pub ruleset ways = (long-then, status-unknown, status-set, replies-nothing, replies-lun, bus-told, bus-stored, reset-unknown, reset-made, control-unknown, control-made, command-wrong, step-wrong, command-unknown, step-unknown, command-made, step-made, shows-command, shows-none, offers-none, offers-one, create-refused, create-unlent, create-fits, create-made)
+pub ruleset ways = (long-then, status-unknown, status-set, replies-nothing, replies-lun, bus-told, bus-stored, reset-unknown, reset-made, control-unknown, control-made, create-refused, create-unlent, create-fits, create-made)

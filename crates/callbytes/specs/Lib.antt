@@ -1,4 +1,2 @@
--- specs.Calls      what creation, the status and the calls of the bus leave of all that they were lent
--- specs.Command    the command shown, and the command step
+-- specs.Calls    what creation, the status and the calls of the bus leave of all that they were lent
 pub mod Calls
-pub mod Command

@@ -7,7 +7,7 @@ use Rattle.border.specs.Record.{isHeld, onDevice}
 use Rattle.ringbytes.specs.Poll.{pollOn}
 use Rattle.databytes.specs.Data.{readOn, writeOn, writeAllOn}
 use Rattle.callbytes.specs.Calls.{createOn, statusOn, resetOn, controlOn}
-use Rattle.callbytes.specs.Command.{commandOn, stepOn}
+use Rattle.commandbytes.specs.Command.{commandOn, stepOn}
 
 unfoldable pub computing : Unit {0}
 unfolding word isHeld onDevice createOn statusOn resetOn controlOn readOn writeOn writeAllOn pollOn commandOn stepOn bbb.computing calls.computing recordbytes.computing

@@ -11,7 +11,8 @@ use Rattle.ringbytes.specs.Poll.{polls}
 use Rattle.ringbytes.proofs.Unique.{polled-once}
 use Rattle.databytes.specs.Data.{moves}
 use Rattle.databytes.proofs.Unique.{moved-once}
-use Rattle.callbytes.proofs.Unique.{left-once, shown-once}
+use Rattle.callbytes.proofs.Unique.{left-once}
+use Rattle.commandbytes.proofs.Unique.{shown-once}
 use Rattle.exported.proofs.souk_create.Kinds as souk-create-kinds
 use Rattle.exported.proofs.souk_create.Reads as souk-create
 use Rattle.exported.proofs.souk_set_status.Kinds as souk-set-status-kinds

@@ -15,7 +15,7 @@ use Rattle.border.specs.Record.{isHeld}
 use Rattle.ringbytes.specs.Poll.{polls, pollOn}
 use Rattle.databytes.specs.Data.{moves, readOn, writeOn, writeAllOn}
 use Rattle.callbytes.specs.Calls.{leaves, createOn, statusOn, resetOn, controlOn}
-use Rattle.callbytes.specs.Command.{shows, commandOn, stepOn}
+use Rattle.commandbytes.specs.Command.{shows, commandOn, stepOn}
 
 -- the command 12 01 80 00 FF, an inquiry for a page
 abbrev block : List ℕ

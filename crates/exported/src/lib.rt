@@ -11,7 +11,7 @@ ghost use Rattle.bbb.specs.Poll.{given};
 ghost use Rattle.ringbytes.specs.Poll.{polls, pollOn};
 ghost use Rattle.databytes.specs.Data.{moves, readOn, writeOn, writeAllOn};
 ghost use Rattle.callbytes.specs.Calls.{leaves, createOn, statusOn, resetOn, controlOn};
-ghost use Rattle.callbytes.specs.Command.{shows, commandOn, stepOn};
+ghost use Rattle.commandbytes.specs.Command.{shows, commandOn, stepOn};
 
 #[no_mangle]
 pub extern "C" fn souk_create(record: &mut [u8], packet_size: u32, max_lun: u8, size: u32) -> u32
@@ -93,12 +93,12 @@ pub extern "C" fn souk_control(record: &mut [u8], io: &[u8], request_type: u8, r
 pub extern "C" fn souk_command(record: &[u8], io: &[u8], block: &mut [u8]) -> u64
     ensures { λ x. ⌜ shows x (now (block .exit)) ≡ commandOn (now («record» .entry)) (now (io .entry)) (now (block .entry)) ⌝ }
 {
-    callbytes::command::command(record, io, block)
+    commandbytes::command(record, io, block)
 }
 
 #[no_mangle]
 pub extern "C" fn souk_command_step(record: &[u8], io: &[u8], command: &mut [u64]) -> u64
     ensures { λ x. ⌜ shows x (now (command .exit)) ≡ stepOn (now («record» .entry)) (now (io .entry)) (now (command .entry)) ⌝ }
 {
-    callbytes::command::command_step(record, io, command)
+    commandbytes::command_step(record, io, command)
 }

@@ -1,4 +1,4 @@
 -- proofs.Going     polls in the midst of a transfer are 01's polls
--- proofs.Through   a packet that goes through a local array
+-- proofs.Unique    no second answer satisfies a promise
 pub mod Going
-pub mod Through
+pub mod Unique

@@ -1,10 +1,6 @@
 // Polls in the midst of a transfer: the next packet of data crosses the wire, and nothing else happens. Most polls of a read-out are
 // such. The whole ring would come to the same, only later; so they are looked for first, and in the record's bytes, before anything
 // else is read of them. The tests may miss such a poll: then the ring does it.
-//     packet    a packet put into a slice
-mod packet;
-
-use crate::packet::put_packet;
 use bbb::fits;
 use border::word::word;
 use buffer::Marks;
@@ -12,6 +8,7 @@ use device::Numbers;
 use device::is_packet_size;
 use fields::byte;
 use fields::le32;
+use packetcopy::put_packet;
 use recordbytes::store;
 use ring::State;
 use wrapper::counters::left_after;

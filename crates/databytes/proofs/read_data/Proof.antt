@@ -4,43 +4,9 @@ use borrow.Author.Needs.{needs}
 use Rattle.databytes.proofs.read_data.Statement.{statement}
 use Rattle.databytes.proofs.read_data.Tie as tie
 
-held-requires : tie.Need-held-requires
-held-requires c κs = search needs
-
-same-length : tie.Need-same-length
-same-length c = search needs
-
-returns : tie.Need-returns
-returns c = search (ways, needs)
-
-device-at-requires : tie.Need-device-at-requires
-device-at-requires c κs = search (ways, needs)
-
-read-data-requires : tie.Need-read-data-requires
-read-data-requires c κs = search needs
-
-moved-requires : tie.Need-moved-requires
-moved-requires c κs = search (ways, needs)
-
-same-length-2 : tie.Need-same-length-2
-same-length-2 c = search needs
-
-same-length-3 : tie.Need-same-length-3
-same-length-3 c = search needs
-
-returns-2 : tie.Need-returns-2
-returns-2 c = search (ways, needs)
-
 pub read-data-spec : {M : Type 1} → statement M
 read-data-spec =
-    tie.close
-    (tie.spec
-    held-requires
-    same-length
-    returns
-    device-at-requires
-    read-data-requires
-    moved-requires
-    same-length-2
-    same-length-3
-    returns-2)
+    tie.close (tie.spec
+    (λ c. search needs) (λ c. search needs) (λ c. search (ways, needs))
+    (λ c. search (ways, needs)) (λ c. search needs) (λ c. search (ways, needs)) (λ c. search needs) (λ c. search needs)
+    (λ c. search (ways, needs)))

@@ -4,11 +4,5 @@ use Rattle.onward.proofs.Going.{ways}
 use Rattle.onward.proofs.sends_in.Statement.{statement}
 use Rattle.onward.proofs.sends_in.Tie as tie
 
-returns : tie.Need-returns
-returns c = search (ways, needs)
-
-returns-2 : tie.Need-returns-2
-returns-2 c = search (ways, needs)
-
 pub sends-in-spec : {M : Type 1} → statement M
-sends-in-spec = tie.close (tie.spec returns returns-2)
+sends-in-spec = tie.close (tie.spec (λ c. search (ways, needs)) (λ c. search (ways, needs)))

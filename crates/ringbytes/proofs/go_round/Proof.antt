@@ -6,14 +6,8 @@ use Rattle.ringbytes.proofs.Round.{keepable, rounds}
 use Rattle.ringbytes.proofs.go_round.Statement.{statement}
 use Rattle.ringbytes.proofs.go_round.Tie as tie
 
-open-requires : tie.Need-open-requires
-open-requires c κs = search needs
-
 keep-wrapper-requires : tie.Need-keep-wrapper-requires
 keep-wrapper-requires c κs = (known-long _ refl (c .before .before .before .before .before .before .before .before .before .before .before .pre .0), c .before .before .before .before .«open» .ensures .sound, c .before .before .before .before .«open» .ensures .front)
-
-go-on-requires : tie.Need-go-on-requires
-go-on-requires c κs = search needs
 
 keep-requires : tie.Need-keep-requires
 keep-requires c κs = (c .before .before .before .before .before .before .before .before .before .before .before .keep-wrapper .kept .0 ∙ known-long _ refl (c .before .before .before .before .before .before .before .before .before .before .before .before .before .before .before .before .before .before .before .before .before .before .before .pre .0), keepable _ _ _ (c .before .before .before .before .before .before .before .before .before .before .before .before .before .before .before .before .before .before .before .before .before .before .before .pre .0) (c .before .before .before .before .before .before .before .before .before .before .before .before .before .before .before .before .before .before .before .before .before .before .before .pre .1) (c .before .before .before .before .before .before .before .before .before .before .before .before .before .before .before .before .before .before .before .before .before .before .before .pre .2) (c .before .before .before .before .before .before .before .before .before .before .before .before .before .before .before .before .before .before .before .before .before .before .before .pre .3) _ _ (c .before .before .before .before .before .before .before .before .before .before .before .before .before .before .before .before .«open» .ensures) _ (c .before .before .before .before .before .before .go-on .ensures))
@@ -21,28 +15,11 @@ keep-requires c κs = (c .before .before .before .before .before .before .before
 told-requires : tie.Need-told-requires
 told-requires c κs = keepable _ _ _ (c .before .before .before .before .before .before .before .before .before .before .before .before .before .before .before .before .before .before .before .before .before .before .before .before .before .before .pre .0) (c .before .before .before .before .before .before .before .before .before .before .before .before .before .before .before .before .before .before .before .before .before .before .before .before .before .before .pre .1) (c .before .before .before .before .before .before .before .before .before .before .before .before .before .before .before .before .before .before .before .before .before .before .before .before .before .before .pre .2) (c .before .before .before .before .before .before .before .before .before .before .before .before .before .before .before .before .before .before .before .before .before .before .before .before .before .before .pre .3) _ _ (c .before .before .before .before .before .before .before .before .before .before .before .before .before .before .before .before .before .before .before .«open» .ensures) _ (c .before .before .before .before .before .before .before .before .before .go-on .ensures) .sent
 
-same-length : tie.Need-same-length
-same-length c = search needs
-
-same-length-2 : tie.Need-same-length-2
-same-length-2 c = search needs
-
-same-length-3 : tie.Need-same-length-3
-same-length-3 c = search needs
-
 returns : tie.Need-returns
 returns c = rounds _ _ _ (c .before .before .before .before .before .before .before .before .before .before .before .before .before .before .before .before .before .before .before .before .before .before .before .before .before .before .before .pre .0) (c .before .before .before .before .before .before .before .before .before .before .before .before .before .before .before .before .before .before .before .before .before .before .before .before .before .before .before .pre .1) (c .before .before .before .before .before .before .before .before .before .before .before .before .before .before .before .before .before .before .before .before .before .before .before .before .before .before .before .pre .2) (c .before .before .before .before .before .before .before .before .before .before .before .before .before .before .before .before .before .before .before .before .before .before .before .before .before .before .before .pre .3) _ _ (c .before .before .before .before .before .before .before .before .before .before .before .before .before .before .before .before .before .before .before .before .«open» .ensures) _ (c .before .before .before .before .before .before .before .before .before .before .go-on .ensures) (c .before .before .before .before .before .before .before .before .before .before .before .before .before .before .before .keep-wrapper .ensures) (c .before .before .before .keep .ensures) (c .told .ensures)
 
 pub go-round-spec : {M : Type 1} → statement M
 go-round-spec =
-    tie.close
-    (tie.spec
-    open-requires
-    keep-wrapper-requires
-    go-on-requires
-    keep-requires
-    told-requires
-    same-length
-    same-length-2
-    same-length-3
-    returns)
+    tie.close (tie.spec
+    (λ c. search needs) keep-wrapper-requires (λ c. search needs) keep-requires told-requires (λ c. search needs) (λ c. search needs)
+    (λ c. search needs) returns)

@@ -6,32 +6,14 @@ use Rattle.ringbytes.proofs.Round.{known-there, whole-there, fits-there
 use Rattle.ringbytes.proofs.poll.Statement.{statement}
 use Rattle.ringbytes.proofs.poll.Tie as tie
 
-known-requires : tie.Need-known-requires
-known-requires c κs = search needs
-
-same-length : tie.Need-same-length
-same-length c = search needs
-
 returns : tie.Need-returns
 returns c = poll-unknown _ _ _ (c .before .known .ensures) (c .if1 .taken)
 
 numbers-at-requires : tie.Need-numbers-at-requires
 numbers-at-requires c κs = known-long _ (c .before .before .known .ensures) (not-false _ (c .before .if1 .left))
 
-whole-requires : tie.Need-whole-requires
-whole-requires c κs = search needs
-
-same-length-2 : tie.Need-same-length-2
-same-length-2 c = search needs
-
 returns-2 : tie.Need-returns-2
 returns-2 c = poll-broken _ _ _ (c .before .before .before .before .before .known .ensures) (c .before .before .before .before .if1 .left) (c .before .before .numbers-at .ensures) (c .before .whole .ensures) (c .if2 .taken)
-
-fits-requires : tie.Need-fits-requires
-fits-requires c κs = search needs
-
-same-length-3 : tie.Need-same-length-3
-same-length-3 c = search needs
 
 returns-3 : tie.Need-returns-3
 returns-3 c = poll-refused _ _ _ (c .before .before .before .before .before .before .before .known .ensures) (c .before .before .before .before .before .before .if1 .left) (c .before .before .before .before .numbers-at .ensures) (c .before .before .before .whole .ensures) (c .before .before .if2 .left) (c .before .fits2 .ensures) (c .if3 .taken)
@@ -39,34 +21,13 @@ returns-3 c = poll-refused _ _ _ (c .before .before .before .before .before .bef
 go-round-requires : tie.Need-go-round-requires
 go-round-requires c κs = (known-there _ (c .before .before .before .before .before .before .before .before .before .before .known .ensures) (c .before .before .before .before .before .before .before .before .before .if1 .left), c .before .before .before .before .before .before .before .numbers-at .ensures, whole-there _ _ (c .before .before .before .before .before .before .whole .ensures) (c .before .before .before .before .before .if2 .left), fits-there _ _ _ _ (c .before .before .before .before .fits2 .ensures) (c .before .before .before .if3 .left))
 
-same-length-4 : tie.Need-same-length-4
-same-length-4 c = search needs
-
-same-length-5 : tie.Need-same-length-5
-same-length-5 c = search needs
-
-same-length-6 : tie.Need-same-length-6
-same-length-6 c = search needs
-
 returns-4 : tie.Need-returns-4
 returns-4 c = c .before .before .before .before .before .before .go-round .ensures
 
 pub poll-spec : {M : Type 1} → statement M
 poll-spec =
-    tie.close
-    (tie.spec
-    known-requires
-    same-length
-    returns
-    numbers-at-requires
-    whole-requires
-    same-length-2
-    returns-2
-    fits-requires
-    same-length-3
-    returns-3
-    go-round-requires
-    same-length-4
-    same-length-5
-    same-length-6
-    returns-4)
+    tie.close (tie.spec
+    (λ c. search needs) (λ c. search needs) returns
+    numbers-at-requires (λ c. search needs) (λ c. search needs) returns-2
+    (λ c. search needs) (λ c. search needs) returns-3
+    go-round-requires (λ c. search needs) (λ c. search needs) (λ c. search needs) returns-4)

@@ -4,39 +4,8 @@ use borrow.Author.Needs.{needs}
 use Rattle.callbytes.proofs.bus.reset.Statement.{statement}
 use Rattle.callbytes.proofs.bus.reset.Tie as tie
 
-held-requires : tie.Need-held-requires
-held-requires c κs = search needs
-
-same-length : tie.Need-same-length
-same-length c = search needs
-
-returns : tie.Need-returns
-returns c = search (ways, needs)
-
-device-at-requires : tie.Need-device-at-requires
-device-at-requires c κs = search (ways, needs)
-
-reset-requires : tie.Need-reset-requires
-reset-requires c κs = search needs
-
-handled-requires : tie.Need-handled-requires
-handled-requires c κs = search (ways, needs)
-
-same-length-2 : tie.Need-same-length-2
-same-length-2 c = search needs
-
-returns-2 : tie.Need-returns-2
-returns-2 c = search (ways, needs)
-
 pub reset-spec : {M : Type 1} → statement M
 reset-spec =
-    tie.close
-    (tie.spec
-    held-requires
-    same-length
-    returns
-    device-at-requires
-    reset-requires
-    handled-requires
-    same-length-2
-    returns-2)
+    tie.close (tie.spec
+    (λ c. search needs) (λ c. search needs) (λ c. search (ways, needs))
+    (λ c. search (ways, needs)) (λ c. search needs) (λ c. search (ways, needs)) (λ c. search needs) (λ c. search (ways, needs)))

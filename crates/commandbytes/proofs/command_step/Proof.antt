@@ -1,0 +1,13 @@
+-- `commandbytes::command_step` meets its contract: other than six numbers lent, refused, or the call by value on what the bytes hold. Assumes nothing.
+use borrow.Author.Needs.{needs}
+use Rattle.commandbytes.proofs.Ways.{ways}
+use Rattle.commandbytes.proofs.command_step.Statement.{statement}
+use Rattle.commandbytes.proofs.command_step.Tie as tie
+
+pub command-step-spec : {M : Type 1} → statement M
+command-step-spec =
+    tie.close (tie.spec
+    (λ c. search (ways, needs))
+    (λ c. search (ways, needs)) (λ c. search (ways, needs))
+    (λ c. search (ways, needs)) (λ c. search (ways, needs)) (λ c. search (ways, needs)) (λ c. search (ways, needs))
+    (λ c. search (ways, needs)))

@@ -1,0 +1,12 @@
+-- `commandbytes::offer` meets its contract: the command in its six numbers, or nothing. Assumes nothing.
+use Rattle.commandbytes.proofs.Ways.{ways}
+use borrow.Author.Needs.{needs}
+use Rattle.commandbytes.proofs.offer.Statement.{statement}
+use Rattle.commandbytes.proofs.offer.Tie as tie
+
+pub offer-spec : {M : Type 1} → statement M
+offer-spec =
+    tie.close (tie.spec
+    (λ c. search needs) (λ c. search needs) (λ c. search needs) (λ c. search needs) (λ c. search needs) (λ c. search needs)
+    (λ c. search (ways, needs))
+    (λ c. search needs) (λ c. search (ways, needs)))

@@ -1,0 +1,2 @@
+-- specs.Command    the command shown, and the command step
+pub mod Command

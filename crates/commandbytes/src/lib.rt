@@ -1,0 +1,74 @@
+// The command shown to the firmware, and the command step, over a record of bytes. Each takes any bytes of any length, and tests what it was
+// lent first: a refusal with 10 leaves all of it as it was.
+use answers::answer_number;
+use border::word::word;
+use buffer::span::put;
+use calls::command::Offer;
+use calls::command::Shown;
+use calls::command::Step;
+use recordbytes::device_at;
+use recordbytes::known;
+use scsi::numbers::put_command;
+ghost use mathlib.Core.Path.{_≡_};
+ghost use lib.ListN.{length};
+ghost use Rattle.answers.specs.Answers.{answerOf};
+ghost use Rattle.calls.specs.Command.{shownOf, offers};
+ghost use Rattle.commandbytes.specs.Command.{shows, shown, commandOn, offered, stepOn};
+
+// A command that is shown goes into the lent bytes.
+fn show(c: Shown, block: &mut [u8]) -> u64
+    requires { ⌜ length (now block) ≡ 16 ⌝ }
+    ensures { λ x. ⌜ shows x (now (block .exit)) ≡ shown (now (block .entry)) (shownOf c) ⌝ }
+{
+    let answer = c.answer;
+    let bytes = c.block;
+    let number = answer_number(answer);
+    if c.shown {
+        put(block, 0, &bytes);
+        return word(number, c.lun, 0, 1, c.blocklength as u32);
+    }
+    word(number, c.lun, 0, 0, c.blocklength as u32)
+}
+
+pub fn command(record: &[u8], io: &[u8], block: &mut [u8]) -> u64
+    ensures { λ x. ⌜ shows x (now (block .exit)) ≡ commandOn (now («record» .entry)) (now (io .entry)) (now (block .entry)) ⌝ }
+{
+    if block.len() != 16 {
+        return 10;
+    }
+    if !known(record) {
+        return 10;
+    }
+    let c = calls::command::command(device_at(record), io);
+    show(c, block)
+}
+
+// A command that is offered goes into the six lent numbers.
+fn offer(s: Step, command: &mut [u64]) -> u64
+    requires { ⌜ length (now command) ≡ 6 ⌝ }
+    ensures { λ x. ⌜ shows x (now (command .exit)) ≡ offered (answerOf (s .answer) .number) (now (command .entry)) (offers (s .offer)) ⌝ }
+{
+    let answer = s.answer;
+    let number = answer_number(answer);
+    let offer = s.offer;
+    match offer {
+        Offer::Nothing => word(number, 0, 0, 0, 0),
+        Offer::Command(lun, kind) => {
+            put_command(command, kind);
+            word(number, lun, 0, 1, 0)
+        }
+    }
+}
+
+pub fn command_step(record: &[u8], io: &[u8], command: &mut [u64]) -> u64
+    ensures { λ x. ⌜ shows x (now (command .exit)) ≡ stepOn (now («record» .entry)) (now (io .entry)) (now (command .entry)) ⌝ }
+{
+    if command.len() != 6 {
+        return 10;
+    }
+    if !known(record) {
+        return 10;
+    }
+    let s = calls::command::command_step(device_at(record), io);
+    offer(s, command)
+}
