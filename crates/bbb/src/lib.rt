@@ -170,13 +170,13 @@ fn changed(d: Device, c: Change, w: Wrapper) -> Device
     rebuilt(d, state, marks, w, status, left)
 }
 
-fn refused(device: Device, answer: Answer) -> Polled
-    ensures { λ r. ⌜ r ≡ refusedBy device answer ⌝ }
+fn refused(device: Device, why: Answer) -> Polled
+    ensures { λ r. ⌜ r ≡ refusedBy device why ⌝ }
 {
     Polled {
         device: device,
         report: Report {
-            answer: answer,
+            answer: why,
             taken: 0,
             sent: 0,
             stalls: Stalls::Kept,

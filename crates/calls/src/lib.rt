@@ -266,12 +266,12 @@ fn kept(device: Device, answer: Answer, reply: Reply) -> Handled
 fn enter(device: Device) -> Handled
     ensures { λ r. ⌜ r ≡ enters0 device ⌝ }
 {
-    let marks = device.marks;
+    let unread = device.marks;
     let wrapper = device.wrapper;
     let d = rebuilt(
         device,
         State::CommandTransfer,
-        marks,
+        unread,
         wrapper,
         Status::Absent,
         Left(0),

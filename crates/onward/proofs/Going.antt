@@ -21,7 +21,7 @@ use Rattle.buffer.specs.declared.Marks.{Marks}
 use Rattle.buffer.specs.Buffer.{Buffer, buffer, at, unread, unreadBytes, room, withRoom, appended, lacksRoom, writtenAll, ready, given, readOff}
 use Rattle.answers.specs.declared.Endpoint.the-variants.{Served}
 use Rattle.answers.specs.declared.Stalls.the-variants.{Kept}
-use Rattle.answers.specs.Answers.{no, endpointOf}
+use Rattle.answers.specs.Answers.{answer, endpointOf}
 use Rattle.ring.specs.declared.State.{State}
 use Rattle.ring.specs.declared.State.the-variants as ring
 use Rattle.ring.specs.declared.State.the-variants.{DataTransferToHost, DataTransferToHostEnding, DataTransferFromHost}
@@ -29,18 +29,18 @@ use Rattle.ring.specs.States.{stateNumber, stateOfNumber}
 use Rattle.ring.proofs.Numbers.{state-number}
 use Rattle.wrapper.specs.declared.counters.Left.{Left}
 use Rattle.wrapper.specs.Counters.{fallen}
-use Rattle.packets.specs.Packets.{handed, readTold, takesOne, brought, received, accepted, sentCount, sentOff, sentInto}
-use Rattle.packets.proofs.Laws.{fills-none, told-served}
+use Rattle.packets.specs.Packets.{handed, readAnswer, takesOne, brought, received, accepted, sentCount, sentOff, sentInto}
+use Rattle.packets.proofs.Laws.{fills-none, answer-served}
 use Rattle.device.specs.declared.Device.{Device}
 use Rattle.device.specs.declared.Numbers.{Numbers}
-use Rattle.device.specs.Create.{isPacketSize, creation}
+use Rattle.device.specs.Create.{fixed, isPacketSize, creation}
 use Rattle.device.specs.Device.{isPresent, numbersOf, inState, withMarks, withLeft}
 use Rattle.device.specs.Broken.{statusFits, Whole}
 use Rattle.device.proofs.Wholly.{whole-sound, size-most, packet-known, packet-bounds}
-use Rattle.bbb.specs.Poll.{Given, Polling, Fits, isFitting, point, sendData, dataBy, takeData, takeBy, offers, offeredBy, toHostEndingRule, toHostRule, fromHostRule, ruleIn, pollRule, pollCall}
+use Rattle.bbb.specs.Poll.{Given, Polling, Fits, isFitting, point, sendBy, send, sendData, takeData, takeBy, offers, offeredBy, toHostEndingRule, toHostRule, fromHostRule, ruleIn, pollRule, pollCall}
 use Rattle.bbb.proofs.Keeping.{call-done}
 use Rattle.recordbytes.specs.Layout as field
-use Rattle.recordbytes.specs.Record.{statusBy, statusAt, marksAt, wrapperAt, deviceAt, storeState, storeMarks, storeLeft}
+use Rattle.recordbytes.specs.Record.{statusBy, statusAt, marksAt, wrapperAt, fixedAt, deviceAt, storeState, storeMarks, storeLeft}
 use Rattle.recordbytes.proofs.Stored.{known-is}
 use Rattle.border.specs.Word.{word}
 use Rattle.onward.specs.Onward.{Steady, Ready, sendsIn, Sending, MaySend, Taking, MayTake, bufferOf, SendsOn, TakesOn}
@@ -64,7 +64,7 @@ module _ (state : ℕ) where
   unfolding sendsIn
   sends-known h = cases (eqb state 6) (λ e. omega (arith, eqb-true state 6 e)) (λ e. omega (arith, eqb-true state 4 (rw e at h)))
 
-created-by : (p maxlun size : ℕ) → isPacketSize p ≡ true → maxlun ≤ 15 → 64 ≤ size → size ≤ 65536 → creation p maxlun size ≡ 0
+created-by : (p maxlun size : ℕ) → isPacketSize p ≡ true → maxlun ≤ 15 → 64 ≤ size → size ≤ 65536 → creation (fixed p maxlun size) ≡ 0
 unfolding creation
 created-by p maxlun size h a b c =
     rw (le-ltb 15 maxlun a, le-ltb size 31 (omega arith), le-ltb size p (omega (arith, packet-bounds p h .1)), h, le-ltb 65536 size c)
@@ -74,6 +74,7 @@ pub is-steady : (r : List ℕ) (len : ℕ) {size maxlun status direction lun blo
     → status ≡ get field.status r → status ≤ 2 → direction ≡ get field.direction r → direction ≤ 2
     → lun ≡ get field.lun r → lun ≤ 15 → block ≡ get field.blockLength r → block ≤ 16
     → p ≡ get field.packetSize r → v ≡ isPacketSize p → v ≡ true → Steady r len
+unfolding fixedAt
 is-steady r len {size} {maxlun} {p = p} es el a b em c et t ed d eu u eb k ep ev q = record {
   lent = sym es ∙ el;
   created = rw (← es, ← em, ← ep) (created-by p maxlun size (sym ev ∙ q) c a b);
@@ -112,7 +113,7 @@ module _ (r : List ℕ) where
       (order : get field.readMark r ≤ get field.writeMark r) (within : get field.writeMark r ≤ len)
       (suits : statusFits (stateOfNumber (get field.state r)) (isPresent (statusAt r)) ≡ true) (fits : isFitting (get field.packetSize r) packet one two ≡ true) where
     is-ready : Ready r len packet one two
-    unfolding deviceAt marksAt wrapperAt
+    unfolding deviceAt fixedAt marksAt wrapperAt
     is-ready = record {
       known = known-is r (record { long = long; state = state; flag = flag; status = s .status; direction = s .direction });
       whole = record { lent = s .lent; created = s .created; order = order; within = rw (s .lent) within; block = s .block; lun = s .lun; status = suits };
@@ -123,7 +124,7 @@ module _ (r : List ℕ) where
       → length r ≡ 52 → state ≡ get field.state r → i ≡ sendsIn state → not i ≡ false → flag ≡ get field.present r → flag ≡ 1 → write ≡ 0
       → p ≡ get field.packetSize r → left ≡ get field.left r → p ≤ left → (s ≡ true → Steady r len) → not s ≡ false
       → to ≡ get field.writeMark r → to ≤ len → from ≡ get field.readMark r → from + p ≤ to → v ≡ isFitting p packet one two → v ≡ true → MaySend r len packet one two write
-  unfolding deviceAt marksAt
+  unfolding deviceAt fixedAt marksAt
   may-send len packet one two write {i = i} {s = s} long es ei qi ef one-there served ep el some steady qs et within er order ev qv =
       let sends : sendsIn (get field.state r) ≡ true = rw es at (sym ei ∙ not-false i qi) in
       let known : get field.state r ≤ 8 = sends-known (get field.state r) sends in
@@ -141,7 +142,7 @@ module _ (r : List ℕ) where
       → length r ≡ 52 → state ≡ get field.state r → state ≡ 7 → flag ≡ get field.present r → flag ≡ 0 → first ≡ 0
       → left ≡ get field.left r → (left ≡ 0 → ⊥) → (s ≡ true → Steady r len) → not s ≡ false → p ≡ get field.packetSize r
       → to ≡ get field.writeMark r → to + p ≤ len → from ≡ get field.readMark r → from ≤ to → v ≡ isFitting p packet one two → v ≡ true → MayTake r len packet one two first
-  unfolding deviceAt marksAt stateOfNumber
+  unfolding deviceAt fixedAt marksAt stateOfNumber
   may-take len packet one two first {s = s} long es seven ef none-there served el some steady qs ep et room er order ev qv =
       let state : get field.state r ≡ 7 = sym es ∙ seven in
       let flag : get field.present r ≡ 0 = sym ef ∙ none-there in
@@ -152,32 +153,32 @@ module _ (r : List ℕ) where
 
 -- ---- a packet of data goes out: 01's rules of 4 and 6
 
-module _ (d : Device) (io : List ℕ) (g : Given) (w : Whole (numbersOf d) (length io)) (f : Fits (d .packetsize) (g .packet) (g .one) (g .two)) where
+module _ (d : Device) (io : List ℕ) (g : Given) (w : Whole (numbersOf d) (length io)) (f : Fits (d .fixed .packetsize) (g .packet) (g .one) (g .two)) where
   abbrev s : Buffer
   s = buffer io (d .marks)
 
   abbrev pub sentOn : Polling
   sentOn = record {
-    device = inState DataTransferToHostEnding (withMarks (readOff (d .packetsize) s .marks) (withLeft (fallen (d .left) (ready (d .packetsize) s)) d));
-    told = no 0;
+    device = inState DataTransferToHostEnding (withMarks (readOff (d .fixed .packetsize) s .marks) (withLeft (fallen (d .left) (ready (d .fixed .packetsize) s)) d));
+    answer = answer 0;
     taken = 0;
-    sent = ready (d .packetsize) s;
+    sent = ready (d .fixed .packetsize) s;
     stalls = Kept;
     io = io;
-    packet = overlay (g .packet) 0 (given (d .packetsize) s);
+    packet = overlay (g .packet) 0 (given (d .fixed .packetsize) s);
   }
 
   module _ (h : Sending (numbersOf d) (g .turn .write)) where
     some : eqb (d .left .0) 0 ≡ false
-    some = ne-eqb (d .left .0) 0 (λ z. absurd (omega (arith, z, h .left, packet-bounds (d .packetsize) (packet-known (numbersOf d) (length io) w) .0)))
+    some = ne-eqb (d .left .0) 0 (λ z. absurd (omega (arith, z, h .left, packet-bounds (d .fixed .packetsize) (packet-known (numbersOf d) (length io) w) .0)))
 
-    due : min (d .left .0) (d .packetsize) ≤ d .marks .write - d .marks .read
-    due = omega (arith, h .unread, min-le-right (d .left .0) (d .packetsize))
+    due : min (d .left .0) (d .fixed .packetsize) ≤ d .marks .write - d .marks .read
+    due = omega (arith, h .unread, min-le-right (d .left .0) (d .fixed .packetsize))
 
     ending-sends : toHostEndingRule g (point d io 0 false) ≡ sentOn
-    unfolding toHostEndingRule sendData dataBy sentCount sentOff sentInto accepted readOff endpointOf
+    unfolding toHostEndingRule send sendBy sentCount sentOff sentInto accepted readOff endpointOf
     ending-sends =
-        rw (some, ← fills-none (d .packetsize) (d .left) s refl (whole-sound (numbersOf d) io w) due .same, h .served, told-served Served (unread s) refl)
+        rw (some, ← fills-none (d .fixed .packetsize) (d .left) s refl (whole-sound (numbersOf d) io w) due .same, h .served, answer-served Served (unread s) refl)
 
     pub send-rule : pollCall d io g ≡ sentOn
     unfolding pollRule ruleIn toHostRule
@@ -211,11 +212,11 @@ takes-all : (p : ℕ) (s : Buffer) (one : List ℕ) → p ≤ room s → length 
 unfolding writtenAll
 takes-all p s one h k = rw (max-eq-left k, roomy p s h .1, roomy p s h .0)
 
-module _ (d : Device) (io : List ℕ) (g : Given) (w : Whole (numbersOf d) (length io)) (f : Fits (d .packetsize) (g .packet) (g .one) (g .two)) where
+module _ (d : Device) (io : List ℕ) (g : Given) (w : Whole (numbersOf d) (length io)) (f : Fits (d .fixed .packetsize) (g .packet) (g .one) (g .two)) where
   abbrev pub takenOn : Polling
   takenOn = record {
     device = withMarks (at (d .marks .read) (d .marks .write + length (g .one))) (withLeft (fallen (d .left) (length (g .one))) d);
-    told = no 0;
+    answer = answer 0;
     taken = 1;
     sent = 0;
     stalls = Kept;
@@ -225,10 +226,10 @@ module _ (d : Device) (io : List ℕ) (g : Given) (w : Whole (numbersOf d) (leng
 
   module _ (h : Taking (numbersOf d) (length io) (g .turn .first)) where
     from-host-takes : fromHostRule g (point d io 0 false) ≡ takenOn
-    unfolding fromHostRule takeData takeBy offers offeredBy received readTold takesOne brought handed endpointOf appended
+    unfolding fromHostRule takeData takeBy offers offeredBy received readAnswer takesOne brought handed endpointOf appended
     from-host-takes =
         let s : Buffer = buffer io (d .marks) in
-        rw (ne-eqb (d .left .0) 0 (h .some), h .absent, h .served, roomy (d .packetsize) s (h .room) .1, takes-all (d .packetsize) s (g .one) (h .room) (f .first), ← in-7 (d .state) (eq-eqb _ _ (h .state)))
+        rw (ne-eqb (d .left .0) 0 (h .some), h .absent, h .served, roomy (d .fixed .packetsize) s (h .room) .1, takes-all (d .fixed .packetsize) s (g .one) (h .room) (f .first), ← in-7 (d .state) (eq-eqb _ _ (h .state)))
 
     pub take-rule : pollCall d io g ≡ takenOn
     unfolding pollRule ruleIn
@@ -240,38 +241,38 @@ module _ (n : Numbers) (len : ℕ) (w : Whole n len) where
   pub mark-fits : {k : ℕ} → k ≤ len → k < 2 ^ 32
   mark-fits h = omega (arith, h, w .lent, size-most n len w)
 
-  pub count-fits : {k : ℕ} → k ≤ n .packetsize → k < 2 ^ 32
-  count-fits h = omega (arith, h, packet-bounds (n .packetsize) (packet-known n len w) .1)
+  pub count-fits : {k : ℕ} → k ≤ n .fixed .packetsize → k < 2 ^ 32
+  count-fits h = omega (arith, h, packet-bounds (n .fixed .packetsize) (packet-known n len w) .1)
 
 -- a packet that is whole is what a read takes
-module _ (n : Numbers) (io : List ℕ) (h : n .packetsize ≤ n .marks .write - n .marks .read) where
-  all-ready : n .packetsize ≡ ready (n .packetsize) (bufferOf n io)
+module _ (n : Numbers) (io : List ℕ) (h : n .fixed .packetsize ≤ n .marks .write - n .marks .read) where
+  all-ready : n .fixed .packetsize ≡ ready (n .fixed .packetsize) (bufferOf n io)
   unfolding ready
   all-ready = sym (min-eq-right h)
 
-  all-given : take (n .packetsize) (drop (n .marks .read) io) ≡ given (n .packetsize) (bufferOf n io)
+  all-given : take (n .fixed .packetsize) (drop (n .marks .read) io) ≡ given (n .fixed .packetsize) (bufferOf n io)
   unfolding given unreadBytes
-  all-given = rw (← all-ready) (sym (take-take (n .packetsize) (n .marks .write - n .marks .read) (drop (n .marks .read) io) h))
+  all-given = rw (← all-ready) (sym (take-take (n .fixed .packetsize) (n .marks .write - n .marks .read) (drop (n .marks .read) io) h))
 
-  all-read : at (n .marks .read + n .packetsize) (n .marks .write) ≡ readOff (n .packetsize) (bufferOf n io) .marks
+  all-read : at (n .marks .read + n .fixed .packetsize) (n .marks .write) ≡ readOff (n .fixed .packetsize) (bufferOf n io) .marks
   unfolding readOff
   all-read = ap (λ (k : ℕ). at (n .marks .read + k) (n .marks .write)) all-ready
 
   pub leaves-sent : (r p : List ℕ) {k x : ℕ} {falls : Left} {p′ a b l : List ℕ}
-      → falls ≡ fallen (n .left) (n .packetsize) → a ≡ storeState DataTransferToHostEnding r → b ≡ storeMarks (at (n .marks .read + n .packetsize) (n .marks .write)) a → l ≡ storeLeft falls b
-      → p′ ≡ overlay p 0 (take (n .marks .read + n .packetsize - n .marks .read) (drop (n .marks .read) io)) → k ≡ n .packetsize → x ≡ word 0 0 0 0 k
+      → falls ≡ fallen (n .left) (n .fixed .packetsize) → a ≡ storeState DataTransferToHostEnding r → b ≡ storeMarks (at (n .marks .read + n .fixed .packetsize) (n .marks .write)) a → l ≡ storeLeft falls b
+      → p′ ≡ overlay p 0 (take (n .marks .read + n .fixed .packetsize - n .marks .read) (drop (n .marks .read) io)) → k ≡ n .fixed .packetsize → x ≡ word 0 0 0 0 k
       → SendsOn n io r p x l p′
   leaves-sent r p {p′ = p′} ef ea eb el ep ek ex =
-      let long : n .marks .read + n .packetsize - n .marks .read ≡ n .packetsize = omega arith in
+      let long : n .marks .read + n .fixed .packetsize - n .marks .read ≡ n .fixed .packetsize = omega arith in
       record {
-        told = ex ∙ ap (word 0 0 0 0) (ek ∙ all-ready);
-        bytes = el ∙ rw (eb, ea, ef) (ap (λ (m : Marks). storeLeft (fallen (n .left) (n .packetsize)) (storeMarks m (storeState DataTransferToHostEnding r))) all-read ∙ ap (λ (k : ℕ). storeLeft (fallen (n .left) k) (storeMarks (readOff (n .packetsize) (bufferOf n io) .marks) (storeState DataTransferToHostEnding r))) all-ready);
+        answer = ex ∙ ap (word 0 0 0 0) (ek ∙ all-ready);
+        bytes = el ∙ rw (eb, ea, ef) (ap (λ (m : Marks). storeLeft (fallen (n .left) (n .fixed .packetsize)) (storeMarks m (storeState DataTransferToHostEnding r))) all-read ∙ ap (λ (k : ℕ). storeLeft (fallen (n .left) k) (storeMarks (readOff (n .fixed .packetsize) (bufferOf n io) .marks) (storeState DataTransferToHostEnding r))) all-ready);
         packet = ep ∙ ap (overlay p 0) (ap (λ (k : ℕ). take k (drop (n .marks .read) io)) long ∙ all-given);
       }
 
 pub leaves-taken : (n : Numbers) (io r one : List ℕ) {x : ℕ} {falls : Left} {io′ a l : List ℕ}
     → falls ≡ fallen (n .left) (length one) → a ≡ storeMarks (at (n .marks .read) (n .marks .write + length one)) r → l ≡ storeLeft falls a → io′ ≡ overlay io (n .marks .write) one → x ≡ word 0 0 0 1 0
     → TakesOn n io r one x l io′
-leaves-taken n io r one ef ea el eio ex = record { told = ex; bytes = el ∙ rw (ea, ef); io = eio }
+leaves-taken n io r one ef ea el eio ex = record { answer = ex; bytes = el ∙ rw (ea, ef); io = eio }
 
 pub ruleset ways = (sends-6, sends-4, is-steady, may-send, may-take, leaves-sent, leaves-taken)

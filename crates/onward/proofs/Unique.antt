@@ -16,7 +16,7 @@ both : {r l b c : List ℕ} → r ≡ l → b ≡ c → _≡_ {A = List ℕ × L
 both e f = rw (e, f)
 
 pub send-on-only : Only {B = List ℕ × List ℕ} 3 send-on-kinds.ps send-on-kinds.r send-on.Post (λ κs s. (now (s .0), now (s .1 .1 .1 .0)))
-send-on-only κs a x y s t p q = (p .told ∙ sym (q .told), both (p .bytes ∙ sym (q .bytes)) (p .packet ∙ sym (q .packet)))
+send-on-only κs a x y s t p q = (p .answer ∙ sym (q .answer), both (p .bytes ∙ sym (q .bytes)) (p .packet ∙ sym (q .packet)))
 
 pub take-on-only : Only {B = List ℕ × List ℕ} 3 take-on-kinds.ps take-on-kinds.r take-on.Post (λ κs s. (now (s .0), now (s .1 .1 .0)))
-take-on-only κs a x y s t p q = (p .told ∙ sym (q .told), both (p .bytes ∙ sym (q .bytes)) (p .io ∙ sym (q .io)))
+take-on-only κs a x y s t p q = (p .answer ∙ sym (q .answer), both (p .bytes ∙ sym (q .bytes)) (p .io ∙ sym (q .io)))

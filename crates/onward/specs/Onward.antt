@@ -18,7 +18,7 @@ use Rattle.device.specs.Device.{isPresent, numbersOf}
 use Rattle.device.specs.Broken.{Whole}
 use Rattle.bbb.specs.Poll.{isFitting}
 use Rattle.recordbytes.specs.Layout as field
-use Rattle.recordbytes.specs.Record.{isKnown, deviceAt, storeState, storeMarks, storeLeft}
+use Rattle.recordbytes.specs.Record.{isKnown, fixedAt, deviceAt, storeState, storeMarks, storeLeft}
 use Rattle.border.specs.Word.{word}
 
 -- ---- which polls are such: what the tests tell where they hold. Where they do not the whole ring is asked.
@@ -26,7 +26,7 @@ use Rattle.border.specs.Word.{word}
 -- what 01's rules on broken records, and our own on the direction, ask of the numbers that no such poll changes
 pub record Steady (r : List ℕ) (len : ℕ) : Type 0 where
   pub lent : get field.size r ≡ len
-  pub created : creation (get field.packetSize r) (get field.maxLun r) (get field.size r) ≡ 0
+  pub created : creation (fixedAt r) ≡ 0
   pub status : get field.status r ≤ 2
   pub direction : get field.direction r ≤ 2
   pub lun : get field.lun r ≤ 15
@@ -36,7 +36,7 @@ pub record Steady (r : List ℕ) (len : ℕ) : Type 0 where
 pub record Ready (r : List ℕ) (len packet one two : ℕ) : Type 0 where
   pub known : isKnown r ≡ true
   pub whole : Whole (numbersOf (deviceAt r)) len
-  pub fits : isFitting (numbersOf (deviceAt r) .packetsize) packet one two ≡ true
+  pub fits : isFitting (numbersOf (deviceAt r) .fixed .packetsize) packet one two ≡ true
 
 -- "4: .. status present goes to 6"
 unfoldable pub sendsIn : ℕ → Bool
@@ -47,8 +47,8 @@ pub record Sending (n : Numbers) (write : ℕ) : Type 0 where
   pub present : isPresent (n .status) ≡ true
   pub state : sendsIn (stateNumber (n .state)) ≡ true
   pub served : write ≡ 0
-  pub left : n .packetsize ≤ n .left .0
-  pub unread : n .packetsize ≤ n .marks .write - n .marks .read
+  pub left : n .fixed .packetsize ≤ n .left .0
+  pub unread : n .fixed .packetsize ≤ n .marks .write - n .marks .read
 
 pub record MaySend (r : List ℕ) (len packet one two write : ℕ) : Type 0 where
   pub ready : Ready r len packet one two
@@ -60,7 +60,7 @@ pub record Taking (n : Numbers) (len first : ℕ) : Type 0 where
   pub absent : isPresent (n .status) ≡ false
   pub served : first ≡ 0
   pub some : n .left .0 ≡ 0 → ⊥
-  pub room : n .packetsize ≤ len - n .marks .write
+  pub room : n .fixed .packetsize ≤ len - n .marks .write
 
 pub record MayTake (r : List ℕ) (len packet one two first : ℕ) : Type 0 where
   pub ready : Ready r len packet one two
@@ -73,12 +73,12 @@ bufferOf n io = buffer io (n .marks)
 
 -- a packet out: result, record and packet buffer
 pub record SendsOn (n : Numbers) (io r p : List ℕ) (result : ℕ) (r′ p′ : List ℕ) : Type 0 where
-  pub told : result ≡ word 0 0 0 0 (ready (n .packetsize) (bufferOf n io))
-  pub bytes : r′ ≡ storeLeft (fallen (n .left) (ready (n .packetsize) (bufferOf n io))) (storeMarks (readOff (n .packetsize) (bufferOf n io) .marks) (storeState DataTransferToHostEnding r))
-  pub packet : p′ ≡ overlay p 0 (given (n .packetsize) (bufferOf n io))
+  pub answer : result ≡ word 0 0 0 0 (ready (n .fixed .packetsize) (bufferOf n io))
+  pub bytes : r′ ≡ storeLeft (fallen (n .left) (ready (n .fixed .packetsize) (bufferOf n io))) (storeMarks (readOff (n .fixed .packetsize) (bufferOf n io) .marks) (storeState DataTransferToHostEnding r))
+  pub packet : p′ ≡ overlay p 0 (given (n .fixed .packetsize) (bufferOf n io))
 
 -- a packet in: result, record and IO buffer
 pub record TakesOn (n : Numbers) (b r one : List ℕ) (result : ℕ) (r′ b′ : List ℕ) : Type 0 where
-  pub told : result ≡ word 0 0 0 1 0
+  pub answer : result ≡ word 0 0 0 1 0
   pub bytes : r′ ≡ storeLeft (fallen (n .left) (length one)) (storeMarks (at (n .marks .read) (n .marks .write + length one)) r)
   pub io : b′ ≡ overlay b (n .marks .write) one

@@ -5,10 +5,11 @@ use bbb::fits;
 use border::word::word;
 use buffer::Marks;
 use device::Numbers;
-use device::is_packet_size;
+use device::create::is_packet_size;
 use fields::byte;
 use fields::le32;
 use packetcopy::put_packet;
+use recordbytes::in_record;
 use recordbytes::store;
 use ring::State;
 use wrapper::counters::left_after;
@@ -34,7 +35,7 @@ fn steady(record: &[u8], len: usize) -> bool
     requires { ⌜ length (now «record») ≡ recordSize ⌝ }
     ensures { λ x. ⌜ (x ≡ true → Steady (now («record» .entry)) len) ⌝ }
 {
-    let size = le32(record, 4) as usize;
+    let size = le32(record, in_record::IO_LENGTH) as usize;
     if size != len {
         return false;
     }
@@ -44,112 +45,113 @@ fn steady(record: &[u8], len: usize) -> bool
     if 65536 < size {
         return false;
     }
-    if 15 < byte(record, 1) {
+    if 15 < byte(record, in_record::MAX_LUN) {
         return false;
     }
-    if 2 < byte(record, 24) {
+    if 2 < byte(record, in_record::STATUS) {
         return false;
     }
-    if 2 < byte(record, 25) {
+    if 2 < byte(record, in_record::DIRECTION) {
         return false;
     }
-    if 15 < byte(record, 26) {
+    if 15 < byte(record, in_record::LUN) {
         return false;
     }
-    if 16 < byte(record, 27) {
+    if 16 < byte(record, in_record::BLOCK_LENGTH) {
         return false;
     }
-    is_packet_size(byte(record, 0) as usize)
+    is_packet_size(byte(record, in_record::PACKET_SIZE) as usize)
 }
 
 // Whether the record is whole, the offers fit, and a whole packet of data goes out.
 pub fn sends_on(record: &[u8], len: usize, packet: usize, one: usize, two: usize, write: u8) -> bool
     ensures { λ x. ⌜ (x ≡ true → MaySend (now («record» .entry)) len packet one two write) ⌝ }
 {
-    if record.len() != 52 {
+    if record.len() != in_record::SIZE {
         return false;
     }
-    if !sends_in(byte(record, 2)) {
+    if !sends_in(byte(record, in_record::STATE)) {
         return false;
     }
-    if byte(record, 3) != 1 {
+    if byte(record, in_record::STATUS_PRESENT) != 1 {
         return false;
     }
     if write != 0 {
         return false;
     }
-    let p = byte(record, 0) as usize;
-    if (le32(record, 16) as usize) < p {
+    let p = byte(record, in_record::PACKET_SIZE) as usize;
+    if (le32(record, in_record::LEFT) as usize) < p {
         return false;
     }
     if !steady(record, len) {
         return false;
     }
-    let to = le32(record, 12) as usize;
+    let to = le32(record, in_record::WRITE_MARK) as usize;
     if len < to {
         return false;
     }
-    if to < le32(record, 8) as usize + p {
+    if to < le32(record, in_record::READ_MARK) as usize + p {
         return false;
     }
     fits(p, packet, one, two)
 }
 
 pub fn send_on(record: &mut [u8], n: Numbers, io: &[u8], packet: &mut [u8]) -> u64
-    requires { ⌜ (length (now «record») ≡ recordSize) × Whole n (length (now io)) × (n .packetsize ≤ length (now packet)) × (n .packetsize ≤ n .marks .write - n .marks .read) ⌝ }
+    requires { ⌜ (length (now «record») ≡ recordSize) × Whole n (length (now io)) × (n .fixed .packetsize ≤ length (now packet)) × (n .fixed .packetsize ≤ n .marks .write - n .marks .read) ⌝ }
     ensures { λ x. ⌜ SendsOn n (now (io .entry)) (now («record» .entry)) (now (packet .entry)) x (now («record» .exit)) (now (packet .exit)) ⌝ }
 {
     let left = n.left;
     let marks = n.marks;
     let from = marks.read;
-    let end = from + n.packetsize;
+    let p = n.fixed.packetsize;
+    let end = from + p;
     let after = Marks {
         read: end,
         write: marks.write,
     };
-    let falls = left_after(left, n.packetsize);
+    let falls = left_after(left, p);
     store::state(record, State::DataTransferToHostEnding);
     store::marks(record, after);
     store::left(record, falls);
     put_packet(packet, 0, &io[from..end]);
-    word(0, 0, 0, 0, store::narrow(n.packetsize))
+    word(0, 0, 0, 0, store::narrow(p))
 }
 
 // Whether the record is whole, the offers fit, and a packet of data comes in for which there is room.
 pub fn takes_on(record: &[u8], len: usize, packet: usize, one: usize, two: usize, first: u8) -> bool
     ensures { λ x. ⌜ (x ≡ true → MayTake (now («record» .entry)) len packet one two first) ⌝ }
 {
-    if record.len() != 52 {
+    if record.len() != in_record::SIZE {
         return false;
     }
-    if byte(record, 2) != 7 {
+    if byte(record, in_record::STATE) != 7 {
         return false;
     }
-    if byte(record, 3) != 0 {
+    if byte(record, in_record::STATUS_PRESENT) != 0 {
         return false;
     }
     if first != 0 {
         return false;
     }
-    if le32(record, 16) == 0 {
+    if le32(record, in_record::LEFT) == 0 {
         return false;
     }
     if !steady(record, len) {
         return false;
     }
-    let p = byte(record, 0) as usize;
-    let at = le32(record, 12) as usize;
+    let p = byte(record, in_record::PACKET_SIZE) as usize;
+    let at = le32(record, in_record::WRITE_MARK) as usize;
     if len < at + p {
         return false;
     }
-    if at < le32(record, 8) as usize {
+    if at < le32(record, in_record::READ_MARK) as usize {
         return false;
     }
     fits(p, packet, one, two)
 }
 
 pub fn take_on(record: &mut [u8], n: Numbers, io: &mut [u8], one: &[u8]) -> u64
-    requires { ⌜ (length (now «record») ≡ recordSize) × Whole n (length (now io)) × (length (now one) ≤ n .packetsize) × (n .packetsize ≤ length (now io) - n .marks .write) ⌝ }
+    requires { ⌜ (length (now «record») ≡ recordSize) × Whole n (length (now io)) × (length (now one) ≤ n .fixed .packetsize) × (n .fixed .packetsize ≤ length (now io) - n .marks .write) ⌝ }
     ensures { λ x. ⌜ TakesOn n (now (io .entry)) (now («record» .entry)) (now (one .entry)) x (now («record» .exit)) (now (io .exit)) ⌝ }
 {
     let left = n.left;

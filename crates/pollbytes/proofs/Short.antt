@@ -22,8 +22,8 @@ module _ (r io packet one two : List ℕ) (y : Ready r (length io) (length packe
   ready-long : length r ≡ recordSize
   ready-long = is-known r (y .known) .long
 
-  offers-fit : Fits (deviceAt r .packetsize) packet one two
-  offers-fit = bbb.is-fitting (deviceAt r .packetsize) packet one two refl (y .fits)
+  offers-fit : Fits (deviceAt r .fixed .packetsize) packet one two
+  offers-fit = bbb.is-fitting (deviceAt r .fixed .packetsize) packet one two refl (y .fits)
 
 module _ (r : List ℕ) {len packet one two turn : ℕ} {t : Bool} where
   pub send-long : (t ≡ true → MaySend r len packet one two turn) → t ≡ true → length r ≡ recordSize
@@ -34,13 +34,13 @@ module _ (r : List ℕ) {len packet one two turn : ℕ} {t : Bool} where
 
 module _ (r io packet one two : List ℕ) {turn : ℕ} {t : Bool} where
   pub send-needs : (t ≡ true → MaySend r (length io) (length packet) (length one) (length two) turn) → t ≡ true → {n : Numbers} → n ≡ numbersOf (deviceAt r)
-      → (length r ≡ recordSize) × Whole n (length io) × (n .packetsize ≤ length packet) × (n .packetsize ≤ n .marks .write - n .marks .read)
+      → (length r ≡ recordSize) × Whole n (length io) × (n .fixed .packetsize ≤ length packet) × (n .fixed .packetsize ≤ n .marks .write - n .marks .read)
   send-needs tells q en =
       let y = tells q in
       rw en (ready-long r io packet one two (y .ready), y .ready .whole, offers-fit r io packet one two (y .ready) .into, y .sends .unread)
 
   pub take-needs : (t ≡ true → MayTake r (length io) (length packet) (length one) (length two) turn) → t ≡ true → {n : Numbers} → n ≡ numbersOf (deviceAt r)
-      → (length r ≡ recordSize) × Whole n (length io) × (length one ≤ n .packetsize) × (n .packetsize ≤ length io - n .marks .write)
+      → (length r ≡ recordSize) × Whole n (length io) × (length one ≤ n .fixed .packetsize) × (n .fixed .packetsize ≤ length io - n .marks .write)
   take-needs tells q en =
       let y = tells q in
       rw en (ready-long r io packet one two (y .ready), y .ready .whole, offers-fit r io packet one two (y .ready) .first, y .takes .room)
@@ -54,7 +54,7 @@ module _ (r io : List ℕ) (g : Given) {t : Bool} where
       let fits = offers-fit r io (g .packet) (g .one) (g .two) (y .ready) in
       let it : SendsOn (numbersOf (deviceAt r)) io r (g .packet) x r′ packet′ = subst (λ (m : Numbers). SendsOn m io r (g .packet) x r′ packet′) en h in
       let kept : r′ ≡ storeDevice (sentOn (deviceAt r) io g whole fits .device) r = it .bytes ∙ sym (moved-to r (is-known r (y .ready .known)) _ _ _) in
-      rw (it .told, it .packet, kept) (on r io g (y .ready .known) (sentOn (deviceAt r) io g whole fits) (send-rule (deviceAt r) io g whole fits (y .sends)))
+      rw (it .answer, it .packet, kept) (on r io g (y .ready .known) (sentOn (deviceAt r) io g whole fits) (send-rule (deviceAt r) io g whole fits (y .sends)))
 
   pub poll-takes : (t ≡ true → MayTake r (length io) (length (g .packet)) (length (g .one)) (length (g .two)) (g .turn .first)) → t ≡ true → {n : Numbers} → n ≡ numbersOf (deviceAt r)
       → {x : ℕ} {r′ io′ : List ℕ} → TakesOn n io r (g .one) x r′ io′ → polls x r′ io′ (g .packet) ≡ pollOn r io g
@@ -64,4 +64,4 @@ module _ (r io : List ℕ) (g : Given) {t : Bool} where
       let fits = offers-fit r io (g .packet) (g .one) (g .two) (y .ready) in
       let it : TakesOn (numbersOf (deviceAt r)) io r (g .one) x r′ io′ = subst (λ (m : Numbers). TakesOn m io r (g .one) x r′ io′) en h in
       let kept : r′ ≡ storeDevice (takenOn (deviceAt r) io g whole fits .device) r = it .bytes ∙ sym (moved-within r (is-known r (y .ready .known)) _ _) in
-      rw (it .told, it .io, kept) (on r io g (y .ready .known) (takenOn (deviceAt r) io g whole fits) (take-rule (deviceAt r) io g whole fits (y .takes)))
+      rw (it .answer, it .io, kept) (on r io g (y .ready .known) (takenOn (deviceAt r) io g whole fits) (take-rule (deviceAt r) io g whole fits (y .takes)))

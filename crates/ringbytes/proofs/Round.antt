@@ -12,17 +12,17 @@ use Rattle.fields.proofs.Seq.{length-part}
 use Rattle.buffer.specs.declared.Marks.{Marks}
 use Rattle.ring.specs.declared.State.{State}
 use Rattle.wrapper.specs.declared.counters.Left.{Left}
-use Rattle.answers.specs.declared.Outcome.{Outcome}
+use Rattle.answers.specs.declared.Answer.{Answer}
 use Rattle.answers.specs.declared.Stalls.{Stalls}
-use Rattle.answers.specs.Answers.{number, told, endpointOf}
+use Rattle.answers.specs.Answers.{answerOf, endpointOf}
 use Rattle.wrapper.specs.declared.Head.{Head}
 use Rattle.wrapper.specs.declared.Wrapper.{Wrapper}
 use Rattle.wrapper.specs.Wrapper.{wrapperOf, headOf}
 use Rattle.device.specs.declared.Device.{Device}
 use Rattle.device.specs.declared.Numbers.{Numbers}
 use Rattle.device.specs.declared.Status.the-variants.{Absent}
-use Rattle.device.specs.Device.{numbersOf}
-use Rattle.device.specs.Broken.{Whole, isWhole}
+use Rattle.device.specs.Device.{numbersOf, rebuilt}
+use Rattle.device.specs.Broken.{Whole, isWhole, unlessBroken}
 use Rattle.device.proofs.Wholly.{tested, whole-is, size-most, packet-known, packet-bounds}
 use Rattle.bbb.specs.declared.Change.{Change}
 use Rattle.bbb.specs.declared.open.Opened.{Opened}
@@ -37,14 +37,13 @@ use Rattle.border.specs.Word.{word, plain, stallsNumber}
 use Rattle.border.specs.Record.{onDevice}
 use Rattle.ringbytes.specs.Poll.{Keepable, keptChange, polls, pollOn}
 use Rattle.ringbytes.specs.Poll as spec
-use Rattle.border.proofs.Lending.{made}
+use Rattle.border.proofs.Lending.{known-then, made}
 
 -- ---- the functions of a round
 
-pub tells : (o : Outcome) (stalls : Stalls) (taken sent : ℕ) {a s k x : ℕ} → a ≡ number (o .answer) → s ≡ stallsNumber stalls → k ≡ sent → x ≡ word a (o .carried) s taken k
-    → x ≡ word (told o .number) (told o .carried) (stallsNumber stalls) taken sent
-unfolding told
-tells o stalls taken sent ea es ek ex = rw (← ea, ← es, ← ek, ex)
+pub tells : (o : Answer) (stalls : Stalls) (taken sent : ℕ) {a n s k x : ℕ} → a ≡ answerOf o .number → n ≡ answerOf o .carried → s ≡ stallsNumber stalls → k ≡ sent → x ≡ word a n s taken k
+    → x ≡ word (answerOf o .number) (answerOf o .carried) (stallsNumber stalls) taken sent
+tells o stalls taken sent ea en es ek ex = rw (← ea, ← en, ← es, ← ek, ex)
 
 module _ (r : List ℕ) (b : Bool) where
   pub clears : b ≡ true → {l : List ℕ} → l ≡ storeStatus Absent r → l ≡ cond b (storeStatus Absent r) r
@@ -74,15 +73,15 @@ module _ (r : List ℕ) (o : Opened) (io : List ℕ) {v : Bool} (ev : v ≡ isVa
 
 -- ---- a round
 
-module _ (r io : List ℕ) (g : Given) (known : isKnown r ≡ true) {n : Numbers} (en : n ≡ numbersOf (deviceAt r)) (w : Whole n (length io)) (f : Fits (n .packetsize) (g .packet) (g .one) (g .two)) where
+module _ (r io : List ℕ) (g : Given) (known : isKnown r ≡ true) {n : Numbers} (en : n ≡ numbersOf (deviceAt r)) (w : Whole n (length io)) (f : Fits (n .fixed .packetsize) (g .packet) (g .one) (g .two)) where
   abbrev d : Device
   d = deviceAt r
 
   k : Known r
   k = is-known r known
 
-  fitting : isFitting (n .packetsize) (length (g .packet)) (length (g .one)) (length (g .two)) ≡ true
-  fitting = sym (bbb.fits-all (n .packetsize) (length (g .packet)) (length (g .one)) (length (g .two)) (f .first) (f .second)) ∙ le-leb _ _ (f .into)
+  fitting : isFitting (n .fixed .packetsize) (length (g .packet)) (length (g .one)) (length (g .two)) ≡ true
+  fitting = sym (bbb.fits-all (n .fixed .packetsize) (length (g .packet)) (length (g .one)) (length (g .two)) (f .first) (f .second)) ∙ le-leb _ _ (f .into)
 
   whole : Whole (numbersOf d) (length io)
   whole = rw en at w
@@ -90,7 +89,7 @@ module _ (r io : List ℕ) (g : Given) (known : isKnown r ≡ true) {n : Numbers
   -- the parts stored one by one are the device
   parts-stored : (v b : Bool) (x : Wrapper) → (v ≡ true → length (x .block) ≡ 16) → (s : State) (m : Marks) (l : Left)
       → storeLeft l (storeMarks m (storeState s (cond b (storeStatus Absent (cond v (storeWrapper x r) r)) (cond v (storeWrapper x r) r))))
-      ≡ storeDevice (record { packetsize = d .packetsize; maxlun = d .maxlun; size = d .size; state = s; marks = m; wrapper = cond v x (d .wrapper); status = cond b Absent (d .status); left = l }) r
+      ≡ storeDevice (rebuilt d s m (cond v x (d .wrapper)) (cond b Absent (d .status)) l) r
   unfolding storeDevice
   parts-stored false false x h s m l = sym (moved-to r k s m l)
   parts-stored false true x h s m l = sym (polled r k Absent s m l)
@@ -104,17 +103,17 @@ module _ (r io : List ℕ) (g : Given) (known : isKnown r ≡ true) {n : Numbers
     w′ = wrapperThen (openOf o) io′ (d .wrapper)
 
     is-poll : pollingOf (record { device = changedBy d c w′; report = c .report }) io″ packet′ ≡ pollCall d io g
-    is-poll = bbb.polls d io g en {v = isWhole n (length io)} refl (whole-is n (length io) w) {w = isFitting (n .packetsize) (length (g .packet)) (length (g .one)) (length (g .two))} refl fitting c x y refl refl
+    is-poll = bbb.polls d io g en {v = isWhole n (length io)} refl (whole-is n (length io) w) {w = isFitting (n .fixed .packetsize) (length (g .packet)) (length (g .one)) (length (g .two))} refl fitting c x y refl refl
 
     pub keepable : Keepable c
     keepable =
         let after : Whole (numbersOf (changedBy d c w′)) (length io″) = subst (λ (p : Polling). Whole (numbersOf (p .device)) (length (p .io))) (sym is-poll) (call-whole d io g whole) in
         let most = size-most (numbersOf (changedBy d c w′)) (length io″) after in
-        let sent : c .report .sent ≤ d .packetsize = subst (λ (p : Polling). p .sent ≤ d .packetsize) (sym is-poll) (call-sizes d io g .sent) in
+        let sent : c .report .sent ≤ d .fixed .packetsize = subst (λ (p : Polling). p .sent ≤ d .fixed .packetsize) (sym is-poll) (call-sizes d io g .sent) in
         record {
           read = omega (arith, after .order, after .within, most);
           write = omega (arith, after .within, most);
-          sent = omega (arith, sent, packet-bounds (d .packetsize) (packet-known (numbersOf d) (length io) whole) .1);
+          sent = omega (arith, sent, packet-bounds (d .fixed .packetsize) (packet-known (numbersOf d) (length io) whole) .1);
         }
 
     -- the wrapper found has a block of 16 bytes
@@ -125,7 +124,7 @@ module _ (r io : List ℕ) (g : Given) (known : isKnown r ≡ true) {n : Numbers
         length-part 15 16 (take 31 (drop (o .marks .read - 31) io′)) (omega arith)
 
     pub rounds : {r₁ r₂ : List ℕ} {result : ℕ} → r₁ ≡ cond (isValidFound (o .found)) (storeWrapper (wrapperOf (justRead io′ (o .marks))) r) r → r₂ ≡ keptChange c r₁
-        → result ≡ word (told (c .report .outcome) .number) (told (c .report .outcome) .carried) (stallsNumber (c .report .stalls)) (c .report .taken) (c .report .sent)
+        → result ≡ word (answerOf (c .report .answer) .number) (answerOf (c .report .answer) .carried) (stallsNumber (c .report .stalls)) (c .report .taken) (c .report .sent)
         → polls result r₂ io″ packet′ ≡ pollOn r io g
     unfolding pollOn keptChange wrapperThen
     rounds {r₁} {r₂} e₁ e₂ e =
@@ -133,9 +132,6 @@ module _ (r io : List ℕ) (g : Given) (known : isKnown r ≡ true) {n : Numbers
         rw (stored, e) (ap (spec.polled r) is-poll ∙ made r (polls (plain 10) r io (g .packet)) (λ (d : Device). spec.polled r (pollCall d io g)) known)
 
 -- ---- the call
-
-pub known-there : (r : List ℕ) {b : Bool} → b ≡ isKnown r → not b ≡ false → isKnown r ≡ true
-known-there r {b} eb q = sym eb ∙ not-false b q
 
 pub whole-there : (n : Numbers) (len : ℕ) {v : Bool} → v ≡ isWhole n len → not v ≡ false → Whole n len
 whole-there n len {v} ev q = tested n len ev (not-false v q)
@@ -158,14 +154,14 @@ module _ (r io : List ℕ) (g : Given) {b : Bool} (eb : b ≡ isKnown r) where
 
   module _ (qb : not b ≡ false) {n : Numbers} (en : n ≡ numbersOf (deviceAt r)) {v : Bool} (ev : v ≡ isWhole n (length io)) where
     pub poll-broken : not v ≡ true → polls 10 r io (g .packet) ≡ pollOn r io g
-    unfolding pollCall word
-    poll-broken q = let is = known-there r eb qb in sym (same r io g is 10) ∙ on r io g is (refusing (deviceAt r) io g 10) (rw (← en, ← ev, not-true v q))
+    unfolding pollCall unlessBroken word
+    poll-broken q = let is = known-then r eb qb in sym (same r io g is 10) ∙ on r io g is (refusing (deviceAt r) io g 10) (rw (← en, ← ev, not-true v q))
 
-    pub poll-refused : not v ≡ false → {u : Bool} → u ≡ isFitting (n .packetsize) (length (g .packet)) (length (g .one)) (length (g .two)) → not u ≡ true → polls 11 r io (g .packet) ≡ pollOn r io g
-    unfolding pollCall word
+    pub poll-refused : not v ≡ false → {u : Bool} → u ≡ isFitting (n .fixed .packetsize) (length (g .packet)) (length (g .one)) (length (g .two)) → not u ≡ true → polls 11 r io (g .packet) ≡ pollOn r io g
+    unfolding pollCall unlessBroken word
     poll-refused qv {u} eu q =
-        let is = known-there r eb qb in
-        let unfit : isFitting (deviceAt r .packetsize) (length (g .packet)) (length (g .one)) (length (g .two)) ≡ false = sym (rw en at eu) ∙ not-true u q in
+        let is = known-then r eb qb in
+        let unfit : isFitting (deviceAt r .fixed .packetsize) (length (g .packet)) (length (g .one)) (length (g .two)) ≡ false = sym (rw en at eu) ∙ not-true u q in
         sym (same r io g is 11) ∙ on r io g is (refusing (deviceAt r) io g 11) (rw (← en, ← ev, not-false v qv, unfit))
 
 pub ruleset ways = (tells, clears, clears-not, keeps, keeps-found, keeps-none)

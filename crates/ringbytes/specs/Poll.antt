@@ -21,7 +21,7 @@ abbrev pub polls : ℕ → List ℕ → List ℕ → List ℕ → Polled
 polls result bytes io packet = record { result = result; bytes = bytes; io = io; packet = packet }
 
 abbrev pub polled : List ℕ → Polling → Polled
-polled r o = polls (word (o .told .number) (o .told .carried) (stallsNumber (o .stalls)) (o .taken) (o .sent)) (storeDevice (o .device) r) (o .io) (o .packet)
+polled r o = polls (word (o .answer .number) (o .answer .carried) (stallsNumber (o .stalls)) (o .taken) (o .sent)) (storeDevice (o .device) r) (o .io) (o .packet)
 
 unfoldable pub pollOn : List ℕ → List ℕ → Given → Polled
 pollOn r io g = onDevice r (polls (plain 10) r io (g .packet)) (λ (d : Device). polled r (pollCall d io g))

@@ -1,5 +1,6 @@
 // One poll of a record of bytes: the checks, and then the whole ring.
 use answers::answer_number;
+use answers::carried;
 use bbb::Change;
 use bbb::Report;
 use bbb::Turn;
@@ -73,16 +74,15 @@ fn keep(record: &mut [u8], c: Change)
     store::left(record, left);
 }
 
-fn told(report: Report) -> u64
+fn result(report: Report) -> u64
     requires { ⌜ report .sent < 2 ^ 32 ⌝ }
-    ensures { λ x. ⌜ x ≡ spec.word (answers.told (report .outcome) .number) (answers.told (report .outcome) .carried) (spec.stallsNumber (report .stalls)) (report .taken) (report .sent) ⌝ }
+    ensures { λ x. ⌜ x ≡ spec.word (answers.answerOf (report .answer) .number) (answers.answerOf (report .answer) .carried) (spec.stallsNumber (report .stalls)) (report .taken) (report .sent) ⌝ }
 {
-    let outcome = report.outcome;
-    let answer = outcome.answer;
+    let answer = report.answer;
     let stalls = report.stalls;
     word(
         answer_number(answer),
-        outcome.carried,
+        carried(answer),
         stalls_number(stalls),
         report.taken,
         store::narrow(report.sent),
@@ -99,7 +99,7 @@ fn go_round(
     two: &[u8],
     turn: Turn,
 ) -> u64
-    requires { ⌜ (isKnown (now «record») ≡ true) × (n ≡ numbersOf (deviceAt (now «record»))) × Whole n (length (now io)) × Fits (n .packetsize) (now packet) (now one) (now two) ⌝ }
+    requires { ⌜ (isKnown (now «record») ≡ true) × (n ≡ numbersOf (deviceAt (now «record»))) × Whole n (length (now io)) × Fits (n .fixed .packetsize) (now packet) (now one) (now two) ⌝ }
     ensures { λ x. ⌜ polls x (now («record» .exit)) (now (io .exit)) (now (packet .exit)) ≡ pollOn (now («record» .entry)) (now (io .entry)) (given (now (packet .entry)) (now (one .entry)) (now (two .entry)) turn) ⌝ }
 {
     let o = open(n, io, one, turn.first);
@@ -107,7 +107,7 @@ fn go_round(
     let c = go_on(n, o, io, packet, one, two, turn);
     let report = c.report;
     keep(record, c);
-    told(report)
+    result(report)
 }
 
 // 10, then 11, then a round.
@@ -128,7 +128,7 @@ pub fn poll(
     if !whole(n, io.len()) {
         return 10;
     }
-    if !fits(n.packetsize, packet.len(), one.len(), two.len()) {
+    if !fits(n.fixed.packetsize, packet.len(), one.len(), two.len()) {
         return 11;
     }
     go_round(record, n, io, packet, one, two, turn)

@@ -1,8 +1,7 @@
 -- `ringbytes::poll` meets its contract: 10, 11, or a whole round. Assumes nothing.
 use borrow.Author.Needs.{needs}
-use Rattle.fields.proofs.Bools.{not-false}
-use Rattle.border.proofs.Lending.{known-long}
-use Rattle.ringbytes.proofs.Round.{known-there, whole-there, fits-there, poll-unknown, poll-broken, poll-refused}
+use Rattle.border.proofs.Lending.{known-then, long-then}
+use Rattle.ringbytes.proofs.Round.{whole-there, fits-there, poll-unknown, poll-broken, poll-refused}
 use Rattle.ringbytes.proofs.poll.Statement.{statement}
 use Rattle.ringbytes.proofs.poll.Tie as tie
 
@@ -10,7 +9,7 @@ returns : tie.Need-returns
 returns c = poll-unknown _ _ _ (c .before .known .ensures) (c .if1 .taken)
 
 numbers-at-requires : tie.Need-numbers-at-requires
-numbers-at-requires c κs = known-long _ (c .before .before .known .ensures) (not-false _ (c .before .if1 .left))
+numbers-at-requires c κs = long-then _ (c .before .before .known .ensures) (c .before .if1 .left)
 
 returns-2 : tie.Need-returns-2
 returns-2 c = poll-broken _ _ _ (c .before .before .before .before .before .known .ensures) (c .before .before .before .before .if1 .left) (c .before .before .numbers-at .ensures) (c .before .whole .ensures) (c .if2 .taken)
@@ -19,7 +18,7 @@ returns-3 : tie.Need-returns-3
 returns-3 c = poll-refused _ _ _ (c .before .before .before .before .before .before .before .known .ensures) (c .before .before .before .before .before .before .if1 .left) (c .before .before .before .before .numbers-at .ensures) (c .before .before .before .whole .ensures) (c .before .before .if2 .left) (c .before .fits2 .ensures) (c .if3 .taken)
 
 go-round-requires : tie.Need-go-round-requires
-go-round-requires c κs = (known-there _ (c .before .before .before .before .before .before .before .before .before .before .known .ensures) (c .before .before .before .before .before .before .before .before .before .if1 .left), c .before .before .before .before .before .before .before .numbers-at .ensures, whole-there _ _ (c .before .before .before .before .before .before .whole .ensures) (c .before .before .before .before .before .if2 .left), fits-there _ _ _ _ (c .before .before .before .before .fits2 .ensures) (c .before .before .before .if3 .left))
+go-round-requires c κs = (known-then _ (c .before .before .before .before .before .before .before .before .before .before .known .ensures) (c .before .before .before .before .before .before .before .before .before .if1 .left), c .before .before .before .before .before .before .before .numbers-at .ensures, whole-there _ _ (c .before .before .before .before .before .before .whole .ensures) (c .before .before .before .before .before .if2 .left), fits-there _ _ _ _ (c .before .before .before .before .fits2 .ensures) (c .before .before .before .if3 .left))
 
 returns-4 : tie.Need-returns-4
 returns-4 c = c .before .before .before .before .before .before .go-round .ensures
