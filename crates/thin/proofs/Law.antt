@@ -1,6 +1,6 @@
 -- The law of a thin call (`Thin.antt`), over any list of parameters behind the record: each a `&mut [u8]`, a `&[u8]` or a plain value.
 -- The thin call has one lifetime more than the core, the record's, and it comes first. Assumes nothing.
---     Kind          a parameter.        slots     the core's slots for them.        passed     what the machine sees of them
+--     Kind          a parameter.        slots     the core's slots for them.        passed up    what the machine sees of them
 --     all-values, all-tell, all-held    their machine values, that these tell them, and what is held of them at entry
 --     Promise       a relation that core and thin call both promise, of the record and such parameters at entry and at exit
 --     TheCore       the core's contract.        the-thin k     the MIR of a thin call of the core k
@@ -52,39 +52,40 @@ module _ {n : ℕ} where
   slots (shared i ok ∷ ks) = shrSliceOf (i ∷ []) ok (plain (λ _. u8)) ∷ slots ks
   slots (given P ∷ ks) = plain (λ _. P .row) ∷ slots ks
 
-  abbrev pub passed : List (Kind n) → List Passed
-  passed [] = []
-  passed (mutable i ok ∷ ks) = lends (named (suc i)) ∷ passed ks
-  passed (shared i ok ∷ ks) = copies (sliceTy (tyRef (named (suc i)) imm (tyInt w8))) ∷ passed ks
-  passed (given P ∷ ks) = copies (P .ty) ∷ passed ks
+  -- where the core's i-th lifetime is the function's own (up i)-th
+  abbrev pub passed : (ℕ → ℕ) → List (Kind n) → List Passed
+  passed up [] = []
+  passed up (mutable i ok ∷ ks) = lends (named (up i)) ∷ passed up ks
+  passed up (shared i ok ∷ ks) = copies (sliceTy (tyRef (named (up i)) imm (tyInt w8))) ∷ passed up ks
+  passed up (given P ∷ ks) = copies (P .ty) ∷ passed up ks
 
   module _ (κs : Lfts n) where
-    abbrev all-values : (ks : List (Kind n)) → Spells (typesAt (slots ks) κs)
+    abbrev pub all-values : (ks : List (Kind n)) → Spells (typesAt (slots ks) κs)
     all-values [] = tt
     all-values (mutable i ok ∷ ks) = (slice-vals, all-values ks)
     all-values (shared i ok ∷ ks) = (slice-vals, all-values ks)
     all-values (given P ∷ ks) = ((λ y. P .val y ∷ []), all-values ks)
 
-    abbrev all-tell : (ks : List (Kind n)) → Tellss (typesAt (slots ks) κs) (Ises (typesAt (slots ks) κs)) (all-values ks)
+    abbrev pub all-tell : (ks : List (Kind n)) → Tellss (typesAt (slots ks) κs) (Ises (typesAt (slots ks) κs)) (all-values ks)
     all-tell [] = tt
     all-tell (mutable i ok ∷ ks) = (mut-slice-tells (named i) (lftAt n i ok κs) u8, all-tell ks)
     all-tell (shared i ok ∷ ks) = (shr-slice-tells (named i) (lftAt n i ok κs) u8, all-tell ks)
     all-tell (given P ∷ ks) = (P .tells, all-tell ks)
 
     -- the arguments' relations, at their machine values
-    abbrev Told : (ks : List (Kind n)) → Denots (typesAt (slots ks) κs) → Type 0
+    abbrev pub Told : (ks : List (Kind n)) → Denots (typesAt (slots ks) κs) → Type 0
     Told ks a = Are (typesAt (slots ks) κs) (Ises (typesAt (slots ks) κs)) a (valss (typesAt (slots ks) κs) (all-values ks) a)
 
-    module _ {M : Type 1} (𝓤 : URA M) (H : Heap 𝓤) (A : Atoms 𝓤) (W : Given 𝓤 H A) where
-      abbrev all-held : (ks : List (Kind n)) (a : Denots (typesAt (slots ks) κs)) → Told ks a → Helds (passed ks)
+    module _ {M : Type 1} (𝓤 : URA M) (H : Heap 𝓤) (A : Atoms 𝓤) (W : Given 𝓤 H A) (up : ℕ → ℕ) where
+      abbrev pub all-held : (ks : List (Kind n)) (a : Denots (typesAt (slots ks) κs)) → Told ks a → Helds (passed up ks)
       all-held [] a are = tt
       all-held (mutable i ok ∷ ks) a are = ((ptr (a .0), (length (now (a .0)), record { fits = are .0 .0 .1 .0 })), all-held ks (a .1) (are .1))
       all-held (shared i ok ∷ ks) a are =
           ((sliceVal (ptr (a .0)) (length (now (a .0))), (tt, (tt, (record { fits = are .0 .0 .1 .0 }, tt)))), all-held ks (a .1) (are .1))
       all-held (given P ∷ ks) a are = ((P .val (a .0), P .typed 𝓤 H A W (a .0) (are .0)), all-held ks (a .1) (are .1))
 
-      all-same : (ks : List (Kind n)) (a : Denots (typesAt (slots ks) κs)) (are : Told ks a)
-          → values (tys (passed ks)) (helds (passed ks) (all-held ks a are)) ≡ flat (typesAt (slots ks) κs) (valss (typesAt (slots ks) κs) (all-values ks) a)
+      pub all-same : (ks : List (Kind n)) (a : Denots (typesAt (slots ks) κs)) (are : Told ks a)
+          → values (tys (passed up ks)) (helds (passed up ks) (all-held ks a are)) ≡ flat (typesAt (slots ks) κs) (valss (typesAt (slots ks) κs) (all-values ks) a)
       all-same [] a are = refl
       all-same (mutable i ok ∷ ks) a are = ap (_∷_ (sliceVal (ptr (a .0)) (length (now (a .0))))) (all-same ks (a .1) (are .1))
       all-same (shared i ok ∷ ks) a are = ap (_∷_ (sliceVal (ptr (a .0)) (length (now (a .0))))) (all-same ks (a .1) (are .1))
@@ -113,7 +114,7 @@ module _ (D X : Data) (O : Pair D X) {n : ℕ} (ks : List (Kind n)) where
     TheCore 𝓤 H A = Core D X O n ss kept Rel 𝓤 H A
 
     abbrev pub the-thin : Name → Fn
-    the-thin k = thin D X O n ss kept Rel (passed ks) k
+    the-thin k = thin D X O n ss kept Rel (passed suc ks) k
 
     module _ {M : Type 1} (𝓤 : URA M) (H : Heap 𝓤) (A : Atoms 𝓤) where
       -- what a caller chooses: the lifetimes and shares, the record's first; the arguments, the reference first; and their machine values
@@ -150,7 +151,7 @@ module _ (D X : Data) (O : Pair D X) {n : ℕ} (ks : List (Kind n)) where
         entry vss = sep 𝓤 (sep 𝓤 token tokens) (own vss)
 
         abbrev post : Val → SProp 𝓤
-        post = Exit D X O n ss kept Rel (passed ks) 𝓤 H A κ κs (y .0 .1 .0) (y .0 .1 .1) (ptr x .0) (ptr x .1) (name x) (now x) a
+        post = Exit D X O n ss kept Rel (passed suc ks) 𝓤 H A κ κs (y .0 .1 .0) (y .0 .1 .1) (ptr x .0) (ptr x .1) (name x) (now x) a
 
       abbrev pub Thin : Contract 𝓤
       Thin = record {
@@ -174,10 +175,10 @@ module _ (D X : Data) (O : Pair D X) {n : ℕ} (ks : List (Kind n)) where
 
           runs-at : Told (κs y) ks (a y) → ent 𝓤 (entry y told) (runs told)
           runs-at are =
-              let same = all-same (κs y) 𝓤 H A W ks (a y) are in
+              let same = all-same (κs y) 𝓤 H A W suc ks (a y) are in
               subst (λ (us : List Val). ent 𝓤 (entry y told) (WpFn 𝓤 H C Λ (the-thin k) (ptr-vals (x y) ++ us) (post y))) same
-              (thin-runs D X O n ss kept Rel (passed ks) 𝓤 H A (κ y) (κs y) (y .0 .1 .0) (y .0 .1 .1) (ptr (x y) .0) (ptr (x y) .1) (name (x y)) (now (x y)) (a y) W
-              spelt (all-held (κs y) 𝓤 H A W ks (a y) are) same C Λ k fm known)
+              (thin-runs D X O n ss kept Rel (passed suc ks) 𝓤 H A (κ y) (κs y) (y .0 .1 .0) (y .0 .1 .1) (ptr (x y) .0) (ptr (x y) .1) (name (x y)) (now (x y)) (a y) W
+              spelt (all-held (κs y) 𝓤 H A W suc ks (a y) are) same C Λ k fm known)
 
           -- to `said`, which learns what the machine values are: the other tokens, and the parameters, with the record's lifetime held fixed
           abbrev S : Signature

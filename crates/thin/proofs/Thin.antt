@@ -44,13 +44,13 @@ use denote.Exit.{yes, Last}
 use Rattle.thin.proofs.Data.{Data, Pair, pair-ty}
 use Rattle.thin.proofs.Frame.{Addresses, values, locals, env, allots, passes-all, frees-all, at-local, opds-as}
 use Rattle.thin.proofs.Passed.{Passed, Helds, tys, anew, helds, helds-anew, behind, borrowing, operands, borrows, passed-on}
-use Rattle.thin.proofs.Passed.{Found, whole-env, first-found, second-found, found}
+use Rattle.thin.proofs.Passed.{Found, last-env, whole-env, own-found, found}
 
 module _ (D X : Data) (O : Pair D X) (n : ℕ) (ss : List (Slot n)) (kept : Kepts ss)
     (Rel : (κs : Lfts n) → D .row .Denot → Denots (typesAt ss κs) → D .row .Denot → X .row .Denot → Outs κs ss kept → Type 0) where
   -- ---- the core, by value
 
-  abbrev core-ended : Ended
+  abbrev pub core-ended : Ended
   core-ended = record {
     signature = record { lifetimes = n; outlives = []; params = plain (λ _. D .row) ∷ ss; result = plain (λ _. O .row) };
     kept = (yes, kept);
@@ -106,20 +106,23 @@ module _ (D X : Data) (O : Pair D X) (n : ℕ) (ss : List (Slot n)) (kept : Kept
 
     -- where v, r and the parameters stand, once the locals have their addresses
     module _ {M : Type 1} (𝓤 : URA M) (H : Heap 𝓤) (lx ld lv lr : ℕ) (bs : Addresses (tys ps)) (cs : Addresses (anew ps)) where
-      abbrev last-env : Env 𝓤 H
-      last-env = (D .ty, lv) ∷ (τ, lr) ∷ env 𝓤 H (anew ps) cs []
+      abbrev own-env : Env 𝓤 H
+      own-env = (D .ty, lv) ∷ (τ, lr) ∷ []
+
+      abbrev last : Env 𝓤 H
+      last = last-env 𝓤 H (X .ty, lx) (ref-ty, ld) own-env ps bs cs
 
       abbrev E : Env 𝓤 H
-      E = whole-env 𝓤 H (X .ty, lx) (ref-ty, ld) (D .ty, lv) (τ, lr) ps bs cs
+      E = whole-env 𝓤 H (X .ty, lx) (ref-ty, ld) own-env ps bs cs
 
       v-found : spotOf 𝓤 H E v ≡ (D .ty, lv, zero)
-      v-found = first-found 𝓤 H (X .ty, lx) (ref-ty, ld) (D .ty, lv) (τ, lr) ps bs cs
+      v-found = own-found 𝓤 H (X .ty, lx) (ref-ty, ld) own-env ps bs cs 0
 
       r-found : spotOf 𝓤 H E r ≡ (τ, lr, zero)
-      r-found = second-found 𝓤 H (X .ty, lx) (ref-ty, ld) (D .ty, lv) (τ, lr) ps bs cs
+      r-found = own-found 𝓤 H (X .ty, lx) (ref-ty, ld) own-env ps bs cs 1
 
       ps-found : Found 𝓤 H E ps 2 t bs cs
-      ps-found = found 𝓤 H (X .ty, lx) (ref-ty, ld) (D .ty, lv) (τ, lr) ps bs cs
+      ps-found = found 𝓤 H (X .ty, lx) (ref-ty, ld) own-env ps bs cs
 
     -- the reference is to (b, o), under the name γ, and the record is h; the others are a. κ and q are the record's lifetime and its share.
     module _ {M : Type 1} (𝓤 : URA M) (H : Heap 𝓤) (A : Atoms 𝓤) (κ : Lft) (κs : Lfts n) (q : Share) (qs : Shares n)
@@ -190,7 +193,7 @@ module _ (D X : Data) (O : Pair D X) (n : ℕ) (ss : List (Slot n)) (kept : Kept
                 qed W ((‵ (flft κ q) ⊛ raw tokens) ∷ ‵ (fsep (MutRef (named 0) κ (D .row) .own lent (vptr b o ∷ [])) (owns (typesAt ss κs) a vss)) ∷ []) ∵
                 enter ! C Λ (thin k) (vptr b o ∷ values (tys ps) (helds ps hs)) _ $
                 alloc1 ! (λ lx. alloc1 ! (λ ld. allots ! (tys ps) own-locals (λ bs. alloc1 ! (λ lv. alloc1 ! (λ lr. allots ! (anew ps) [] (λ cs. alloc0 ! $
-                params1 ! $ pass1 ! (init ! 6 refl (tt, tt)) $ move ! (5 ∷ []) $ passes-all ! (tys ps) bs (helds ps hs) (last-env 𝓤 H lx ld lv lr bs cs) $
+                params1 ! $ pass1 ! (init ! 6 refl (tt, tt)) $ move ! (5 ∷ []) $ passes-all ! (tys ps) bs (helds ps hs) (last 𝓤 H lx ld lv lr bs cs) $
                 -- [the parameters; what is borrowed anew; r, v, d, x, each with its right; the tokens; what is owned]
                 move ! (11 ∷ []) $ fsplit ! $ fsplit3 ! $ drop ! $ move ! (13 ∷ []) $ split ! $ move ! (2 ∷ 3 ∷ 0 ∷ []) $
                 -- let v = *d: the record's borrow is opened
@@ -227,7 +230,7 @@ module _ (D X : Data) (O : Pair D X) (n : ℕ) (ss : List (Slot n)) (kept : Kept
                 closes ! tt (D .row) (O .fst x) (D .val (O .fst x) ∷ []) b o $
                 -- the locals are freed: x, d, the parameters, v, r, what was borrowed anew
                 returns ! (look ! 13 refl) $ forget ! 13 refl $ move ! (13 ∷ 14 ∷ []) $ free1 ! $ forget ! 11 refl $ move ! (11 ∷ 12 ∷ []) $ free1 ! $
-                move ! (5 ∷ []) $ frees-all ! (tys ps) bs (helds ps hs) (last-env 𝓤 H lx ld lv lr bs cs) $
+                move ! (5 ∷ []) $ frees-all ! (tys ps) bs (helds ps hs) (last 𝓤 H lx ld lv lr bs cs) $
                 forget ! 8 refl $ move ! (8 ∷ 9 ∷ []) $ free1 ! $ forget ! 6 refl $ move ! (6 ∷ 7 ∷ []) $ free1 ! $
                 move ! (5 ∷ []) $ frees-all ! (anew ps) cs (helds-anew ps hs) [] $ free0 ! $
                 by ! (exits x (zs .1) e (O .snd-is x w is′)))))))))))))))

@@ -1,0 +1,2 @@
+-- proofs.Types    what the law of a lender asks of what the two calls return
+pub mod Types

@@ -1,0 +1,138 @@
+// Document 01's listing, made by the lent calls: this program stands for a firmware in Rattle that keeps one device record and lends it.
+// `poll` and `set_status` are the only places that make a reference to the record. What is lent and taken back is the call by value again,
+// so each has the contract of the core's call of its name.
+use answers::Answer;
+use answers::Stalls;
+use answers::answer_number;
+use bbb::Polled;
+use bbb::Turn;
+use benchline::Line;
+use benchline::put_line;
+use buffer::Marks;
+use calls::Figure;
+use calls::Stated;
+use device::Device;
+use device::create::create;
+use fields::least;
+use libc::STDOUT_FILENO;
+use ring::state_number;
+ghost use mathlib.Core.Path.{_≡_};
+ghost use Rattle.bbb.specs.Poll.{given, pollingOf, pollCall};
+ghost use Rattle.calls.specs.Status.{statedOf, setStatusCall};
+
+fn poll(
+    mut device: Device,
+    io: &mut [u8],
+    packet: &mut [u8],
+    one: &[u8],
+    two: &[u8],
+    turn: Turn,
+) -> Polled
+    ensures { λ r. ⌜ pollingOf r (now (io .exit)) (now (packet .exit)) ≡ pollCall device (now (io .entry)) (given (now (packet .entry)) (now (one .entry)) (now (two .entry)) turn) ⌝ }
+{
+    let r = lent::poll(&mut device, io, packet, one, two, turn);
+    let d = device;
+    Polled {
+        device: d,
+        report: r,
+    }
+}
+
+fn set_status(mut device: Device, io: &[u8], figure: Figure) -> Stated
+    ensures { λ r. ⌜ statedOf r ≡ setStatusCall device (now (io .entry)) figure ⌝ }
+{
+    let r = lent::set_status(&mut device, io, figure);
+    let d = device;
+    Stated {
+        device: d,
+        answer: r,
+    }
+}
+
+fn unread(marks: Marks) -> usize {
+    if marks.write < marks.read {
+        return 0;
+    }
+    marks.write - marks.read
+}
+
+fn line_of(index: usize, device: Device, answer: Answer, count: usize, stalls: Stalls) -> Line {
+    let state = device.state;
+    let left = device.left;
+    let marks = device.marks;
+    Line {
+        index: index,
+        answer: answer_number(answer),
+        state: state_number(state),
+        left: left.0,
+        unread: unread(marks),
+        count: count,
+        stalls: stalls,
+    }
+}
+
+// The line, with the first bytes of the packet buffer, as many as were sent.
+fn print(line: Line, packet: &[u8], sent: usize) {
+    let n = least(least(sent, packet.len()), 64);
+    let mut text = [0u8; 259];
+    let end = put_line(line, &packet[..n], &mut text);
+    io::write_all(STDOUT_FILENO, &text[..end]);
+}
+
+fn polled(index: usize, device: Device, io: &mut [u8], one: &[u8], turn: Turn) -> Device {
+    let mut packet = [0u8; 64];
+    let p = poll(device, io, &mut packet, one, &one[..0], turn);
+    let d = p.device;
+    let report = p.report;
+    let outcome = report.outcome;
+    let answer = outcome.answer;
+    let stalls = report.stalls;
+    let line = line_of(index, d, answer, report.taken as usize, stalls);
+    print(line, &packet, report.sent);
+    d
+}
+
+fn stated(index: usize, device: Device, io: &[u8], figure: Figure) -> Device {
+    let s = set_status(device, io, figure);
+    let d = s.device;
+    let answer = s.answer;
+    print(line_of(index, d, answer, 0, Stalls::Kept), io, 0);
+    d
+}
+
+fn main() {
+    let mut io = [0u8; 64];
+    let made = create(64, 0, 64);
+    let d = made.device;
+    let answer = made.answer;
+    print(line_of(0, d, answer, 0, Stalls::Kept), &io, 0);
+    let mut wrapper = [0u8; 31];
+    wrapper[0] = b'U';
+    wrapper[1] = b'S';
+    wrapper[2] = b'B';
+    wrapper[3] = b'C';
+    wrapper[4] = 1;
+    wrapper[14] = 6;
+    let offers = Turn {
+        first: 0,
+        second: 1,
+        write: 0,
+    };
+    let silent = Turn {
+        first: 1,
+        second: 1,
+        write: 0,
+    };
+    let d1 = polled(1, d, &mut io, &wrapper, offers);
+    let d2 = stated(
+        2,
+        d1,
+        &io,
+        Figure {
+            status: 0,
+            processed: 0,
+        },
+    );
+    let d3 = polled(3, d2, &mut io, &wrapper[..0], silent);
+    polled(4, d3, &mut io, &wrapper[..0], silent);
+}
