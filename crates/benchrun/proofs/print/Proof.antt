@@ -5,15 +5,6 @@ use borrow.Author.Needs.{needs}
 use Rattle.benchrun.proofs.print.Statement.{statement}
 use Rattle.benchrun.proofs.print.Tie as tie
 
-large-buffer-requires : tie.Need-large-buffer-requires
-large-buffer-requires c κs = search needs
-
-most-shown-requires : tie.Need-most-shown-requires
-most-shown-requires c κs = search needs
-
-longest-line-requires : tie.Need-longest-line-requires
-longest-line-requires c κs = search needs
-
 slice-aggregate-play-file : tie.Need-slice-aggregate-play-file
 slice-aggregate-play-file c = search needs
 
@@ -26,18 +17,8 @@ slice-aggregate-play-file-3 c = search needs
 play-file-requires : tie.Need-play-file-requires
 play-file-requires c κs = (both-roomy _ _ (slice-aggregate-play-file-2 (c .before)) (slice-aggregate-play-file-3 c), omega (arith, slice-aggregate-play-file (c .before .before)))
 
-returns : tie.Need-returns
-returns c = search needs
-
 pub print-spec : {M : Type 1} → statement M
 print-spec =
-    tie.close
-    (tie.spec
-    large-buffer-requires
-    most-shown-requires
-    longest-line-requires
-    slice-aggregate-play-file
-    slice-aggregate-play-file-2
-    slice-aggregate-play-file-3
-    play-file-requires
-    returns)
+    tie.close (tie.spec
+    (λ c. search needs) (λ c. search needs) (λ c. search needs) slice-aggregate-play-file slice-aggregate-play-file-2
+    slice-aggregate-play-file-3 play-file-requires (λ c. search needs))

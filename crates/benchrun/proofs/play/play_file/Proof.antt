@@ -12,9 +12,6 @@ use Rattle.benchrun.proofs.play.play_file.Tie as tie
 open-requires : tie.Need-open-requires
 open-requires c κs = none-roomy _ _ (c .before .before .before .before .before .pre .0)
 
-events-end-requires : tie.Need-events-end-requires
-events-end-requires c κs = search needs
-
 slice-aggregate-play : tie.Need-slice-aggregate-play
 slice-aggregate-play c = cut-fits _ (c .before .before .events-end .ensures)
 
@@ -33,15 +30,6 @@ play-requires c κs =
     let kept = opened .«open» .kept .1 .0 in
     (after-roomy _ _ _ _ refl kept roomy, opened-index _ _ (opened .«open» .ensures), opened-line _ _ (opened .«open» .ensures) (none-roomy _ _ roomy) kept)
 
-same-length : tie.Need-same-length
-same-length c = search needs
-
-same-length-2 : tie.Need-same-length-2
-same-length-2 c = search needs
-
-same-length-3 : tie.Need-same-length-3
-same-length-3 c = search needs
-
 returns : tie.Need-returns
 returns c =
     let played = c .before .before .before .before .before .before in
@@ -50,15 +38,6 @@ returns c =
 
 pub play-file-spec : {M : Type 1} → statement M
 play-file-spec =
-    tie.close
-    (tie.spec
-    open-requires
-    events-end-requires
-    slice-aggregate-play
-    slice-relend-prefix-play
-    slice-aggregate-play-2
-    play-requires
-    same-length
-    same-length-2
-    same-length-3
-    returns)
+    tie.close (tie.spec
+    open-requires (λ c. search needs) slice-aggregate-play slice-relend-prefix-play slice-aggregate-play-2 play-requires
+    (λ c. search needs) (λ c. search needs) (λ c. search needs) returns)

@@ -5,12 +5,6 @@ use borrow.Author.Needs.{needs}
 use Rattle.benchrun.proofs.step.step.Statement.{statement}
 use Rattle.benchrun.proofs.step.step.Tie as tie
 
-event-at-requires : tie.Need-event-at-requires
-event-at-requires c κs = search needs
-
-stopped-requires : tie.Need-stopped-requires
-stopped-requires c κs = search needs
-
 returns : tie.Need-returns
 returns c = steps-none _ _ _ _ _ (c .before .before .before .event-at .ensures) (c .before .if1 .taken) (c .stopped .ensures)
 
@@ -19,12 +13,6 @@ add-from c = omega (arith, steps-fits _ _ (c .before .before .event-at .ensures)
 
 add-end : tie.Need-add-end
 add-end c = omega (arith, steps-fits _ _ (c .before .before .before .event-at .ensures) (c .before .if1 .left))
-
-sub-act : tie.Need-sub-act
-sub-act c = search needs
-
-part-act-start : tie.Need-part-act-start
-part-act-start c = search needs
 
 part-act-end : tie.Need-part-act-end
 part-act-end c = omega (arith, steps-fits _ _ (c .before .before .before .event-at .ensures) (c .before .if1 .left))
@@ -44,15 +32,6 @@ add-t16 c =
     let first = c .before .before .before .before .before .before .before .before .before .before .before .before .before .before .before .before in
     omega (arith, steps-fits _ _ (first .before .before .event-at .ensures) (first .if1 .left), first .before .before .before .before .before .before .before .before .pre .1)
 
-same-length : tie.Need-same-length
-same-length c = search needs
-
-same-length-2 : tie.Need-same-length-2
-same-length-2 c = search needs
-
-same-length-3 : tie.Need-same-length-3
-same-length-3 c = search needs
-
 returns-2 : tie.Need-returns-2
 returns-2 c =
     let told = c .before .before .before in
@@ -62,20 +41,7 @@ returns-2 c =
 
 pub step-spec : {M : Type 1} → statement M
 step-spec =
-    tie.close
-    (tie.spec
-    event-at-requires
-    stopped-requires
-    returns
-    add-from
-    add-end
-    sub-act
-    part-act-start
-    part-act-end
-    act-requires
-    tell-requires
-    add-t16
-    same-length
-    same-length-2
-    same-length-3
-    returns-2)
+    tie.close (tie.spec
+    (λ c. search needs) (λ c. search needs) returns
+    add-from add-end (λ c. search needs) (λ c. search needs) part-act-end act-requires tell-requires add-t16 (λ c. search needs)
+    (λ c. search needs) (λ c. search needs) returns-2)
