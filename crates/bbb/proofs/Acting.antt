@@ -111,7 +111,7 @@ takes b p o io one two turn hm x hl hk =
 
 module _ (b : Before) (counts : Bool) (n : Numbers) (o : Opened) (io packet : List ℕ) (write : ℕ)
     {v : Bool} (hv : v ≡ refuses b (n .fixed .packetsize) (o .left) (o .marks .write - o .marks .read)) where
-  pub sends-refused : v ≡ true 
+  pub sends-refused : v ≡ true
       → Acts (sentBy b counts n (openOf o) io (endpointOf write)) (sentPacket b n (openOf o) io (endpointOf write) packet)
       (record { marks = o .marks; left = o .left; sent = 0; answer = FullPacketExpected; taken = o .taken; stalled = false }) io packet
   unfolding sentBy sentPacket

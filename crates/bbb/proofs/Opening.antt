@@ -159,7 +159,7 @@ module _ (n : Numbers) (io one : List ℕ) (e : Endpoint) {k : ℕ} (hk : k ≡ 
     front = y .front;
   }
 
-  pub opens-not : v ≡ false → Whole n (length io) 
+  pub opens-not : v ≡ false → Whole n (length io)
       → Opens (opened n io one e) (openedIo n io one e)
       (record { found = Nothing; marks = n .marks; left = n .left; direction = NotExpected; answer = Done; taken = 0; cleared = false }) io
   unfolding opened openedIo

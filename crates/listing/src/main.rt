@@ -9,9 +9,10 @@ use bbb::Turn;
 use benchline::Line;
 use benchline::put_line;
 use buffer::Marks;
-use calls::Figure;
+use calls::FirmwareStatus;
 use calls::Stated;
 use device::Device;
+use device::Fixed;
 use device::create::create;
 use fields::least;
 use libc::STDOUT_FILENO;
@@ -38,10 +39,10 @@ fn poll(
     }
 }
 
-fn set_status(mut device: Device, io: &[u8], figure: Figure) -> Stated
-    ensures { λ r. ⌜ statedOf r ≡ setStatusCall device (now (io .entry)) figure ⌝ }
+fn set_status(mut device: Device, io: &[u8], given: FirmwareStatus) -> Stated
+    ensures { λ r. ⌜ statedOf r ≡ setStatusCall device (now (io .entry)) given ⌝ }
 {
-    let r = lent::set_status(&mut device, io, figure);
+    let r = lent::set_status(&mut device, io, given);
     let d = device;
     Stated {
         device: d,
@@ -84,16 +85,15 @@ fn polled(index: usize, device: Device, io: &mut [u8], one: &[u8], turn: Turn) -
     let p = poll(device, io, &mut packet, one, &one[..0], turn);
     let d = p.device;
     let report = p.report;
-    let outcome = report.outcome;
-    let answer = outcome.answer;
+    let answer = report.answer;
     let stalls = report.stalls;
     let line = line_of(index, d, answer, report.taken as usize, stalls);
     print(line, &packet, report.sent);
     d
 }
 
-fn stated(index: usize, device: Device, io: &[u8], figure: Figure) -> Device {
-    let s = set_status(device, io, figure);
+fn stated(index: usize, device: Device, io: &[u8], given: FirmwareStatus) -> Device {
+    let s = set_status(device, io, given);
     let d = s.device;
     let answer = s.answer;
     print(line_of(index, d, answer, 0, Stalls::Kept), io, 0);
@@ -102,7 +102,11 @@ fn stated(index: usize, device: Device, io: &[u8], figure: Figure) -> Device {
 
 fn main() {
     let mut io = [0u8; 64];
-    let made = create(64, 0, 64);
+    let made = create(Fixed {
+        packetsize: 64,
+        maxlun: 0,
+        size: 64,
+    });
     let d = made.device;
     let answer = made.answer;
     print(line_of(0, d, answer, 0, Stalls::Kept), &io, 0);
@@ -128,9 +132,9 @@ fn main() {
         2,
         d1,
         &io,
-        Figure {
+        FirmwareStatus {
             status: 0,
-            processed: 0,
+            figure: 0,
         },
     );
     let d3 = polled(3, d2, &mut io, &wrapper[..0], silent);

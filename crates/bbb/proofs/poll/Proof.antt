@@ -5,23 +5,11 @@ use Rattle.bbb.proofs.Polling.{first-fits, is-fitting, broken-10, refus
 use Rattle.bbb.proofs.poll.Statement.{statement}
 use Rattle.bbb.proofs.poll.Tie as tie
 
-numbers-of-requires : tie.Need-numbers-of-requires
-numbers-of-requires c κs = search needs
-
-whole-requires : tie.Need-whole-requires
-whole-requires c κs = search needs
-
-fits-requires : tie.Need-fits-requires
-fits-requires c κs = search needs
-
 open-requires : tie.Need-open-requires
 open-requires c κs =
     let test = c .before .before in
     let whole = test .before .before in
     (tested _ _ (whole .before .whole .ensures) (whole .if1 .taken), first-fits _ _ _ _ (test .before .fits2 .ensures) (test .if2 .taken))
-
-wrapper-then-requires : tie.Need-wrapper-then-requires
-wrapper-then-requires c κs = search needs
 
 go-on-requires : tie.Need-go-on-requires
 go-on-requires c κs =
@@ -34,15 +22,9 @@ go-on-requires c κs =
       is-fitting _ _ _ _ (test .before .fits2 .ensures) (test .if2 .taken),
     )
 
-changed-requires : tie.Need-changed-requires
-changed-requires c κs = search needs
-
 -- that the buffer was as long behind opening lies too far back to be found
 same-length : tie.Need-same-length
 same-length c = search (c .before .before .before .before .before .before .before .before .before .before .before .before .io, needs)
-
-same-length-2 : tie.Need-same-length-2
-same-length-2 c = search needs
 
 returns : tie.Need-returns
 returns c =
@@ -54,16 +36,10 @@ returns c =
     polls _ _ _ (whole .before .before .numbers-of .ensures) (whole .before .whole .ensures) (whole .if1 .taken) (test .before .fits2 .ensures) (test .if2 .taken) (went .go-on .result)
     (found .«open» .ensures) (went .go-on .ensures) (took .wrapper-then .ensures) (c .changed .ensures)
 
-refused-requires : tie.Need-refused-requires
-refused-requires c κs = search needs
-
 returns-2 : tie.Need-returns-2
 returns-2 c =
     let whole = c .before .before .before in
     refused-11 _ _ _ (whole .before .before .numbers-of .ensures) (whole .before .whole .ensures) (whole .if1 .taken) (c .before .before .fits2 .ensures) (c .before .if2 .left) (c .refused .ensures)
-
-refused-requires-2 : tie.Need-refused-requires-2
-refused-requires-2 c κs = search needs
 
 returns-3 : tie.Need-returns-3
 returns-3 c =
@@ -71,4 +47,9 @@ returns-3 c =
     broken-10 _ _ _ (whole .before .before .numbers-of .ensures) (whole .before .whole .ensures) (whole .if1 .left) (c .refused2 .ensures)
 
 pub poll-spec : {M : Type 1} → statement M
-poll-spec = tie.close (tie.spec numbers-of-requires whole-requires fits-requires open-requires wrapper-then-requires go-on-requires changed-requires same-length same-length-2 returns refused-requires returns-2 refused-requires-2 returns-3)
+poll-spec =
+    tie.close (tie.spec
+    (λ c. search needs) (λ c. search needs) (λ c. search needs) open-requires (λ c. search needs) go-on-requires (λ c. search needs)
+    same-length (λ c. search needs) returns
+    (λ c. search needs) returns-2
+    (λ c. search needs) returns-3)

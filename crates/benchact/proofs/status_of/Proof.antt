@@ -4,14 +4,5 @@ use Rattle.benchact.proofs.Laws.{ways}
 use Rattle.benchact.proofs.status_of.Statement.{statement}
 use Rattle.benchact.proofs.status_of.Tie as tie
 
-byte-requires : tie.Need-byte-requires
-byte-requires c κs = search needs
-
-le32-requires : tie.Need-le32-requires
-le32-requires c κs = search needs
-
-returns : tie.Need-returns
-returns c = search (ways, needs)
-
 pub status-of-spec : {M : Type 1} → statement M
-status-of-spec = tie.close (tie.spec byte-requires le32-requires returns)
+status-of-spec = tie.close (tie.spec (λ c. search needs) (λ c. search needs) (λ c. search (ways, needs)))

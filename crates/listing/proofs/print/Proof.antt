@@ -1,6 +1,6 @@
 -- `listing::print` is safe and ends: a line of at most 64 bytes fits the text. Assumes nothing.
 use mathlib.Core.Path.{_≡_, sym}
-use mathlib.Core.List.{List, []}
+use mathlib.Core.List.{List}
 use Prim.Native.Nat.{ℕ, _≤_}
 use native.Mathlib.Omega.{arith}
 use lib.ListN.{length}
@@ -17,17 +17,8 @@ fits-text : (l : Line) (bytes : List ℕ) {before after : List ℕ} {end : ℕ} 
     → end ≤ length after
 fits-text l bytes p h e = omega (arith, p .ends, line-fits l bytes, h, e)
 
-least-requires : tie.Need-least-requires
-least-requires c κs = search needs
-
-least-requires-2 : tie.Need-least-requires-2
-least-requires-2 c κs = search needs
-
 slice-aggregate-put-line : tie.Need-slice-aggregate-put-line
 slice-aggregate-put-line c = sym (length-take-le _ _ (omega arith))
-
-slice-aggregate-put-line-2 : tie.Need-slice-aggregate-put-line-2
-slice-aggregate-put-line-2 c = search needs
 
 put-line-requires : tie.Need-put-line-requires
 unfolding roomFor
@@ -39,22 +30,8 @@ array-share-prefix-text c = fits-text _ _ (c .before .put-line .ensures) (put-li
 slice-aggregate-write-all : tie.Need-slice-aggregate-write-all
 slice-aggregate-write-all c = sym (length-take-le _ _ (array-share-prefix-text (c .before)))
 
-write-all-requires : tie.Need-write-all-requires
-write-all-requires c κs = search needs
-
-returns : tie.Need-returns
-returns c = search needs
-
 pub print-spec : {M : Type 1} → statement M
 print-spec =
-    tie.close
-    (tie.spec
-    least-requires
-    least-requires-2
-    slice-aggregate-put-line
-    slice-aggregate-put-line-2
-    put-line-requires
-    array-share-prefix-text
-    slice-aggregate-write-all
-    write-all-requires
-    returns)
+    tie.close (tie.spec
+    (λ c. search needs) (λ c. search needs) slice-aggregate-put-line (λ c. search needs) put-line-requires array-share-prefix-text
+    slice-aggregate-write-all (λ c. search needs) (λ c. search needs))

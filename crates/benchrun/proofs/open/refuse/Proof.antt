@@ -14,22 +14,8 @@ slice-write-text-2 c = refuses-second (now (c .before .args .text)) (c .before .
 slice-write-text-3 : tie.Need-slice-write-text-3
 slice-write-text-3 c = refuses-third (now (c .before .args .text)) (c .before .pre)
 
-none-requires : tie.Need-none-requires
-none-requires c κs = search needs
-
-same-length : tie.Need-same-length
-same-length c = search needs
-
 returns : tie.Need-returns
 returns c = refuses _ (c .before .before .pre) (c .none .ensures)
 
 pub refuse-spec : {M : Type 1} → statement M
-refuse-spec =
-    tie.close
-    (tie.spec
-    slice-write-text
-    slice-write-text-2
-    slice-write-text-3
-    none-requires
-    same-length
-    returns)
+refuse-spec = tie.close (tie.spec slice-write-text slice-write-text-2 slice-write-text-3 (λ c. search needs) (λ c. search needs) returns)
