@@ -9,13 +9,13 @@ use lib.Dec.{eqb}
 use lib.ListN.{length}
 use borrow.Author.Tests.{eq-eqb, ne-eqb}
 use borrow.Table.Steps.{cases}
-use Rattle.answers.specs.Answers.{answerOf}
+use Rattle.answers.specs.Answers.{answer, answerOf}
 use Rattle.device.specs.declared.Device.{Device}
 use Rattle.device.specs.Device.{numbersOf, withMarks}
 use Rattle.device.specs.Broken.{Whole}
 use Rattle.device.proofs.Wholly.{size-most}
 use Rattle.calls.specs.declared.Moved.{Moved}
-use Rattle.calls.specs.Data.{Moving, movedOf, readCall, writeCall, writeAllCall}
+use Rattle.calls.specs.Data.{Moving, moving, movedOf, readCall, writeCall, writeAllCall}
 use Rattle.calls.proofs.After.{Tells10, read-tells, read-keeps, read-whole, read-within, write-tells, write-keeps, write-whole, write-within, write-all-tells, write-all-keeps, write-all-whole, write-all-within}
 use Rattle.recordbytes.specs.Record.{isKnown, deviceAt, storeMarks, storeDevice}
 use Rattle.recordbytes.proofs.Stored.{Known, is-known}
@@ -56,33 +56,29 @@ module _ (m : Moved) {n : ℕ} (en : n ≡ answerOf (m .report .answer) .number)
 
 -- ---- a call
 
-module _ (r bytes : List ℕ) (call : Device → Moving) {k : Bool} (ek : k ≡ isKnown r) where
-  abbrev comesTo : Device → _
-  comesTo d = moved r (call d)
+-- what the call by value returned tells of 10 what it comes to tells
+same-10 : (m : Moved) (b : List ℕ) {o : Moving} → movedOf m b ≡ o → eqb (o .answer .number) 10 ≡ is10 m
+same-10 m b to = sym (ap (λ (x : Moving). eqb (x .answer .number) 10) to)
 
-  data-made : not k ≡ false → (io : List ℕ) → Tells10 (deviceAt r) io bytes (call (deviceAt r)) → withMarks (deviceAt r .marks) (call (deviceAt r) .device) ≡ deviceAt r
-      → (m : Moved) (b : List ℕ) → movedOf m b ≡ call (deviceAt r)
-      → {x : ℕ} {l : List ℕ} → (x ≡ cond (is10 m) (plain 10) (word (answerOf (m .report .answer) .number) 0 0 0 (m .report .count))) × (l ≡ cond (is10 m) r (storeMarks (m .device .marks) r))
-      → moves x l b ≡ onDevice r (moves (plain 10) r bytes) comesTo
-  data-made q io tells keeps m b to {x} {l} e =
-      cases (is10 m)
-      (λ ten.
-      let o = tells .broken (rw to at ten) in
-      rw (e .0, e .1, ten) (ap₃ b (ap (λ (o : Moving). o .bytes) (to ∙ o)) (sym (device-kept r known)) ∙ sym (ap (moved r) o)) ∙ there)
-      (λ other.
+-- a record that the call refused stays; of any other the marks alone changed
+module _ (r bytes io : List ℕ) (known : Known r) (o : Moving) (tells : Tells10 (deviceAt r) io bytes o) (keeps : withMarks (deviceAt r .marks) (o .device) ≡ deviceAt r)
+    (m : Moved) (b : List ℕ) (to : movedOf m b ≡ o) {x : ℕ} {l : List ℕ}
+    (ex : x ≡ cond (is10 m) (plain 10) (word (answerOf (m .report .answer) .number) 0 0 0 (m .report .count))) (el : l ≡ cond (is10 m) r (storeMarks (m .device .marks) r)) where
+  refused-comes : is10 m ≡ true → moves x l b ≡ moved r o
+  refused-comes ten =
+      let is : o ≡ moving (answer 10) 0 (deviceAt r) bytes = tells .broken (same-10 m b to ∙ ten) in
+      let stays : b ≡ bytes = ap (λ (y : Moving). y .bytes) (to ∙ is) in
+      rw (ex, el, ten, stays) (ap (λ (z : List ℕ). moves (plain 10) z bytes) (sym (device-kept r known)) ∙ ap (moved r) (sym is))
+
+  done-comes : is10 m ≡ false → moves x l b ≡ moved r o
+  done-comes other =
       let alone : m .device ≡ withMarks (m .device .marks) (deviceAt r) =
-      ap (λ (o : Moving). withMarks (m .device .marks) (withMarks (deviceAt r .marks) (o .device))) to ∙ ap (withMarks (m .device .marks)) keeps in
-      let kept : l ≡ storeDevice (m .device) r = rw other at (e .1) ∙ sym (marks-alone r known (m .device .marks)) ∙ ap (λ (d : Device). storeDevice d r) (sym alone) in
-      rw (rw other at (e .0), kept) (ap (moved r) to) ∙ there)
-    where
-      known : Known r
-      known = is-known r (known-then r ek q)
+      ap (λ (y : Moving). withMarks (m .device .marks) (withMarks (deviceAt r .marks) (y .device))) to ∙ ap (withMarks (m .device .marks)) keeps in
+      let kept : storeMarks (m .device .marks) r ≡ storeDevice (m .device) r = sym (marks-alone r known (m .device .marks)) ∙ ap (λ (d : Device). storeDevice d r) (sym alone) in
+      rw (ex, el, other, kept) (ap (moved r) to)
 
-      there : moved r (call (deviceAt r)) ≡ onDevice r (moves (plain 10) r bytes) comesTo
-      there = made r (moves (plain 10) r bytes) comesTo (known-then r ek q)
-
-      ap₃ : (b : List ℕ) {c l l′ : List ℕ} → b ≡ c → l ≡ l′ → moves (plain 10) l b ≡ moves (plain 10) l′ c
-      ap₃ b p p′ = rw (p, p′)
+  comes : moves x l b ≡ moved r o
+  comes = cases (is10 m) refused-comes done-comes
 
 module _ (r io dst : List ℕ) {k : Bool} (ek : k ≡ isKnown r) where
   pub read-unknown : not k ≡ true → moves 10 r dst ≡ readOn r io dst
@@ -95,11 +91,14 @@ module _ (r io dst : List ℕ) {k : Bool} (ek : k ≡ isKnown r) where
 
     pub read-made : {x : ℕ} {l : List ℕ} → (x ≡ cond (is10 m) (plain 10) (word (answerOf (m .report .answer) .number) 0 0 0 (m .report .count))) × (l ≡ cond (is10 m) r (storeMarks (m .device .marks) r)) → moves x l dst′ ≡ readOn r io dst
     unfolding readOn
-    read-made e = data-made r dst (λ (d : Device). readCall d io dst) ek q io (read-tells (deviceAt r) io dst) (read-keeps (deviceAt r) io dst) m dst′ read-is e
+    read-made e =
+        let test = known-then r ek q in
+        comes r dst io (is-known r test) (readCall (deviceAt r) io dst) (read-tells (deviceAt r) io dst) (read-keeps (deviceAt r) io dst) m dst′ read-is (e .0) (e .1)
+        ∙ made r (moves (plain 10) r dst) (λ (d : Device). moved r (readCall d io dst)) test
 
     pub read-fits : is10 m ≡ false → Storable m
     read-fits other =
-        let whole = read-tells (deviceAt r) io dst .whole (rw read-is at other) in
+        let whole = read-tells (deviceAt r) io dst .whole (same-10 m dst′ read-is ∙ other) in
         fits m (length io)
         (subst (λ (o : Moving). Whole (numbersOf (o .device)) (length io)) (sym read-is) (read-whole (deviceAt r) io whole dst))
         (subst (λ (o : Moving). o .count ≤ o .device .marks .write) (sym read-is) (read-within (deviceAt r) io dst whole))
@@ -115,11 +114,14 @@ module _ (r io src : List ℕ) {k : Bool} (ek : k ≡ isKnown r) where
 
     pub write-made : {x : ℕ} {l : List ℕ} → (x ≡ cond (is10 m) (plain 10) (word (answerOf (m .report .answer) .number) 0 0 0 (m .report .count))) × (l ≡ cond (is10 m) r (storeMarks (m .device .marks) r)) → moves x l io′ ≡ writeOn r io src
     unfolding writeOn
-    write-made e = data-made r io (λ (d : Device). writeCall d io src) ek q io (write-tells (deviceAt r) io src) (write-keeps (deviceAt r) io src) m io′ write-is e
+    write-made e =
+        let test = known-then r ek q in
+        comes r io io (is-known r test) (writeCall (deviceAt r) io src) (write-tells (deviceAt r) io src) (write-keeps (deviceAt r) io src) m io′ write-is (e .0) (e .1)
+        ∙ made r (moves (plain 10) r io) (λ (d : Device). moved r (writeCall d io src)) test
 
     pub write-fits : is10 m ≡ false → Storable m
     write-fits other =
-        let whole = write-tells (deviceAt r) io src .whole (rw write-is at other) in
+        let whole = write-tells (deviceAt r) io src .whole (same-10 m io′ write-is ∙ other) in
         fits m (length io′)
         (subst (λ (o : Moving). Whole (numbersOf (o .device)) (length (o .bytes))) (sym write-is) (write-whole (deviceAt r) io whole src))
         (subst (λ (o : Moving). o .count ≤ o .device .marks .write) (sym write-is) (write-within (deviceAt r) io src))
@@ -135,11 +137,14 @@ module _ (r io src : List ℕ) {k : Bool} (ek : k ≡ isKnown r) where
 
     pub write-all-made : {x : ℕ} {l : List ℕ} → (x ≡ cond (is10 m) (plain 10) (word (answerOf (m .report .answer) .number) 0 0 0 (m .report .count))) × (l ≡ cond (is10 m) r (storeMarks (m .device .marks) r)) → moves x l io′ ≡ writeAllOn r io src
     unfolding writeAllOn
-    write-all-made e = data-made r io (λ (d : Device). writeAllCall d io src) ek q io (write-all-tells (deviceAt r) io src) (write-all-keeps (deviceAt r) io src) m io′ write-all-is e
+    write-all-made e =
+        let test = known-then r ek q in
+        comes r io io (is-known r test) (writeAllCall (deviceAt r) io src) (write-all-tells (deviceAt r) io src) (write-all-keeps (deviceAt r) io src) m io′ write-all-is (e .0) (e .1)
+        ∙ made r (moves (plain 10) r io) (λ (d : Device). moved r (writeAllCall d io src)) test
 
     pub write-all-fits : is10 m ≡ false → Storable m
     write-all-fits other =
-        let whole = write-all-tells (deviceAt r) io src .whole (rw write-all-is at other) in
+        let whole = write-all-tells (deviceAt r) io src .whole (same-10 m io′ write-all-is ∙ other) in
         fits m (length io′)
         (subst (λ (o : Moving). Whole (numbersOf (o .device)) (length (o .bytes))) (sym write-all-is) (write-all-whole (deviceAt r) io whole src))
         (subst (λ (o : Moving). o .count ≤ o .device .marks .write) (sym write-all-is) (write-all-within (deviceAt r) io src))

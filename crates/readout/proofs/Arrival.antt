@@ -8,7 +8,7 @@ use lib.Dec.{eqb}
 use lib.ListN.{length, length-append}
 use Rattle.fields.proofs.Bools.{clash}
 use Rattle.buffer.specs.Buffer.{unreadBytes}
-use Rattle.answers.specs.Answers.{answer}
+use Rattle.answers.specs.Answers.{Answering, answer}
 use Rattle.ring.specs.declared.State.the-variants.{CommandTransfer, StatusTransfer}
 use Rattle.ring.specs.States.{stateNumber}
 use Rattle.device.specs.declared.Device.{Device}
@@ -83,12 +83,12 @@ module _ (p : ℕ) (m : List ℕ) (s : Socket) (a : Arriving p m s) where
 
   -- ---- the other calls
 
-  nothing-arrives : (n : ℕ) → Arrives p m (record { socket = s; number = n; taken = []; sent = []; put = [] })
+  nothing-arrives : (x : Answering) → Arrives p m (record { socket = s; answer = x; taken = []; sent = []; put = [] })
   unfolding flatten
   nothing-arrives n = record { arriving = rw append-nil a; sent = refl; put = refl; alone = refl }
 
   -- entering 0 keeps what came
-  reset-arrives : (n : ℕ) → Arrives p m (record { socket = socket (entering0 (s .device)) (s .io); number = n; taken = []; sent = []; put = [] })
+  reset-arrives : (x : Answering) → Arrives p m (record { socket = socket (entering0 (s .device)) (s .io); answer = x; taken = []; sent = []; put = [] })
   unfolding flatten
   reset-arrives n = record {
     arriving = record {
@@ -115,12 +115,12 @@ module _ (p : ℕ) (m : List ℕ) (s : Socket) (a : Arriving p m s) where
   event-arrives : (e : Event) → length (m ++ firstOf (shows e s .taken)) < 31 → Arrives p m (shows e s)
   unfolding shows entering
   event-arrives (poll g) few = poll-arrives g few
-  event-arrives (status f) few = by-status (s .device) (s .io) f (λ (o : Stating). Arrives p m (ofStatus (s .io) o)) (nothing-arrives 10) (nothing-arrives 12) (λ takes _. absurd (clash (sym takes ∙ no-status)))
-  event-arrives (write src) few = rw (data-elsewhere 4 (s .device) (s .io) (s .io) _ (a .whole) (elsewhere 4 refl refl)) (nothing-arrives 3)
-  event-arrives (writeAll src) few = rw (data-elsewhere 4 (s .device) (s .io) (s .io) _ (a .whole) (elsewhere 4 refl refl)) (nothing-arrives 3)
-  event-arrives (read dst) few = rw (data-elsewhere 7 (s .device) (s .io) dst _ (a .whole) (elsewhere 7 refl refl)) (nothing-arrives 3)
-  event-arrives reset few = rw (reset-done (s .device) (s .io) (a .whole)) (reset-arrives 0)
-  event-arrives (control q) few = by-request (s .device) (s .io) q (λ (o : Handling). Arrives p m (ofBus (s .io) o)) (λ n _. nothing-arrives n) (λ _ _. reset-arrives 0)
+  event-arrives (status f) few = by-status (s .device) (s .io) f (λ (o : Stating). Arrives p m (ofStatus (s .io) o)) (nothing-arrives (answer 10)) (nothing-arrives (answer 12)) (λ takes _. absurd (clash (sym takes ∙ no-status)))
+  event-arrives (write src) few = rw (data-elsewhere 4 (s .device) (s .io) (s .io) _ (a .whole) (elsewhere 4 refl refl)) (nothing-arrives (answer 3))
+  event-arrives (writeAll src) few = rw (data-elsewhere 4 (s .device) (s .io) (s .io) _ (a .whole) (elsewhere 4 refl refl)) (nothing-arrives (answer 3))
+  event-arrives (read dst) few = rw (data-elsewhere 7 (s .device) (s .io) dst _ (a .whole) (elsewhere 7 refl refl)) (nothing-arrives (answer 3))
+  event-arrives reset few = rw (reset-done (s .device) (s .io) (a .whole)) (reset-arrives (answer 0))
+  event-arrives (control q) few = by-request (s .device) (s .io) q (λ (o : Handling). Arrives p m (ofBus (s .io) o)) (λ n _. nothing-arrives n) (λ _ _. reset-arrives (answer 0))
   event-arrives command few = nothing-arrives _
   event-arrives commandStep few = nothing-arrives _
 

@@ -16,7 +16,7 @@ use Rattle.buffer.specs.Buffer.{unread}
 use Rattle.ring.specs.States.{stateNumber}
 use Rattle.wrapper.specs.Wrapper.{Valid}
 use Rattle.device.specs.Device.{numbersOf}
-use Rattle.device.specs.Broken.{Whole, isWhole}
+use Rattle.device.specs.Broken.{Whole, isWhole, unlessBroken}
 use Rattle.device.proofs.Wholly.{is-whole, whole-is}
 use Rattle.bbb.specs.Poll.{pollCall}
 use Rattle.bbb.proofs.Keeping.{call-whole}

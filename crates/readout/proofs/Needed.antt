@@ -56,14 +56,14 @@ figure byte bytes = record { status = byte; figure = bytes }
 
 -- P 32, where a wrapper is one packet: from some socket, and from a new device
 abbrev from : Socket → List ℕ → List Event → FirmwareStatus → List Event → Story
-from s bytes before f after = record { start = s; arrival = []; completing = taking 32 bytes; before = before; figure = f; after = after }
+from s bytes before f after = record { start = s; arrival = []; completing = taking 32 bytes; before = before; given = f; after = after }
 
 abbrev in32 : List ℕ → List Event → FirmwareStatus → List Event → Story
 in32 = from (new 32 64)
 
 -- P 8, where it is four
 abbrev in8 : List ℕ → List Event → FirmwareStatus → List Event → Story
-in8 bytes before f after = record { start = new 8 64; arrival = three bytes; completing = fourth bytes; before = before; figure = f; after = after }
+in8 bytes before f after = record { start = new 8 64; arrival = three bytes; completing = fourth bytes; before = before; given = f; after = after }
 
 -- ---- the socket at the start
 
@@ -96,7 +96,7 @@ without-unfinished = record {
   arrival = poll (takingTwo 32 (writing 32) (reading 1 ++ (0xAB ∷ []))) ∷ reset ∷ [];
   completing = taking 32 [];
   before = [];
-  figure = figure 0 0;
+  given = figure 0 0;
   after = [];
 }
 

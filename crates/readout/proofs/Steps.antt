@@ -23,6 +23,7 @@ use Rattle.device.specs.declared.Status.{Status}
 use Rattle.device.specs.Device.{numbersOf, isPresent, withMarks}
 use Rattle.device.specs.Broken.{Whole}
 use Rattle.device.proofs.Wholly.{whole-sound, wrapper-fits, packet-fits, packet-known, packet-bounds}
+use Rattle.answers.specs.Answers.{Answering, answer}
 use Rattle.bbb.specs.Poll.{Given, Polling, Point, point, bufferAt, sendStatus, statusTransferRule, ruleIn, pollRule, Fits, refusing, pollCall}
 use Rattle.bbb.proofs.Keeping.{by-call, call-whole, call-sizes, packet-is}
 use Rattle.calls.specs.declared.FirmwareStatus.{FirmwareStatus}
@@ -111,7 +112,7 @@ module _ (w : Wrapper) (p : ℕ) (got put : List ℕ) (few : length put ≤ w .l
     poll-leads = rule-leads (s .device .state) (t .phase) refl (poll-long (s .device) (s .io) g (t .whole) fits)
 
   -- a refusal is not served, and all is as before
-  refused-leads : (n : ℕ) → isServed n ≡ false → GoesOn (refusing (s .device) (s .io) g n)
+  refused-leads : (n : ℕ) → isServed (answer n) ≡ false → GoesOn (refusing (s .device) (s .io) g n)
   refused-leads n unserved = record { wrapper = t .wrapper; status = refl; phase = rw append-nil (t .phase); count = λ _ _. rw unserved (add-zero _); wire = λ _. nothing-moved (s .device .left .0) }
 
   call-leads : GoesOn (pollCall (s .device) (s .io) g)
@@ -138,7 +139,7 @@ module _ (w : Wrapper) (p : ℕ) (got put : List ℕ) (few : length put ≤ w .l
 
 module _ (w : Wrapper) (p : ℕ) (got put : List ℕ) (s : Socket) (t : Transfer w p got put s) where
   -- a call that changes nothing
-  unchanged : (n : ℕ) (accepted : Bool) → Steps w p got put s accepted 0 (record { socket = s; number = n; taken = []; sent = []; put = [] })
+  unchanged : (n : Answering) (accepted : Bool) → Steps w p got put s accepted 0 (record { socket = s; answer = n; taken = []; sent = []; put = [] })
   unchanged n accepted = record { transfer = rw (append-nil, append-nil) t; status = λ _. refl; count = λ _ _. add-zero _; wire = λ _. nothing-moved (s .device .left .0) }
 
   -- 3 takes no status; where one is taken, no phase speaks of it
@@ -156,7 +157,7 @@ module _ (w : Wrapper) (p : ℕ) (got put : List ℕ) (s : Socket) (t : Transfer
   status-steps f =
       by-status (s .device) (s .io) f
       (λ (o : Stating). Whole (numbersOf (o .device)) (length (s .io)) → Steps w p got put s (eqb (o .answer .number) 0) 0 (ofStatus (s .io) o))
-      (λ _. unchanged 10 false) (λ _. unchanged 12 false)
+      (λ _. unchanged (answer 10) false) (λ _. unchanged (answer 12) false)
       (λ takes _ whole. record {
         transfer = record { whole = whole; packetsize = t .packetsize; wrapper = t .wrapper; phase = rw (append-nil, append-nil) (restated (s .device .state) _ takes (t .phase)) };
         status = λ refused. absurd (clash refused);
@@ -186,8 +187,8 @@ module _ (w : Wrapper) (p : ℕ) (got put : List ℕ) (s : Socket) (t : Transfer
     same-packetsize : d .fixed .packetsize ≡ s .device .fixed .packetsize
     same-packetsize = ap (λ (x : Device). x .fixed .packetsize) keeps
 
-    marked : (σ : State) → s .device .state ≡ σ → (n : ℕ) (ys : List ℕ) → Phase w got (put ++ ys) σ (s .device .status) (s .device .left .0) (unreadBytes (bufferOf d io)) → ((k m : ℕ) → dueIn σ p (s .device .left .0) k ≡ dueIn σ p (s .device .left .0) m)
-        → Steps w p got put s false 0 (record { socket = socket d io; number = n; taken = []; sent = []; put = ys })
+    marked : (σ : State) → s .device .state ≡ σ → (n : Answering) (ys : List ℕ) → Phase w got (put ++ ys) σ (s .device .status) (s .device .left .0) (unreadBytes (bufferOf d io)) → ((k m : ℕ) → dueIn σ p (s .device .left .0) k ≡ dueIn σ p (s .device .left .0) m)
+        → Steps w p got put s false 0 (record { socket = socket d io; answer = n; taken = []; sent = []; put = ys })
     marked σ at-σ n ys phase level = record {
       transfer = record {
         whole = whole;
@@ -201,8 +202,8 @@ module _ (w : Wrapper) (p : ℕ) (got put : List ℕ) (s : Socket) (t : Transfer
     }
 
     -- in 4: ys are put in behind what is unread
-    put-in : isIn 4 (s .device) ≡ true → (n : ℕ) (ys : List ℕ) → unreadBytes (bufferOf d io) ≡ unreadIn s ++ ys → (σ : State) → s .device .state ≡ σ → Phase w got put σ (s .device .status) (s .device .left .0) (unreadIn s)
-        → Steps w p got put s false 0 (record { socket = socket d io; number = n; taken = []; sent = []; put = ys })
+    put-in : isIn 4 (s .device) ≡ true → (n : Answering) (ys : List ℕ) → unreadBytes (bufferOf d io) ≡ unreadIn s ++ ys → (σ : State) → s .device .state ≡ σ → Phase w got put σ (s .device .status) (s .device .left .0) (unreadIn s)
+        → Steps w p got put s false 0 (record { socket = socket d io; answer = n; taken = []; sent = []; put = ys })
     unfolding isIn
     put-in in4 n ys behind σ at-σ (toHost e dir same sum) =
         marked DataTransferToHost (at-σ ∙ e) n ys (toHost refl dir (ap (λ (l : List ℕ). got ++ l) behind ∙ sym (append-assoc got (unreadIn s) ys) ∙ ap (λ (l : List ℕ). l ++ ys) same) sum) (λ _ _. refl)
@@ -213,8 +214,8 @@ module _ (w : Wrapper) (p : ℕ) (got put : List ℕ) (s : Socket) (t : Transfer
     put-in in4 n ys behind σ at-σ (sending c r e here all) = absurd (clash (sym (rw (at-σ, e) at in4)))
 
     -- in 7: what is unread does not matter
-    read-off : isIn 7 (s .device) ≡ true → (n : ℕ) → (σ : State) → s .device .state ≡ σ → Phase w got put σ (s .device .status) (s .device .left .0) (unreadIn s)
-        → Steps w p got put s false 0 (record { socket = socket d io; number = n; taken = []; sent = []; put = [] })
+    read-off : isIn 7 (s .device) ≡ true → (n : Answering) → (σ : State) → s .device .state ≡ σ → Phase w got put σ (s .device .status) (s .device .left .0) (unreadIn s)
+        → Steps w p got put s false 0 (record { socket = socket d io; answer = n; taken = []; sent = []; put = [] })
     unfolding isIn
     read-off in7 n σ at-σ (toHost e dir same sum) = absurd (clash (sym (rw (at-σ, e) at in7)))
     read-off in7 n σ at-σ (waiting e none all) = absurd (clash (sym (rw (at-σ, e) at in7)))
@@ -230,7 +231,7 @@ module _ (w : Wrapper) (p : ℕ) (got put : List ℕ) (s : Socket) (t : Transfer
       let io : List ℕ = s .io in
       cases (isIn 7 d)
       (λ in7. read-off (readCall d io dst .device) io (read-keeps d io dst) (read-whole d io (t .whole) dst) in7 _ (d .state) refl (t .phase))
-      (λ elsewhere. rw (data-elsewhere 7 d io dst _ (t .whole) elsewhere) (unchanged 3 false))
+      (λ elsewhere. rw (data-elsewhere 7 d io dst _ (t .whole) elsewhere) (unchanged (answer 3) false))
 
   write-steps : (src : List ℕ) → Steps w p got put s (accepts (write src) s) (served (write src) s) (shows (write src) s)
   unfolding shows served isPoll accepts isStatus limited
@@ -243,7 +244,7 @@ module _ (w : Wrapper) (p : ℕ) (got put : List ℕ) (s : Socket) (t : Transfer
       let within : n ≤ d .left .0 = write-most d io (t .whole) src in4 in
       put-in (writeCall d io src .device) (writeCall d io src .bytes) (write-keeps d io src) (write-whole d io (t .whole) src) in4 _ (take n src)
       (write-unread d io (t .whole) src in4 ∙ ap (λ (l : List ℕ). unreadIn s ++ l) (take-take n (d .left .0) src within)) (d .state) refl (t .phase))
-      (λ elsewhere. rw (data-elsewhere 4 d io io _ (t .whole) elsewhere) (unchanged 3 false))
+      (λ elsewhere. rw (data-elsewhere 4 d io io _ (t .whole) elsewhere) (unchanged (answer 3) false))
 
   write-all-steps : (src : List ℕ) → Steps w p got put s (accepts (writeAll src) s) (served (writeAll src) s) (shows (writeAll src) s)
   unfolding shows served isPoll accepts isStatus
@@ -256,7 +257,7 @@ module _ (w : Wrapper) (p : ℕ) (got put : List ℕ) (s : Socket) (t : Transfer
       let counted : o .count ≡ cond (lacksRoom (length src) (bufferOf d io)) 0 (length src) = write-all-answer d io (t .whole) src in4 .1 in
       put-in (o .device) (o .bytes) (write-all-keeps d io src) (write-all-whole d io (t .whole) src) in4 _ (take (o .count) src)
       (write-all-unread d io (t .whole) src in4 ∙ cases (lacksRoom (length src) (bufferOf d io)) (λ full. rw (counted, full) (sym (append-nil (unreadIn s)))) (λ room. rw (counted, room, take-length))) (d .state) refl (t .phase))
-      (λ elsewhere. rw (data-elsewhere 4 d io io _ (t .whole) elsewhere) (unchanged 3 false))
+      (λ elsewhere. rw (data-elsewhere 4 d io io _ (t .whole) elsewhere) (unchanged (answer 3) false))
 
 -- every event but a reset
 pub event-steps : (w : Wrapper) (p : ℕ) (got put : List ℕ) → length put ≤ w .length → (s : Socket) → Transfer w p got put s → 0 < due s → (e : Event) → isReset e ≡ false → Steps w p got put s (accepts e s) (served e s) (shows e s)

@@ -7,11 +7,11 @@ use Rattle.benchact.proofs.act.Tie as tie
 pub act-spec : {M : Type 1} → statement M
 act-spec =
     tie.close (tie.spec
-    (λ c. search (ways, needs)) (λ c. search needs) (λ c. search needs) (λ c. search (ways, needs))
-    (λ c. search (ways, needs)) (λ c. search needs) (λ c. search needs) (λ c. search needs) (λ c. search (ways, needs))
-    (λ c. search needs) (λ c. search needs) (λ c. search needs) (λ c. search (ways, needs))
-    (λ c. search needs) (λ c. search needs) (λ c. search needs) (λ c. search (ways, needs))
-    (λ c. search (ways, needs)) (λ c. search needs) (λ c. search needs) (λ c. search (ways, needs))
-    (λ c. search needs) (λ c. search needs) (λ c. search needs) (λ c. search (ways, needs))
-    (λ c. search (ways, needs)) (λ c. search needs) (λ c. search needs) (λ c. search (ways, needs))
-    (λ c. search needs) (λ c. search needs) (λ c. search needs) (λ c. search (ways, needs)))
+    (λ c κs. search (ways, needs)) (λ c. search needs) (λ c. search needs) (λ c. search (ways, needs))
+    (λ c κs. search (ways, needs)) (λ c κs. search needs) (λ c κs. search needs) (λ c. search needs) (λ c. search (ways, needs))
+    (λ c κs. search needs) (λ c κs. search needs) (λ c. search needs) (λ c. search (ways, needs))
+    (λ c κs. search needs) (λ c κs. search needs) (λ c. search needs) (λ c. search (ways, needs))
+    (λ c κs. search (ways, needs)) (λ c. search needs) (λ c. search needs) (λ c. search (ways, needs))
+    (λ c κs. search needs) (λ c. search needs) (λ c. search needs) (λ c. search (ways, needs))
+    (λ c κs. search (ways, needs)) (λ c. search needs) (λ c. search needs) (λ c. search (ways, needs))
+    (λ c κs. search needs) (λ c. search needs) (λ c. search needs) (λ c. search (ways, needs)))

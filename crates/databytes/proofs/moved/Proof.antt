@@ -4,10 +4,8 @@ use borrow.Author.Needs.{needs}
 use Rattle.databytes.proofs.moved.Statement.{statement}
 use Rattle.databytes.proofs.moved.Tie as tie
 
-returns : tie.Need-returns
-returns c = (search (ways, needs), search (ways, needs))
-
 pub moved-spec : {M : Type 1} → statement M
 moved-spec =
     tie.close (tie.spec
-    (λ c. search needs) (λ c. search needs) (λ c. search needs) (λ c. search needs) (λ c. search needs) returns)
+    (λ c. search needs) (λ c. search (ways, needs))
+    (λ c. search (ways, needs)) (λ c. search (ways, needs)) (λ c. search needs) (λ c. search needs) (λ c. search (ways, needs)))
