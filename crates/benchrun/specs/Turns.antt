@@ -32,7 +32,7 @@ pub record Played (events : List ℕ) (from : Running) (io lent text : List ℕ)
 
 -- the first turn of a file; the IO buffer is the front of the space, as long as the device asks for
 abbrev pub startOf : Beginning → List ℕ → List ℕ → Running
-startOf b space lent = runningOf (b .run) (take (b .run .device .size) space) lent (b .text)
+startOf b space lent = runningOf (b .run) (take (b .run .device .fixed .size) space) lent (b .text)
 
 -- The same for a file, from its verdict on. Of the space only the IO buffer is written to.
 pub record PlayedFile (file space lent text space′ lent′ text′ : List ℕ) : Type 0 where
@@ -40,4 +40,4 @@ pub record PlayedFile (file space lent text space′ lent′ text′ : List ℕ)
   pub opens : Opens file text begun
   pub io : List ℕ
   pub played : Played (eventsOf file) (startOf begun space lent) io lent′ text′
-  pub behind : space′ ≡ io ++ drop (begun .run .device .size) space
+  pub behind : space′ ≡ io ++ drop (begun .run .device .fixed .size) space

@@ -35,6 +35,6 @@ pub fn play_file(file: &[u8], space: &mut [u8], lent: &mut [u8], text: &mut [u8]
     let begun = open(file, text);
     let end = events_end(file);
     let d = begun.device;
-    let size = d.size;
+    let size = d.fixed.size;
     play(begun, &file[..end], &mut space[..size], lent, text);
 }

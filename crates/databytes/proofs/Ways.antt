@@ -3,7 +3,7 @@
 use mathlib.Core.Path.{_≡_, refl, sym, ap, _∙_, subst}
 use mathlib.Core.Bool.{Bool, true, false, not, cond}
 use mathlib.Core.List.{List}
-use Prim.Native.Nat.{ℕ, _≤_}
+use Prim.Native.Nat.{ℕ, _^_, _≤_, _<_}
 use native.Mathlib.Omega.{arith}
 use lib.Dec.{eqb}
 use lib.ListN.{length}
@@ -40,19 +40,29 @@ module _ (m : Moved) {n : ℕ} (en : n ≡ answerOf (m .report .answer) .number)
   done-is : (n ≡ 10 → ⊥) → is10 m ≡ false
   done-is q = ne-eqb _ _ (λ e. q (en ∙ e))
 
-  pub stores : (n ≡ 10 → ⊥) → (is10 m ≡ false → Storable m) → Storable m
-  stores q f = f (done-is q)
+  module _ (q : n ≡ 10 → ⊥) (f : is10 m ≡ false → Storable m) where
+    pub read-small : m .device .marks .read < 2 ^ 32
+    read-small = f (done-is q) .read
 
-  module _ (r : List ℕ) where
-    abbrev Result : ℕ → List ℕ → Type 0
-    Result x l = (x ≡ cond (is10 m) (plain 10) (word (answerOf (m .report .answer) .number) 0 0 0 (m .report .count))) × (l ≡ cond (is10 m) r (storeMarks (m .device .marks) r))
+    pub write-small : m .device .marks .write < 2 ^ 32
+    write-small = f (done-is q) .write
 
-    pub stays : n ≡ 10 → Result 10 r
-    unfolding word
-    stays q = (rw (refused-is q), rw (refused-is q))
+    pub count-small : m .report .count < 2 ^ 32
+    count-small = f (done-is q) .count
 
-    pub counts : (n ≡ 10 → ⊥) → {k x : ℕ} {l : List ℕ} → k ≡ m .report .count → x ≡ word n 0 0 0 k → l ≡ storeMarks (m .device .marks) r → Result x l
-    counts q ek ex el = (rw (done-is q, ← en, ← ek) ex, rw (done-is q) el)
+  -- the result, and the record's bytes
+  pub tells-10 : n ≡ 10 → 10 ≡ cond (is10 m) (plain 10) (word (answerOf (m .report .answer) .number) 0 0 0 (m .report .count))
+  unfolding word
+  tells-10 q = rw (refused-is q)
+
+  pub counts : (n ≡ 10 → ⊥) → {k x : ℕ} → k ≡ m .report .count → x ≡ word n 0 0 0 k → x ≡ cond (is10 m) (plain 10) (word (answerOf (m .report .answer) .number) 0 0 0 (m .report .count))
+  counts q ek ex = rw (done-is q, ← en, ← ek) ex
+
+  pub stays : (r : List ℕ) → n ≡ 10 → r ≡ cond (is10 m) r (storeMarks (m .device .marks) r)
+  stays r q = rw (refused-is q)
+
+  pub marks-stored : (r : List ℕ) → (n ≡ 10 → ⊥) → {l : List ℕ} → l ≡ storeMarks (m .device .marks) r → l ≡ cond (is10 m) r (storeMarks (m .device .marks) r)
+  marks-stored r q el = rw (done-is q) el
 
 -- ---- a call
 
@@ -149,4 +159,4 @@ module _ (r io src : List ℕ) {k : Bool} (ek : k ≡ isKnown r) where
         (subst (λ (o : Moving). Whole (numbersOf (o .device)) (length (o .bytes))) (sym write-all-is) (write-all-whole (deviceAt r) io whole src))
         (subst (λ (o : Moving). o .count ≤ o .device .marks .write) (sym write-all-is) (write-all-within (deviceAt r) io src))
 
-pub ruleset ways = (long-then, stores, stays, counts, read-unknown, read-made, read-fits, write-unknown, write-made, write-fits, write-all-unknown, write-all-made, write-all-fits)
+pub ruleset ways = (long-then, read-small, write-small, count-small, tells-10, counts, stays, marks-stored, read-unknown, read-made, read-fits, write-unknown, write-made, write-fits, write-all-unknown, write-all-made, write-all-fits)

@@ -100,8 +100,50 @@ fn stated(index: usize, device: Device, io: &[u8], given: FirmwareStatus) -> Dev
     d
 }
 
+// Tag 1, no data, a command block of six zeros: is the unit ready?
+fn wrapper() -> [u8; 31] {
+    let mut w = [0u8; 31];
+    w[0] = b'U';
+    w[1] = b'S';
+    w[2] = b'B';
+    w[3] = b'C';
+    w[4] = 1;
+    w[14] = 6;
+    w
+}
+
+// The host sends the wrapper, the firmware says passed, and the host takes the status and is silent.
+fn play(device: Device, io: &mut [u8], wrapper: &[u8]) {
+    let silent = Turn {
+        first: 1,
+        second: 1,
+        write: 0,
+    };
+    let d1 = polled(
+        1,
+        device,
+        io,
+        wrapper,
+        Turn {
+            first: 0,
+            second: 1,
+            write: 0,
+        },
+    );
+    let d2 = stated(
+        2,
+        d1,
+        io,
+        Figure {
+            status: 0,
+            figure: 0,
+        },
+    );
+    let d3 = polled(3, d2, io, &wrapper[..0], silent);
+    polled(4, d3, io, &wrapper[..0], silent);
+}
+
 fn main() {
-    let mut io = [0u8; 64];
     let made = create(Fixed {
         packetsize: 64,
         maxlun: 0,
@@ -109,34 +151,8 @@ fn main() {
     });
     let d = made.device;
     let answer = made.answer;
+    let mut io = [0u8; 64];
     print(line_of(0, d, answer, 0, Stalls::Kept), &io, 0);
-    let mut wrapper = [0u8; 31];
-    wrapper[0] = b'U';
-    wrapper[1] = b'S';
-    wrapper[2] = b'B';
-    wrapper[3] = b'C';
-    wrapper[4] = 1;
-    wrapper[14] = 6;
-    let offers = Turn {
-        first: 0,
-        second: 1,
-        write: 0,
-    };
-    let silent = Turn {
-        first: 1,
-        second: 1,
-        write: 0,
-    };
-    let d1 = polled(1, d, &mut io, &wrapper, offers);
-    let d2 = stated(
-        2,
-        d1,
-        &io,
-        FirmwareStatus {
-            status: 0,
-            figure: 0,
-        },
-    );
-    let d3 = polled(3, d2, &mut io, &wrapper[..0], silent);
-    polled(4, d3, &mut io, &wrapper[..0], silent);
+    let sent = wrapper();
+    play(d, &mut io, &sent);
 }

@@ -73,7 +73,7 @@ module _ {n : ℕ} where
     all-tell (given P ∷ ks) = (P .tells, all-tell ks)
 
     -- the arguments' relations, at their machine values
-    abbrev pub Told : (ks : List (Kind n)) → Denots (typesAt (slots ks) κs) → Type 0
+    abbrev Told : (ks : List (Kind n)) → Denots (typesAt (slots ks) κs) → Type 0
     Told ks a = Are (typesAt (slots ks) κs) (Ises (typesAt (slots ks) κs)) a (valss (typesAt (slots ks) κs) (all-values ks) a)
 
     module _ {M : Type 1} (𝓤 : URA M) (H : Heap 𝓤) (A : Atoms 𝓤) (W : Given 𝓤 H A) (up : ℕ → ℕ) where

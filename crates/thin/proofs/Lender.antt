@@ -25,7 +25,7 @@ use ghost.Atoms.{Atoms, sem}
 use contract.Monad.{fact}
 use contract.Running.{GhostRules, Running, MachineTables, givenOf, tables, tablesOf}
 use contract.Lifetimes.{Lfts, Shares, toks}
-use types.Kit.{Given, Item, ‵, raw, some, given, later, _⊛_, ⋆, Go, _$_, _∵_, !, qed, by, move, keep, drop, use0, use1, use2, use3, split, join, pick, learn, check}
+use types.Kit.{Given, Item, ‵, raw, some, given, later, _⊛_, ⋆, Go, _$_, _∵_, !, qed, by, move, drop, use0, use1, use2, use3, split, join, pick, learn, check}
 use types.Kit.{rewrite, fsplit, fjoin, fpick, fpack, frame, show, await, updating, now as at-once, done}
 use types.Tokens.{lft-new, lft-end}
 use types.Run.{Opds, look, init, forget, stop, from, load, of-opd, addr, no-more, and-then, assigns, land, returns}
@@ -49,11 +49,11 @@ use denote.Triple.End.{Kepts, Fins, all, outs, lastsOf}
 use denote.Triple.Table.{entered, cited}
 use denote.Triple.Walked.{says}
 use Rattle.thin.proofs.Data.{Data, Pair, Built, Fits, pair-ty}
-use Rattle.thin.proofs.Frame.{Addresses, values, locals, env, allots, passes-all, frees-all, at-local, opds-as}
+use Rattle.thin.proofs.Frame.{Addresses, values, locals, allots, passes-all, frees-all, at-local, opds-as}
 use Rattle.thin.proofs.Passed.{Passed, Helds, tys, anew, helds, helds-anew, behind, borrowing, operands, borrows, passed-on}
 use Rattle.thin.proofs.Passed.{Found, last-env, whole-env, own-found, found}
 use Rattle.thin.proofs.Thin.{core-ended}
-use Rattle.thin.proofs.Law.{Kind, slots, passed, all-values, all-tell, Told, all-held, all-same, Promise, TheCore, Thin}
+use Rattle.thin.proofs.Law.{Kind, slots, passed, all-values, all-tell, all-held, all-same, Promise, TheCore, Thin}
 
 -- ---- a local is lent, and comes back
 

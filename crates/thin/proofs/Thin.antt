@@ -42,7 +42,7 @@ use denote.Triple.Clauses.{Ended, Clauses, closing, ensured}
 use denote.Triple.Walked.{says}
 use denote.Exit.{yes, Last}
 use Rattle.thin.proofs.Data.{Data, Pair, pair-ty}
-use Rattle.thin.proofs.Frame.{Addresses, values, locals, env, allots, passes-all, frees-all, at-local, opds-as}
+use Rattle.thin.proofs.Frame.{Addresses, values, locals, allots, passes-all, frees-all, at-local, opds-as}
 use Rattle.thin.proofs.Passed.{Passed, Helds, tys, anew, helds, helds-anew, behind, borrowing, operands, borrows, passed-on}
 use Rattle.thin.proofs.Passed.{Found, last-env, whole-env, own-found, found}
 

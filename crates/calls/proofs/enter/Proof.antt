@@ -5,4 +5,4 @@ use Rattle.calls.proofs.enter.Statement.{statement}
 use Rattle.calls.proofs.enter.Tie as tie
 
 pub enter-spec : {M : Type 1} → statement M
-enter-spec = tie.close (tie.spec (λ c κs. search needs) (λ c. search (ways, needs)))
+enter-spec = tie.close (tie.spec (λ c. search needs) (λ c. search (ways, needs)))

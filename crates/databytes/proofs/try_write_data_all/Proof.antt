@@ -8,5 +8,5 @@ pub try-write-data-all-spec : {M : Type 1} → statement M
 try-write-data-all-spec =
     tie.close (tie.spec
     (λ c. search needs) (λ c. search needs) (λ c. search (ways, needs))
-    (λ c. search (ways, needs)) (λ c. search needs) (λ c. search (write-all-fits, needs)) (λ c. search needs) (λ c. search needs)
+    (λ c. search (ways, needs)) (λ c. search needs) (λ c κs. (search (ways, needs), search (write-all-fits, needs))) (λ c. search needs) (λ c. search needs)
     (λ c. search (ways, needs)))

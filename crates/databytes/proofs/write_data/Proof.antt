@@ -8,5 +8,5 @@ pub write-data-spec : {M : Type 1} → statement M
 write-data-spec =
     tie.close (tie.spec
     (λ c. search needs) (λ c. search needs) (λ c. search (ways, needs))
-    (λ c. search (ways, needs)) (λ c. search needs) (λ c. search (write-fits, needs)) (λ c. search needs) (λ c. search needs)
+    (λ c. search (ways, needs)) (λ c. search needs) (λ c κs. (search (ways, needs), search (write-fits, needs))) (λ c. search needs) (λ c. search needs)
     (λ c. search (ways, needs)))
