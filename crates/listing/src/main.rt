@@ -134,7 +134,7 @@ fn play(device: Device, io: &mut [u8], wrapper: &[u8]) {
         2,
         d1,
         io,
-        Figure {
+        FirmwareStatus {
             status: 0,
             figure: 0,
         },

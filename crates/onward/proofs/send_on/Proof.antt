@@ -7,7 +7,7 @@ use Rattle.onward.proofs.send_on.Tie as tie
 
 marks-requires : tie.Need-marks-requires
 marks-requires c κs =
-    let start = c .before .before .before .before .before .before .before .before .before .before .before .before in
+    let start = c .before .before .before .before .before .before .before .before .before .before .before in
     let whole = start .pre .1 in (
       search needs,
       mark-fits _ _ whole (omega (arith, start .pre .3, whole .order, whole .within, whole .lent)),
@@ -15,7 +15,7 @@ marks-requires c κs =
     )
 
 narrow-requires : tie.Need-narrow-requires
-narrow-requires c κs = count-fits _ _ (c .before .before .before .before .before .before .before .before .before .before .before .before .before .before .before .before .before .before .before .before .before .before .before .before .pre .1) (omega arith)
+narrow-requires c κs = count-fits _ _ (c .before .before .before .before .before .before .before .before .before .before .before .before .before .before .before .before .before .before .before .before .before .before .before .pre .1) (omega arith)
 
 pub send-on-spec : {M : Type 1} → statement M
 send-on-spec =

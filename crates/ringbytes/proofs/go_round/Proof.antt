@@ -10,13 +10,27 @@ keep-wrapper-requires : tie.Need-keep-wrapper-requires
 keep-wrapper-requires c κs = (known-long _ refl (c .before .before .before .before .before .before .before .before .before .before .before .pre .0), c .before .before .before .before .«open» .ensures .sound, c .before .before .before .before .«open» .ensures .front)
 
 keep-requires : tie.Need-keep-requires
-keep-requires c κs = (c .before .before .before .before .before .before .before .before .before .before .before .keep-wrapper .kept .0 ∙ known-long _ refl (c .before .before .before .before .before .before .before .before .before .before .before .before .before .before .before .before .before .before .before .before .before .before .before .pre .0), keepable _ _ _ (c .before .before .before .before .before .before .before .before .before .before .before .before .before .before .before .before .before .before .before .before .before .before .before .pre .0) (c .before .before .before .before .before .before .before .before .before .before .before .before .before .before .before .before .before .before .before .before .before .before .before .pre .1) (c .before .before .before .before .before .before .before .before .before .before .before .before .before .before .before .before .before .before .before .before .before .before .before .pre .2) (c .before .before .before .before .before .before .before .before .before .before .before .before .before .before .before .before .before .before .before .before .before .before .before .pre .3) _ _ (c .before .before .before .before .before .before .before .before .before .before .before .before .before .before .before .before .«open» .ensures) _ (c .before .before .before .before .before .before .go-on .ensures))
+keep-requires c κs =
+    let went = c .before .before .before .before .before .before in
+    let kept = went .before .before .before .before .before in
+    let found = kept .before .before .before .before .before in
+    let entry = found .before .before .before .before .before .before .before in
+    (kept .keep-wrapper .kept .0 ∙ known-long _ refl (entry .pre .0), keepable _ _ _ (entry .pre .0) (entry .pre .1) (entry .pre .2) (entry .pre .3) _ _ (found .«open» .ensures) (went .go-on .result) (went .go-on .ensures))
 
 result-requires : tie.Need-result-requires
-result-requires c κs = keepable _ _ _ (c .before .before .before .before .before .before .before .before .before .before .before .before .before .before .before .before .before .before .before .before .before .before .before .before .before .before .pre .0) (c .before .before .before .before .before .before .before .before .before .before .before .before .before .before .before .before .before .before .before .before .before .before .before .before .before .before .pre .1) (c .before .before .before .before .before .before .before .before .before .before .before .before .before .before .before .before .before .before .before .before .before .before .before .before .before .before .pre .2) (c .before .before .before .before .before .before .before .before .before .before .before .before .before .before .before .before .before .before .before .before .before .before .before .before .before .before .pre .3) _ _ (c .before .before .before .before .before .before .before .before .before .before .before .before .before .before .before .before .before .before .before .«open» .ensures) _ (c .before .before .before .before .before .before .before .before .before .go-on .ensures) .sent
+result-requires c κs =
+    let went = c .before .before .before .before .before .before .before .before .before in
+    let found = went .before .before .before .before .before .before .before .before .before .before in
+    let entry = found .before .before .before .before .before .before .before in
+    keepable _ _ _ (entry .pre .0) (entry .pre .1) (entry .pre .2) (entry .pre .3) _ _ (found .«open» .ensures) (went .go-on .result) (went .go-on .ensures) .sent
 
 returns : tie.Need-returns
-returns c = rounds _ _ _ (c .before .before .before .before .before .before .before .before .before .before .before .before .before .before .before .before .before .before .before .before .before .before .before .before .before .before .before .pre .0) (c .before .before .before .before .before .before .before .before .before .before .before .before .before .before .before .before .before .before .before .before .before .before .before .before .before .before .before .pre .1) (c .before .before .before .before .before .before .before .before .before .before .before .before .before .before .before .before .before .before .before .before .before .before .before .before .before .before .before .pre .2) (c .before .before .before .before .before .before .before .before .before .before .before .before .before .before .before .before .before .before .before .before .before .before .before .before .before .before .before .pre .3) _ _ (c .before .before .before .before .before .before .before .before .before .before .before .before .before .before .before .before .before .before .before .before .«open» .ensures) _ (c .before .before .before .before .before .before .before .before .before .before .go-on .ensures) (c .before .before .before .before .before .before .before .before .before .before .before .before .before .before .before .keep-wrapper .ensures) (c .before .before .before .keep .ensures) (c .answer .ensures)
+returns c =
+    let went = c .before .before .before .before .before .before .before .before .before .before in
+    let kept = went .before .before .before .before .before in
+    let found = kept .before .before .before .before .before in
+    let entry = found .before .before .before .before .before .before .before in
+    rounds _ _ _ (entry .pre .0) (entry .pre .1) (entry .pre .2) (entry .pre .3) _ _ (found .«open» .ensures) (went .go-on .result) (went .go-on .ensures) (kept .keep-wrapper .ensures) (c .before .before .before .keep .ensures) (c .result .ensures)
 
 pub go-round-spec : {M : Type 1} → statement M
 go-round-spec =

@@ -5,4 +5,7 @@ use Rattle.benchrun.proofs.step.created.Statement.{statement}
 use Rattle.benchrun.proofs.step.created.Tie as tie
 
 pub created-spec : {M : Type 1} → statement M
-created-spec = tie.close (tie.spec (λ c. search needs) (λ c. search needs) (λ c. search needs) (λ c. search needs) (λ c. search (ways, needs)))
+created-spec =
+    tie.close (tie.spec
+    (λ c. search needs) (λ c. search needs) (λ c. search needs) (λ c. search needs) (λ c. search needs) (λ c. search needs)
+    (λ c. search (ways, needs)))

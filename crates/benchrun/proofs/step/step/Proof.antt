@@ -30,7 +30,8 @@ tell-requires c κs =
 add-t16 : tie.Need-add-t16
 add-t16 c =
     let first = c .before .before .before .before .before .before .before .before .before .before .before .before .before .before .before .before in
-    omega (arith, steps-fits _ _ (first .before .before .event-at .ensures) (first .if1 .left), first .before .before .before .before .before .before .before .before .pre .1)
+    let entry = first .before .before .before .before .before .before .before .before in
+    omega (arith, steps-fits _ _ (first .before .before .event-at .ensures) (first .if1 .left), entry .pre .1, entry .good)
 
 returns-2 : tie.Need-returns-2
 returns-2 c =

@@ -1,4 +1,4 @@
--- `callbytes::create::create` meets its contract: 01's refusal, no 52 bytes, or a new record; P is a byte. Assumes nothing.
+-- `callbytes::create::create` meets its contract: 01's refusal, no 52 bytes, or a new record. Assumes nothing.
 use Rattle.callbytes.proofs.Ways.{ways}
 use borrow.Author.Needs.{needs}
 use Rattle.callbytes.proofs.create.create.Statement.{statement}
@@ -8,4 +8,4 @@ pub create-spec : {M : Type 1} → statement M
 create-spec =
     tie.close (tie.spec
     (λ c. search needs) (λ c. search needs) (λ c. search needs) (λ c. search (ways, needs)) (λ c. search (ways, needs))
-    (λ c. search needs) (λ c. search needs) (λ c. search needs) (λ c. search (ways, needs)))
+    (λ c κs. (search (ways, needs), search (ways, needs))) (λ c. search needs) (λ c. search (ways, needs)))
