@@ -13,7 +13,7 @@ use Rattle.buffer.specs.declared.marked.Put.{Put}
 use Rattle.buffer.specs.declared.Answer.{Answer}
 use Rattle.buffer.specs.declared.Answer.the-variants.{Done, Overflow, Broken}
 use Rattle.buffer.specs.Buffer.{Buffer, buffer, Leaves}
-use Rattle.buffer.specs.Calls.{Outcome, told}
+use Rattle.buffer.specs.Calls.{Answering, answerOf}
 use Rattle.fields.proofs.Only.{Only}
 use Rattle.buffer.proofs.sound.Kinds as sound-kinds
 use Rattle.buffer.proofs.sound.Reads as sound
@@ -53,48 +53,48 @@ use Rattle.buffer.proofs.span.fill.Kinds as span-fill-kinds
 use Rattle.buffer.proofs.span.fill.Reads as span-fill
 
 -- document 01's number and values tell the answer, and the bytes
-untold : Outcome → Answer
-untold o = cond (eqb (o .number) 0) (Done (o .count) (o .leaves .marks)) (cond (eqb (o .number) 1) (Overflow (o .leaves .marks)) Broken)
+named : Answering → Answer
+named o = cond (eqb (o .answer) 0) (Done (o .count) (o .leaves .marks)) (cond (eqb (o .answer) 1) (Overflow (o .leaves .marks)) Broken)
 
-untold-told : (m : Marks) (x : Answer) (b : List ℕ) → untold (told m x b) ≡ x
-unfolding untold
-untold-told m (Done n t) b = refl
-untold-told m (Overflow t) b = refl
-untold-told m Broken b = refl
+named-answer : (m : Marks) (x : Answer) (b : List ℕ) → named (answerOf m x b) ≡ x
+unfolding named
+named-answer m (Done n t) b = refl
+named-answer m (Overflow t) b = refl
+named-answer m Broken b = refl
 
-told-bytes : (m : Marks) (x : Answer) (b : List ℕ) → told m x b .leaves .bytes ≡ b
-told-bytes m (Done n t) b = refl
-told-bytes m (Overflow t) b = refl
-told-bytes m Broken b = refl
+answer-bytes : (m : Marks) (x : Answer) (b : List ℕ) → answerOf m x b .leaves .bytes ≡ b
+answer-bytes m (Done n t) b = refl
+answer-bytes m (Overflow t) b = refl
+answer-bytes m Broken b = refl
 
-pub told-once : (m : Marks) (x y : Answer) (b c : List ℕ) {o : Outcome} → told m x b ≡ o → told m y c ≡ o → (x ≡ y) × (b ≡ c)
-told-once m x y b c p q =
+pub answer-once : (m : Marks) (x y : Answer) (b c : List ℕ) {o : Answering} → answerOf m x b ≡ o → answerOf m y c ≡ o → (x ≡ y) × (b ≡ c)
+answer-once m x y b c p q =
     let e = p ∙ sym q in
-    (sym (untold-told m x b) ∙ ap untold e ∙ untold-told m y c, sym (told-bytes m x b) ∙ ap (λ (o : Outcome). o .leaves .bytes) e ∙ told-bytes m y c)
+    (sym (named-answer m x b) ∙ ap named e ∙ named-answer m y c, sym (answer-bytes m x b) ∙ ap (λ (o : Answering). o .leaves .bytes) e ∙ answer-bytes m y c)
 
 pub sound-only : Only 0 sound-kinds.ps sound-kinds.r sound.Post (λ κs s. tt {0})
 sound-only κs a x y s t p q = (p ∙ sym q, refl)
 
 pub available-only : Only 1 available-kinds.ps available-kinds.r available.Post (λ κs s. tt {0})
-available-only κs a x y s t p q = (told-once _ x y _ _ p q .0, refl)
+available-only κs a x y s t p q = (answer-once _ x y _ _ p q .0, refl)
 
 pub clean-only : Only 1 clean-kinds.ps clean-kinds.r clean.Post (λ κs s. tt {0})
-clean-only κs a x y s t p q = (told-once _ x y _ _ p q .0, refl)
+clean-only κs a x y s t p q = (answer-once _ x y _ _ p q .0, refl)
 
 pub shift-only : Only 1 shift-kinds.ps shift-kinds.r shift.Post (λ κs s. now (s .0))
-shift-only κs a x y s t p q = told-once _ x y _ _ p q
+shift-only κs a x y s t p q = answer-once _ x y _ _ p q
 
 pub write-only : Only 2 write-kinds.ps write-kinds.r write.Post (λ κs s. now (s .0))
-write-only κs a x y s t p q = told-once _ x y _ _ p q
+write-only κs a x y s t p q = answer-once _ x y _ _ p q
 
 pub write-all-only : Only 2 write-all-kinds.ps write-all-kinds.r write-all.Post (λ κs s. now (s .0))
-write-all-only κs a x y s t p q = told-once _ x y _ _ p q
+write-all-only κs a x y s t p q = answer-once _ x y _ _ p q
 
 pub fill-only : Only 1 fill-kinds.ps fill-kinds.r fill.Post (λ κs s. now (s .0))
-fill-only κs a x y s t p q = told-once _ x y _ _ p q
+fill-only κs a x y s t p q = answer-once _ x y _ _ p q
 
 pub read-only : Only 2 read-kinds.ps read-kinds.r read.Post (λ κs s. now (s .1 .1 .0))
-read-only κs a x y s t p q = (told-once _ x y _ _ (p .0) (q .0) .0, p .1 ∙ sym (q .1))
+read-only κs a x y s t p q = (answer-once _ x y _ _ (p .0) (q .0) .0, p .1 ∙ sym (q .1))
 
 -- ---- marked and span
 

@@ -11,7 +11,7 @@ use lib.ListN.{length, take, drop, replicate, length-replicate}
 use lib.Seq.{length-take-le, take-take}
 use Rattle.fields.specs.Overlay.{overlay}
 use Rattle.buffer.specs.Buffer.{Buffer, buffer, at, Sound, Leaves, isSound, unread, unreadBytes, room, moved, withRoom, appended, fitting, written, filled, lacksRoom, writtenAll, ready, given, readOff}
-use Rattle.buffer.specs.Calls.{outcome, unlessBroken}
+use Rattle.buffer.specs.Calls.{answering, unlessBroken}
 use Rattle.buffer.proofs.Kept.{is-sound, sound-moved, sound-written, sound-filled, sound-writtenAll, sound-readOff, sound-withRoom}
 
 -- ---- marked: t is the buffer after the move, b its bytes at the end
@@ -105,13 +105,13 @@ module _ (s : Buffer) {x : Bool} (e : x ≡ isSound (length (s .bytes)) (s .mark
   passes refused h p = rw (← e, h) p
 
 -- a count and a buffer
-pub counts : {n k : ℕ} {t u : Buffer} → n ≡ k → t ≡ u → outcome 0 n t ≡ outcome 0 k u
+pub counts : {n k : ℕ} {t u : Buffer} → n ≡ k → t ≡ u → answering 0 n t ≡ answering 0 k u
 counts en et = rw (en, et)
 
 -- all was taken or nothing: d is whether it was
 module _ (s : Buffer) (n k : ℕ) {t u : Buffer} {d : Bool} (ed : d ≡ not (lacksRoom n s)) (et : t ≡ u) where
-  pub all-taken : d ≡ true → outcome 0 k t ≡ cond (lacksRoom n s) (outcome 1 0 u) (outcome 0 k u)
+  pub all-taken : d ≡ true → answering 0 k t ≡ cond (lacksRoom n s) (answering 1 0 u) (answering 0 k u)
   all-taken h = rw (not-true (lacksRoom n s) (sym ed ∙ h), et)
 
-  pub overflows : d ≡ false → outcome 1 0 t ≡ cond (lacksRoom n s) (outcome 1 0 u) (outcome 0 k u)
+  pub overflows : d ≡ false → answering 1 0 t ≡ cond (lacksRoom n s) (answering 1 0 u) (answering 0 k u)
   overflows h = rw (not-false (lacksRoom n s) (sym ed ∙ h), et)

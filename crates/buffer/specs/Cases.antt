@@ -5,7 +5,7 @@ use lib.ListN.{length, replicate}
 use Rattle.fields.specs.Case.{Case}
 use Rattle.fields.specs.Case as table-of
 use Rattle.buffer.specs.Buffer.{Buffer, buffer, at}
-use Rattle.buffer.specs.Calls.{Outcome, outcome, availableCall, cleanCall, shiftCall, writeCall, writeAllCall, fillCall, readCall, readInto}
+use Rattle.buffer.specs.Calls.{Answering, answering, availableCall, cleanCall, shiftCall, writeCall, writeAllCall, fillCall, readCall, readInto}
 
 -- a call, and what it makes of a buffer: the outcome, and the destination of a read
 pub data Call : Type 0 where
@@ -16,11 +16,11 @@ pub data Call : Type 0 where
   read : List ℕ → Call
 
 pub record Seen : Type 0 where
-  pub outcome : Outcome
+  pub answering : Answering
   pub destination : List ℕ
 
-abbrev seen : Outcome → List ℕ → Seen
-seen o d = record { outcome = o; destination = d }
+abbrev seen : Answering → List ℕ → Seen
+seen o d = record { answering = o; destination = d }
 
 unfoldable pub after : Call → Buffer → Seen
 after available s = seen (availableCall s) []
@@ -33,11 +33,11 @@ after (read d) s = seen (readCall (length d) s) (readInto d s)
 
 -- bytes, read mark and write mark; the call; number, count; bytes, read mark and write mark after it
 abbrev case : List ℕ → ℕ → ℕ → Call → ℕ → ℕ → List ℕ → ℕ → ℕ → Case
-case b r w c n k b′ r′ w′ = table-of.case (after c (buffer b (at r w))) (seen (outcome n k (buffer b′ (at r′ w′))) [])
+case b r w c n k b′ r′ w′ = table-of.case (after c (buffer b (at r w))) (seen (answering n k (buffer b′ (at r′ w′))) [])
 
 -- a read: bytes, marks and destination; number, count; marks and destination after it
 abbrev reading : List ℕ → ℕ → ℕ → List ℕ → ℕ → ℕ → ℕ → ℕ → List ℕ → Case
-reading b r w d n k r′ w′ d′ = table-of.case (after (read d) (buffer b (at r w))) (seen (outcome n k (buffer b (at r′ w′))) d′)
+reading b r w d n k r′ w′ d′ = table-of.case (after (read d) (buffer b (at r w))) (seen (answering n k (buffer b (at r′ w′))) d′)
 
 unfoldable pub table : List Case
 table =

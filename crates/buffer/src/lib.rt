@@ -7,7 +7,7 @@ pub mod span;
 ghost use mathlib.Core.Path.{_≡_};
 ghost use lib.ListN.{length};
 ghost use Rattle.buffer.specs.Buffer.{buffer, isSound};
-ghost use Rattle.buffer.specs.Calls.{told, availableCall, cleanCall, shiftCall, writeCall, writeAllCall, fillCall, readCall, readInto};
+ghost use Rattle.buffer.specs.Calls.{answerOf, availableCall, cleanCall, shiftCall, writeCall, writeAllCall, fillCall, readCall, readInto};
 
 // The next byte to read, and the next to write.
 pub struct Marks {
@@ -36,7 +36,7 @@ pub fn sound(len: usize, m: Marks) -> bool
 
 // How many bytes are unread.
 pub fn available(io: &[u8], m: Marks) -> Answer
-    ensures { λ r. ⌜ told m r (now (io .entry)) ≡ availableCall (buffer (now (io .entry)) m) ⌝ }
+    ensures { λ r. ⌜ answerOf m r (now (io .entry)) ≡ availableCall (buffer (now (io .entry)) m) ⌝ }
 {
     if sound(io.len(), m) {
         return Answer::Done(m.write - m.read, m);
@@ -46,7 +46,7 @@ pub fn available(io: &[u8], m: Marks) -> Answer
 
 // Nothing is unread any more; the bytes stay.
 pub fn clean(io: &[u8], m: Marks) -> Answer
-    ensures { λ r. ⌜ told m r (now (io .entry)) ≡ cleanCall (buffer (now (io .entry)) m) ⌝ }
+    ensures { λ r. ⌜ answerOf m r (now (io .entry)) ≡ cleanCall (buffer (now (io .entry)) m) ⌝ }
 {
     if sound(io.len(), m) {
         return Answer::Done(0, marked::clean());
@@ -56,7 +56,7 @@ pub fn clean(io: &[u8], m: Marks) -> Answer
 
 // The unread bytes move to the front.
 pub fn shift(io: &mut [u8], m: Marks) -> Answer
-    ensures { λ r. ⌜ told m r (now (io .exit)) ≡ shiftCall (buffer (now (io .entry)) m) ⌝ }
+    ensures { λ r. ⌜ answerOf m r (now (io .exit)) ≡ shiftCall (buffer (now (io .entry)) m) ⌝ }
 {
     if sound(io.len(), m) {
         let t = marked::shift(io, m);
@@ -67,7 +67,7 @@ pub fn shift(io: &mut [u8], m: Marks) -> Answer
 
 // What fits of src goes behind the unread bytes.
 pub fn write(io: &mut [u8], m: Marks, src: &[u8]) -> Answer
-    ensures { λ r. ⌜ told m r (now (io .exit)) ≡ writeCall (now (src .entry)) (buffer (now (io .entry)) m) ⌝ }
+    ensures { λ r. ⌜ answerOf m r (now (io .exit)) ≡ writeCall (now (src .entry)) (buffer (now (io .entry)) m) ⌝ }
 {
     if sound(io.len(), m) {
         let w = marked::write(io, m, src);
@@ -80,7 +80,7 @@ pub fn write(io: &mut [u8], m: Marks, src: &[u8]) -> Answer
 // All of src goes behind the unread bytes, or nothing: `want` bytes of room are asked for, and src's own length.
 // An empty src asks for the room alone, as a packet read does whose endpoint then turns out to be busy.
 pub fn write_all(io: &mut [u8], m: Marks, want: usize, src: &[u8]) -> Answer
-    ensures { λ r. ⌜ told m r (now (io .exit)) ≡ writeAllCall want (now (src .entry)) (buffer (now (io .entry)) m) ⌝ }
+    ensures { λ r. ⌜ answerOf m r (now (io .exit)) ≡ writeAllCall want (now (src .entry)) (buffer (now (io .entry)) m) ⌝ }
 {
     if sound(io.len(), m) {
         let p = marked::write_all(io, m, want, src);
@@ -95,7 +95,7 @@ pub fn write_all(io: &mut [u8], m: Marks, want: usize, src: &[u8]) -> Answer
 
 // As many bytes v as fit, and at most n, go behind the unread bytes.
 pub fn fill_up_to(io: &mut [u8], m: Marks, v: u8, n: usize) -> Answer
-    ensures { λ r. ⌜ told m r (now (io .exit)) ≡ fillCall v n (buffer (now (io .entry)) m) ⌝ }
+    ensures { λ r. ⌜ answerOf m r (now (io .exit)) ≡ fillCall v n (buffer (now (io .entry)) m) ⌝ }
 {
     if sound(io.len(), m) {
         let f = marked::fill_up_to(io, m, v, n);
@@ -107,7 +107,7 @@ pub fn fill_up_to(io: &mut [u8], m: Marks, v: u8, n: usize) -> Answer
 
 // The first unread bytes, as many as dst holds, go to dst's front and count as read.
 pub fn read(io: &[u8], m: Marks, dst: &mut [u8]) -> Answer
-    ensures { λ r. ⌜ (told m r (now (io .entry)) ≡ readCall (length (now (dst .entry))) (buffer (now (io .entry)) m))
+    ensures { λ r. ⌜ (answerOf m r (now (io .entry)) ≡ readCall (length (now (dst .entry))) (buffer (now (io .entry)) m))
         × (now (dst .exit) ≡ readInto (now (dst .entry)) (buffer (now (io .entry)) m)) ⌝ }
 {
     if sound(io.len(), m) {

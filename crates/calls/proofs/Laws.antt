@@ -28,7 +28,7 @@ use Rattle.wrapper.proofs.Numbers.{status-back}
 use Rattle.scsi.specs.declared.Decoded.{Decoded}
 use Rattle.scsi.specs.declared.Decoded.the-variants as scsi
 use Rattle.scsi.specs.declared.ScsiCommand.{ScsiCommand}
-use Rattle.scsi.specs.Decoding.{told, plainCall}
+use Rattle.scsi.specs.Decoding.{answerOf, plainCall}
 use Rattle.ring.specs.States.{stateNumber}
 use Rattle.device.specs.declared.Device.{Device}
 use Rattle.device.specs.declared.Numbers.{Numbers}
@@ -96,16 +96,16 @@ module _ (s : ℕ) where
   unfolding takesStatus
   takes-in-7 n m k = rw (ne-eqb _ _ n, ne-eqb _ _ m, ne-eqb _ _ k)
 
-module _ (d : Device) (f : FirmwareStatus) {s : StatusByte} (h : csw.told s ≡ csw.statusCall (f .status)) where
+module _ (d : Device) (f : FirmwareStatus) {s : StatusByte} (h : csw.answerOf s ≡ csw.statusCall (f .status)) where
   pub figure-refused : s ≡ Refused → {r : Stated} → r ≡ refuses d StatusRefused → statedOf r ≡ acceptedStatus d f
   unfolding acceptedStatus
-  figure-refused k e = rw (e, lt-leb _ _ (status-above (f .status) (sym (ap csw.told k) ∙ h)))
+  figure-refused k e = rw (e, lt-leb _ _ (status-above (f .status) (sym (ap csw.answerOf k) ∙ h)))
 
   pub figure-taken : {c : CommandStatus} → s ≡ Known c → {r : Residue} → r ≡ residueOf (d .wrapper .length) (f .figure)
       → {e : Device} → e ≡ withStatus (Present c r) d → stating (answer 0) e ≡ acceptedStatus d f
   unfolding acceptedStatus withFigure
   figure-taken {c} k {r} hr he =
-      let known = status-accepted (f .status) c (sym (ap csw.told k) ∙ h) in
+      let known = status-accepted (f .status) c (sym (ap csw.answerOf k) ∙ h) in
       let same : c ≡ csw.statusOfNumber (f .status) = sym (status-back c) ∙ ap csw.statusOfNumber (known .1) in
       rw (le-leb _ _ (known .0), he, hr, same)
 
@@ -265,7 +265,7 @@ module _ (d : Device) {t : Bool} (ht : t ≡ isIn 0 d) where
   unfolding isOffered isShown
   offers-by p e = rw (← ht, p, e)
 
-module _ (lun : ℕ) (block : List ℕ) {c : Decoded} (h : told c ≡ plainCall block) where
+module _ (lun : ℕ) (block : List ℕ) {c : Decoded} (h : answerOf c ≡ plainCall block) where
   pub decodes-none : c ≡ scsi.Empty → {r : Step} → r ≡ offersNone EmptyBlock → steppedOf r ≡ offering lun (plainCall block)
   unfolding offering
   decodes-none k e = rw (← h, k, e)

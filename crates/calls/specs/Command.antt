@@ -6,7 +6,7 @@ use lib.ListN.{take, replicate}
 use Rattle.answers.specs.declared.Answer.{Answer}
 use Rattle.answers.specs.Answers.{Answering, answer, answerOf}
 use Rattle.scsi.specs.declared.ScsiCommand.{ScsiCommand}
-use Rattle.scsi.specs.Decoding.{Outcome, plainCall}
+use Rattle.scsi.specs.Decoding.{Answering as Decoding, plainCall}
 use Rattle.wrapper.specs.declared.Wrapper.{Wrapper}
 use Rattle.device.specs.declared.Device.{Device}
 use Rattle.device.specs.Device.{isPresent}
@@ -80,8 +80,8 @@ unfoldable pub isOffered : Device → Bool
 isOffered d = isShown d && not (isPresent (d .status))
 
 -- the decoded command of a LUN; 13: "decoding an empty block"
-unfoldable pub offering : ℕ → Outcome → Stepping
-offering lun o = stepping (answer (o .number)) (map (offered lun) (o .commands))
+unfoldable pub offering : ℕ → Decoding → Stepping
+offering lun o = stepping (answer (o .answer)) (map (offered lun) (o .commands))
 
 -- the command block: as many bytes as its length says
 unfoldable pub blockOf : Wrapper → List ℕ

@@ -7,11 +7,11 @@ use lib.ListN.{replicate}
 use Rattle.fields.specs.Overlay.{overlay}
 use Rattle.fields.specs.Case.{Case, case}
 use Rattle.bbb.specs.Poll.{Given, given}
-use Rattle.calls.specs.declared.Figure.{Figure}
+use Rattle.calls.specs.declared.FirmwareStatus.{FirmwareStatus}
 use Rattle.calls.specs.declared.Request.{Request}
+use Rattle.device.specs.Create.{fixed}
 use Rattle.recordbytes.specs.Record.{newRecord}
 use Rattle.border.specs.Word.{word}
-use Rattle.border.specs.Record.{isHeld}
 use Rattle.ringbytes.specs.Poll.{polls, pollOn}
 use Rattle.databytes.specs.Data.{moves, readOn, writeOn, writeAllOn}
 use Rattle.callbytes.specs.Calls.{leaves, createOn, statusOn, resetOn, controlOn}
@@ -36,30 +36,34 @@ in-state state = bytes state 0 1 4 2 0 0
 abbrev io : List ℕ
 io = 1 ∷ 2 ∷ 3 ∷ 4 ∷ replicate 27 5
 
-abbrev figure : ℕ → ℕ → Figure
-figure status processed = record { status = status; processed = processed }
+abbrev figure : ℕ → ℕ → FirmwareStatus
+figure status bytes = record { status = status; figure = bytes }
 
 abbrev request : ℕ → ℕ → Request
 request type number = record { requesttype = type; request = number }
+
+-- what a reset of a record answers, over an IO buffer of so many bytes
+abbrev answered : List ℕ → ℕ → ℕ
+answered r size = resetOn r (replicate size 0) .result
 
 unfoldable pub table : List Case
 table =
     -- each part in its place
     case (word 7 5 2 1 3) 0x0000000301020507
     -- 64, 0 and 64 give a record, in 52 bytes alone; 01's number comes first, and the bytes stay
-    ∷ case (createOn (replicate 52 9) 64 0 64) (leaves 0 (64 ∷ 0 ∷ 0 ∷ 0 ∷ 64 ∷ replicate 47 0))
-    ∷ case (createOn (replicate 51 9) 64 0 64) (leaves 10 (replicate 51 9))
-    ∷ case (createOn (replicate 52 9) 8 16 0) (leaves 2 (replicate 52 9))
-    ∷ case (createOn [] 8 16 0) (leaves 2 [])
+    ∷ case (createOn (replicate 52 9) (fixed 64 0 64)) (leaves 0 (64 ∷ 0 ∷ 0 ∷ 0 ∷ 64 ∷ replicate 47 0))
+    ∷ case (createOn (replicate 51 9) (fixed 64 0 64)) (leaves 10 (replicate 51 9))
+    ∷ case (createOn (replicate 52 9) (fixed 8 16 0)) (leaves 2 (replicate 52 9))
+    ∷ case (createOn [] (fixed 8 16 0)) (leaves 2 [])
     -- a number for no state, flag or status, or for no direction, beside a record that is whole; 53 bytes and none; another IO buffer
-    ∷ case (isHeld (bytes 8 1 1 4 2 0 2) 31) true
-    ∷ case (isHeld (bytes 9 1 1 4 2 0 2) 31) false
-    ∷ case (isHeld (bytes 8 2 1 4 2 0 2) 31) false
-    ∷ case (isHeld (bytes 8 1 1 4 2 0 3) 31) false
-    ∷ case (isHeld (overlay (in-state 4) 25 (3 ∷ [])) 31) false
-    ∷ case (isHeld (in-state 4 ++ 0 ∷ []) 31) false
-    ∷ case (isHeld [] 31) false
-    ∷ case (isHeld (in-state 4) 32) false
+    ∷ case (answered (bytes 8 1 1 4 2 0 2) 31) 0x0000000000020000
+    ∷ case (answered (bytes 9 1 1 4 2 0 2) 31) 10
+    ∷ case (answered (bytes 8 2 1 4 2 0 2) 31) 10
+    ∷ case (answered (bytes 8 1 1 4 2 0 3) 31) 10
+    ∷ case (answered (overlay (in-state 4) 25 (3 ∷ [])) 31) 10
+    ∷ case (answered (in-state 4 ++ 0 ∷ []) 31) 10
+    ∷ case (answered [] 31) 10
+    ∷ case (answered (in-state 4) 32) 10
     -- a status: the flag, the residue 512 - 500 and the byte are stored; refused with 12, or with 10, it stores nothing
     ∷ case (statusOn (in-state 4) io (figure 2 500)) (leaves 0 (bytes 4 1 1 4 2 12 2))
     ∷ case (statusOn (in-state 4) io (figure 3 500)) (leaves 12 (in-state 4))
@@ -76,7 +80,7 @@ table =
     ∷ case (writeAllOn (in-state 4) io (replicate 29 6)) (moves 1 (bytes 4 0 0 3 2 0 0) (2 ∷ 3 ∷ 4 ∷ 4 ∷ replicate 27 5))
     ∷ case (writeOn (in-state 9) io (6 ∷ [])) (moves 10 (in-state 9) io)
     -- a reset asks for `U` and stores state, left and the flag; residue and status byte stay
-    ∷ case (resetOn (newRecord 8 3 31) io) (leaves 0x0000000000020000 (newRecord 8 3 31))
+    ∷ case (resetOn (newRecord (fixed 8 3 31)) io) (leaves 0x0000000000020000 (newRecord (fixed 8 3 31)))
     ∷ case (resetOn (bytes 4 1 1 4 2 12 2) io) (leaves 0x0000000000020000 (bytes 0 0 1 4 0 12 2))
     ∷ case (resetOn (in-state 9) io) (leaves 10 (in-state 9))
     -- A1 FE answers flag 1 and max LUN; A1 FF is a reset; 21 FF does not count

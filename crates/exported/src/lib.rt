@@ -7,6 +7,7 @@ mod decode;
 
 use bbb::Turn;
 ghost use mathlib.Core.Path.{_≡_};
+ghost use Rattle.device.specs.Create.{fixed};
 ghost use Rattle.bbb.specs.Poll.{given};
 ghost use Rattle.ringbytes.specs.Poll.{polls, pollOn};
 ghost use Rattle.databytes.specs.Data.{moves, readOn, writeOn, writeAllOn};
@@ -15,7 +16,7 @@ ghost use Rattle.commandbytes.specs.Command.{shows, commandOn, stepOn};
 
 #[no_mangle]
 pub extern "C" fn souk_create(record: &mut [u8], packet_size: u32, max_lun: u8, size: u32) -> u32
-    ensures { λ x. ⌜ leaves x (now («record» .exit)) ≡ createOn (now («record» .entry)) «packet_size» «max_lun» size ⌝ }
+    ensures { λ x. ⌜ leaves x (now («record» .exit)) ≡ createOn (now («record» .entry)) (fixed «packet_size» «max_lun» size) ⌝ }
 {
     callbytes::create::create(record, packet_size, max_lun, size)
 }
@@ -49,7 +50,7 @@ pub extern "C" fn souk_poll(
 
 #[no_mangle]
 pub extern "C" fn souk_set_status(record: &mut [u8], io: &[u8], status: u8, figure: u32) -> u32
-    ensures { λ x. ⌜ leaves x (now («record» .exit)) ≡ statusOn (now («record» .entry)) (now (io .entry)) (record { status = status; processed = figure }) ⌝ }
+    ensures { λ x. ⌜ leaves x (now («record» .exit)) ≡ statusOn (now («record» .entry)) (now (io .entry)) (record { status = status; figure = figure }) ⌝ }
 {
     callbytes::status::set_status(record, io, status, figure)
 }

@@ -9,7 +9,7 @@ use Rattle.buffer.specs.declared.Marks.{Marks}
 use Rattle.buffer.specs.declared.Answer.{Answer}
 use Rattle.buffer.specs.declared.Answer.the-variants.{Done, Overflow, Broken}
 use Rattle.buffer.specs.Buffer.{Buffer, buffer}
-use Rattle.buffer.specs.Calls.{Outcome, told, readInto}
+use Rattle.buffer.specs.Calls.{Answering, answerOf, readInto}
 use Rattle.leafhost.specs.Buffer.{host, numberOf, marksOf, markedBy, shown, hosted, hostInto}
 
 -- three stores fill a list of three
@@ -17,18 +17,18 @@ pub three-stored : (l : List ℕ) (a b c : ℕ) → length l ≡ 3 → set (set 
 three-stored l a b c e = all-stored l (a ∷ b ∷ c ∷ []) e
 
 -- an answer, as its caller sees it
-shown-told : (m : Marks) (a : Answer) (b was : List ℕ) → shown was (told m a b) ≡ host (numberOf a) b (marksOf a was)
+shown-answer : (m : Marks) (a : Answer) (b was : List ℕ) → shown was (answerOf m a b) ≡ host (numberOf a) b (marksOf a was)
 unfolding shown
-shown-told m (Done n t) b was = refl
-shown-told m (Overflow t) b was = refl
-shown-told m Broken b was = refl
+shown-answer m (Done n t) b was = refl
+shown-answer m (Overflow t) b was = refl
+shown-answer m Broken b was = refl
 
 -- the caller has three numbers: m are its marks, a the buffer's answer, b its bytes then
-pub reports : (call : Buffer → Outcome) (io marks : List ℕ) (m : Marks) (a : Answer) (b after : List ℕ) (r : ℕ)
-    → length marks ≡ 3 → m ≡ markedBy marks → told m a b ≡ call (buffer io m) → r ≡ numberOf a → after ≡ marksOf a marks
+pub reports : (call : Buffer → Answering) (io marks : List ℕ) (m : Marks) (a : Answer) (b after : List ℕ) (r : ℕ)
+    → length marks ≡ 3 → m ≡ markedBy marks → answerOf m a b ≡ call (buffer io m) → r ≡ numberOf a → after ≡ marksOf a marks
     → host r b after ≡ hosted call io marks
 unfolding hosted
-reports call io marks m a b after r e em et er ea = rw (eq-eqb _ _ e, ← em, ← et, shown-told m a b marks, er, ea)
+reports call io marks m a b after r e em et er ea = rw (eq-eqb _ _ e, ← em, ← et, shown-answer m a b marks, er, ea)
 
 pub reads : (d io marks : List ℕ) (m : Marks) (e : List ℕ)
     → length marks ≡ 3 → m ≡ markedBy marks → e ≡ readInto d (buffer io m) → e ≡ hostInto d io marks
@@ -36,7 +36,7 @@ unfolding hostInto
 reads d io marks m e l em ee = rw (eq-eqb _ _ l, ← em) ee
 
 -- the caller has not
-pub refuses : (call : Buffer → Outcome) (io marks : List ℕ) → (length marks ≡ 3 → ⊥) → host 10 io marks ≡ hosted call io marks
+pub refuses : (call : Buffer → Answering) (io marks : List ℕ) → (length marks ≡ 3 → ⊥) → host 10 io marks ≡ hosted call io marks
 unfolding hosted
 refuses call io marks n = rw (ne-eqb _ _ n)
 

@@ -56,15 +56,15 @@ unfolding shownStatus
 not-thirteen t l f x was n = rw (ne-eqb _ _ n)
 
 pub states : (t l f x : ℕ) (was : List ℕ) (k : StatusByte) (s : CommandStatus) (r : Residue) (b after : List ℕ)
-    → length was ≡ 13 → bot.told k ≡ statusCall x → k ≡ Known s → r ≡ residueOf l f → b ≡ statusBytes t r (statusNumber s) → after ≡ overlay was 0 b
+    → length was ≡ 13 → bot.answerOf k ≡ statusCall x → k ≡ Known s → r ≡ residueOf l f → b ≡ statusBytes t r (statusNumber s) → after ≡ overlay was 0 b
     → status 0 after ≡ shownStatus t l f x was
 unfolding shownStatus
 states t l f x was k s r b after e ek es er eb ea =
-    let a = status-accepted x s (ap bot.told (sym es) ∙ ek) in
+    let a = status-accepted x s (ap bot.answerOf (sym es) ∙ ek) in
     rw (eq-eqb _ _ e, le-leb x 2 (a .0), ea, overlay-whole was b (ap length eb ∙ length-status t r (statusNumber s) ∙ sym e), eb, er, a .1)
 
-pub refuses : (t l f x : ℕ) (was : List ℕ) (k : StatusByte) → length was ≡ 13 → bot.told k ≡ statusCall x → k ≡ Refused → status 12 was ≡ shownStatus t l f x was
+pub refuses : (t l f x : ℕ) (was : List ℕ) (k : StatusByte) → length was ≡ 13 → bot.answerOf k ≡ statusCall x → k ≡ Refused → status 12 was ≡ shownStatus t l f x was
 unfolding shownStatus
-refuses t l f x was k e ek es = rw (eq-eqb _ _ e, lt-leb x 2 (status-above x (ap bot.told (sym es) ∙ ek)))
+refuses t l f x was k e ek es = rw (eq-eqb _ _ e, lt-leb x 2 (status-above x (ap bot.answerOf (sym es) ∙ ek)))
 
 pub ruleset ways = (five-stored, not-five, not-sixteen, parses, parses-not, not-thirteen, states, refuses)

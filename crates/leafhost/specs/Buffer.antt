@@ -9,7 +9,7 @@ use Rattle.buffer.specs.declared.Marks.{Marks}
 use Rattle.buffer.specs.declared.Answer.{Answer}
 use Rattle.buffer.specs.declared.Answer.the-variants.{Done, Overflow, Broken}
 use Rattle.buffer.specs.Buffer.{Buffer, buffer, at}
-use Rattle.buffer.specs.Calls.{Outcome, readInto}
+use Rattle.buffer.specs.Calls.{Answering, readInto}
 
 -- 01's number of an answer, and the three numbers that it leaves: read mark, write mark, count; a refusal leaves them
 abbrev pub numberOf : Answer → ℕ
@@ -36,13 +36,13 @@ abbrev pub host : ℕ → List ℕ → List ℕ → Host
 host n b m = record { number = n; bytes = b; marks = m }
 
 -- an outcome, as its caller sees it
-unfoldable pub shown : List ℕ → Outcome → Host
+unfoldable pub shown : List ℕ → Answering → Host
 shown was o =
-    host (o .number) (o .leaves .bytes)
-    (cond (eqb (o .number) 10) was (o .leaves .marks .read ∷ o .leaves .marks .write ∷ o .count ∷ []))
+    host (o .answer) (o .leaves .bytes)
+    (cond (eqb (o .answer) 10) was (o .leaves .marks .read ∷ o .leaves .marks .write ∷ o .count ∷ []))
 
 -- a call of the buffer on the caller's bytes and numbers; other than three numbers are a broken record
-unfoldable pub hosted : (Buffer → Outcome) → List ℕ → List ℕ → Host
+unfoldable pub hosted : (Buffer → Answering) → List ℕ → List ℕ → Host
 hosted call io marks = cond (eqb (length marks) 3) (shown marks (call (buffer io (markedBy marks)))) (host 10 io marks)
 
 -- the destination of a read

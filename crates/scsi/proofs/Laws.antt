@@ -22,7 +22,7 @@ use Rattle.scsi.specs.declared.ScsiCommand.{ScsiCommand}
 use Rattle.scsi.specs.declared.ScsiCommand.the-variants.{Unknown, Inquiry, TestUnitReady, RequestSense, ModeSense6, ModeSense10, ReadCapacity10, ReadCapacity16, Read, Write, ReadFormatCapacities}
 use Rattle.scsi.specs.declared.table.Row.{Row}
 use Rattle.scsi.specs.Commands.{flag, pageControl}
-use Rattle.scsi.specs.Decoding.{Layout, rows, opcodeOf, lists, shortestOf, counts, isListed, fieldsBy, Outcome, decoded, decodeCall}
+use Rattle.scsi.specs.Decoding.{Layout, rows, opcodeOf, lists, shortestOf, counts, isListed, fieldsBy, Answering, decoded, decodeCall}
 
 -- ---- the table, in the code's form
 
@@ -166,11 +166,11 @@ pub decodes-not : (e : Bool) (b : List ℕ) {op : ℕ} {r : Bool} → op ≡ opc
 unfolding decoded
 decodes-not e b eo er h = rw (← eo, sym er ∙ h)
 
-pub empty : (e : Bool) (b : List ℕ) → length b ≡ 0 → _≡_ {A = Outcome} (record { number = 13; commands = [] }) (decodeCall e b)
+pub empty : (e : Bool) (b : List ℕ) → length b ≡ 0 → _≡_ {A = Answering} (record { answer = 13; commands = [] }) (decodeCall e b)
 unfolding decodeCall
 empty e b h = rw (eq-eqb _ _ h)
 
-pub filled : (e : Bool) (b : List ℕ) {c : ScsiCommand} → (length b ≡ 0 → ⊥) → c ≡ decoded e b → _≡_ {A = Outcome} (record { number = 0; commands = c ∷ [] }) (decodeCall e b)
+pub filled : (e : Bool) (b : List ℕ) {c : ScsiCommand} → (length b ≡ 0 → ⊥) → c ≡ decoded e b → _≡_ {A = Answering} (record { answer = 0; commands = c ∷ [] }) (decodeCall e b)
 unfolding decodeCall
 filled e b n ec = rw (ne-eqb _ _ n, ec)
 

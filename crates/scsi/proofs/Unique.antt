@@ -8,7 +8,7 @@ use Rattle.fields.proofs.Only.{Only}
 use Rattle.scsi.specs.declared.ScsiCommand.{ScsiCommand}
 use Rattle.scsi.specs.declared.Decoded.{Decoded}
 use Rattle.scsi.specs.declared.Decoded.the-variants.{Command, Empty}
-use Rattle.scsi.specs.Decoding.{Outcome, told}
+use Rattle.scsi.specs.Decoding.{Answering, answerOf}
 use Rattle.scsi.specs.Numbers.{Shown, shown}
 use Rattle.scsi.proofs.decode_told.Kinds as decode-told-kinds
 use Rattle.scsi.proofs.decode_told.Reads as decode-told
@@ -22,23 +22,23 @@ use Rattle.scsi.proofs.numbers.decode_told_into.Kinds as decode-told-in
 use Rattle.scsi.proofs.numbers.decode_told_into.Reads as decode-told-into
 
 -- the command carried tells the answer
-untold : List ScsiCommand → Decoded
-untold [] = Empty
-untold (c ∷ cs) = Command c
+named : List ScsiCommand → Decoded
+named [] = Empty
+named (c ∷ cs) = Command c
 
-untold-told : (x : Decoded) → untold (told x .commands) ≡ x
-unfolding untold
-untold-told (Command c) = refl
-untold-told Empty = refl
+named-answer : (x : Decoded) → named (answerOf x .commands) ≡ x
+unfolding named
+named-answer (Command c) = refl
+named-answer Empty = refl
 
-told-once : (x y : Decoded) → told x ≡ told y → x ≡ y
-told-once x y e = sym (untold-told x) ∙ ap (λ (o : Outcome). untold (o .commands)) e ∙ untold-told y
+answer-once : (x y : Decoded) → answerOf x ≡ answerOf y → x ≡ y
+answer-once x y e = sym (named-answer x) ∙ ap (λ (o : Answering). named (o .commands)) e ∙ named-answer y
 
 pub decode-told-only : Only 1 decode-told-kinds.ps decode-told-kinds.r decode-told.Post (λ κs s. tt {0})
-decode-told-only κs a x y s t p q = (told-once x y (p ∙ sym q), refl)
+decode-told-only κs a x y s t p q = (answer-once x y (p ∙ sym q), refl)
 
 pub decode-only : Only 1 decode-kinds.ps decode-kinds.r decode.Post (λ κs s. tt {0})
-decode-only κs a x y s t p q = (told-once x y (p ∙ sym q), refl)
+decode-only κs a x y s t p q = (answer-once x y (p ∙ sym q), refl)
 
 -- ---- the numbers that are lent
 

@@ -11,10 +11,10 @@ use Rattle.scsi.specs.Decoding.{decodeCall, plainCall}
 
 -- a block and the command that it decodes to, with extended addressing off; and on
 abbrev plain : List ℕ → ScsiCommand → Case
-plain b c = case (plainCall b) (record { number = 0; commands = c ∷ [] })
+plain b c = case (plainCall b) (record { answer = 0; commands = c ∷ [] })
 
 abbrev extended : List ℕ → ScsiCommand → Case
-extended b c = case (decodeCall true b) (record { number = 0; commands = c ∷ [] })
+extended b c = case (decodeCall true b) (record { answer = 0; commands = c ∷ [] })
 
 -- "(starred ones are proved)": those of 01 that concern this crate
 unfoldable pub starred : List Case
@@ -53,6 +53,6 @@ ours =
     -- an opcode in no row, at any length
     ∷ plain (0x01 ∷ replicate 15 0) (Unknown 0x01)
     -- an empty block
-    ∷ case (plainCall []) (record { number = 13; commands = [] })
-    ∷ case (decodeCall true []) (record { number = 13; commands = [] })
+    ∷ case (plainCall []) (record { answer = 13; commands = [] })
+    ∷ case (decodeCall true []) (record { answer = 13; commands = [] })
     ∷ []

@@ -67,22 +67,22 @@ fieldsBy (r ∷ rs) opcode b = cond (eqb (r .opcode) opcode) (r .fields b) (fiel
 unfoldable pub decoded : Bool → List ℕ → ScsiCommand
 decoded extended b = cond (isListed extended (opcodeOf b) (length b)) (fieldsBy rows (opcodeOf b) b) (Unknown (opcodeOf b))
 
--- 01's number of a decoding, and the command where there is one
-pub record Outcome : Type 0 where
-  pub number : ℕ
+-- the answer of a decoding, by 01's number, and the command where there is one
+pub record Answering : Type 0 where
+  pub answer : ℕ
   pub commands : List ScsiCommand
 
-abbrev outcome : ℕ → List ScsiCommand → Outcome
-outcome n c = record { number = n; commands = c }
+abbrev answering : ℕ → List ScsiCommand → Answering
+answering n c = record { answer = n; commands = c }
 
-abbrev pub told : Decoded → Outcome
-told (Command c) = outcome 0 (c ∷ [])
-told Empty = outcome 13 []
+abbrev pub answerOf : Decoded → Answering
+answerOf (Command c) = answering 0 (c ∷ [])
+answerOf Empty = answering 13 []
 
 -- 13: "decoding an empty block"
-unfoldable pub decodeCall : Bool → List ℕ → Outcome
-decodeCall extended b = cond (eqb (length b) 0) (outcome 13 []) (outcome 0 (decoded extended b ∷ []))
+unfoldable pub decodeCall : Bool → List ℕ → Answering
+decodeCall extended b = cond (eqb (length b) 0) (answering 13 []) (answering 0 (decoded extended b ∷ []))
 
 -- "the plain entry has it off"
-unfoldable pub plainCall : List ℕ → Outcome
+unfoldable pub plainCall : List ℕ → Answering
 plainCall b = decodeCall false b

@@ -9,7 +9,7 @@ use Rattle.scsi.specs.declared.PageControl.{PageControl}
 use Rattle.scsi.specs.declared.PageControl.the-variants.{CurrentValues, ChangeableValues, DefaultValues, SavedValues}
 use Rattle.scsi.specs.declared.ScsiCommand.{ScsiCommand}
 use Rattle.scsi.specs.declared.ScsiCommand.the-variants.{Unknown, Inquiry, TestUnitReady, RequestSense, ModeSense6, ModeSense10, ReadCapacity10, ReadCapacity16, Read, Write, ReadFormatCapacities}
-use Rattle.scsi.specs.Decoding.{Outcome, decodeCall, plainCall}
+use Rattle.scsi.specs.Decoding.{Answering, decodeCall, plainCall}
 
 -- a flag is 0 or 1; SPC's numbers of PAGE CONTROL
 abbrev pub flagNumber : Bool → ℕ
@@ -53,8 +53,8 @@ laid was [] = was
 laid was (c ∷ cs) = numbers c
 
 -- an outcome, as its caller sees it; other than six lent numbers are a broken record: 10, and all as before
-unfoldable pub reported : List ℕ → Outcome → Shown
-reported was o = cond (eqb (length was) 6) (shown (o .number) (laid was (o .commands))) (shown 10 was)
+unfoldable pub reported : List ℕ → Answering → Shown
+reported was o = cond (eqb (length was) 6) (shown (o .answer) (laid was (o .commands))) (shown 10 was)
 
 -- the plain entry
 unfoldable pub shownDecode : List ℕ → List ℕ → Shown

@@ -12,7 +12,7 @@ use fields::byte;
 ghost use mathlib.Core.Path.{_≡_};
 ghost use Prim.Native.Nat.{_≤_};
 ghost use lib.ListN.{length};
-ghost use Rattle.scsi.specs.Decoding.{told, decodeCall, plainCall, decoded};
+ghost use Rattle.scsi.specs.Decoding.{answerOf, decodeCall, plainCall, decoded};
 
 pub enum PageControl {
     CurrentValues,
@@ -86,7 +86,7 @@ fn command(block: &[u8], extended: bool) -> ScsiCommand
 
 // The entry that is told whether extended addressing is on: whether 88 and 8A count.
 pub fn decode_told(block: &[u8], extended: bool) -> Decoded
-    ensures { λ r. ⌜ told r ≡ decodeCall extended (now (block .entry)) ⌝ }
+    ensures { λ r. ⌜ answerOf r ≡ decodeCall extended (now (block .entry)) ⌝ }
 {
     if block.len() == 0 {
         return Decoded::Empty;
@@ -97,7 +97,7 @@ pub fn decode_told(block: &[u8], extended: bool) -> Decoded
 
 // The plain entry: extended addressing is off.
 pub fn decode(block: &[u8]) -> Decoded
-    ensures { λ r. ⌜ told r ≡ plainCall (now (block .entry)) ⌝ }
+    ensures { λ r. ⌜ answerOf r ≡ plainCall (now (block .entry)) ⌝ }
 {
     decode_told(block, false)
 }

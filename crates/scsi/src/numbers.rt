@@ -5,7 +5,7 @@ use crate::PageControl;
 use crate::ScsiCommand;
 ghost use mathlib.Core.Path.{_≡_};
 ghost use lib.ListN.{length};
-ghost use Rattle.scsi.specs.Decoding.{told};
+ghost use Rattle.scsi.specs.Decoding.{answerOf};
 ghost use Rattle.scsi.specs.Numbers.{flagNumber, controlNumber, six, numbers, shown, reported, shownDecode, shownTold};
 
 fn flag_number(flag: bool) -> u64
@@ -117,7 +117,7 @@ pub fn put_command(lent: &mut [u64], command: ScsiCommand)
 
 // The answer's number; a command goes into the six numbers that the caller lends.
 fn report(lent: &mut [u64], d: Decoded) -> u32
-    ensures { λ r. ⌜ shown r (now (lent .exit)) ≡ reported (now (lent .entry)) (told d) ⌝ }
+    ensures { λ r. ⌜ shown r (now (lent .exit)) ≡ reported (now (lent .entry)) (answerOf d) ⌝ }
 {
     if lent.len() != 6 {
         return 10;

@@ -18,33 +18,33 @@ use Rattle.wrapper.specs.declared.status.CommandStatus.{CommandStatus}
 use Rattle.wrapper.specs.declared.status.CommandStatus.the-variants.{Passed, Failed, PhaseError}
 use Rattle.wrapper.specs.declared.status.StatusByte.the-variants.{Known, Refused}
 use Rattle.wrapper.specs.declared.counters.Residue.{Residue}
-use Rattle.wrapper.specs.Status.{statusSignature, dCSWSignature, dCSWTag, dCSWDataResidue, bCSWStatus, statusNumber, statusBytes, Taken, told, statusCall}
+use Rattle.wrapper.specs.Status.{statusSignature, dCSWSignature, dCSWTag, dCSWDataResidue, bCSWStatus, statusNumber, statusBytes, Taken, answerOf, statusCall}
 
 -- ---- the status byte
 
-pub status-known : (b k : ℕ) → k ≤ 2 → b ≡ k → _≡_ {A = Taken} (record { number = 0; status = k }) (statusCall b)
+pub status-known : (b k : ℕ) → k ≤ 2 → b ≡ k → _≡_ {A = Taken} (record { answer = 0; status = k }) (statusCall b)
 unfolding statusCall
 status-known b k h e = rw (e, le-leb k 2 h)
 
-pub status-refused : (b : ℕ) → 2 < b → _≡_ {A = Taken} (record { number = 12; status = 0 }) (statusCall b)
+pub status-refused : (b : ℕ) → 2 < b → _≡_ {A = Taken} (record { answer = 12; status = 0 }) (statusCall b)
 unfolding statusCall
 status-refused b h = rw (lt-leb b 2 h)
 
 -- what was known is the byte itself; what was refused is above 2
-pub status-accepted : (b : ℕ) (s : CommandStatus) → told (Known s) ≡ statusCall b → (b ≤ 2) × (statusNumber s ≡ b)
+pub status-accepted : (b : ℕ) (s : CommandStatus) → answerOf (Known s) ≡ statusCall b → (b ≤ 2) × (statusNumber s ≡ b)
 unfolding statusCall
 status-accepted b s e = picked (leb b 2) refl e
   where
-    picked : (t : Bool) → leb b 2 ≡ t → told (Known s) ≡ cond t (record { number = 0; status = b }) (record { number = 12; status = 0 }) → (b ≤ 2) × (statusNumber s ≡ b)
+    picked : (t : Bool) → leb b 2 ≡ t → answerOf (Known s) ≡ cond t (record { answer = 0; status = b }) (record { answer = 12; status = 0 }) → (b ≤ 2) × (statusNumber s ≡ b)
     picked true h e = (leb-true b 2 h, ap (λ (x : Taken). x .status) e)
-    picked false h e = let n : _≡_ {A = ℕ} 0 12 = ap (λ (x : Taken). x .number) e in omega arith
+    picked false h e = let n : _≡_ {A = ℕ} 0 12 = ap (λ (x : Taken). x .answer) e in omega arith
 
-pub status-above : (b : ℕ) → told Refused ≡ statusCall b → 2 < b
+pub status-above : (b : ℕ) → answerOf Refused ≡ statusCall b → 2 < b
 unfolding statusCall
 status-above b e = picked (leb b 2) refl e
   where
-    picked : (t : Bool) → leb b 2 ≡ t → told Refused ≡ cond t (record { number = 0; status = b }) (record { number = 12; status = 0 }) → 2 < b
-    picked true h e = let n : _≡_ {A = ℕ} 12 0 = ap (λ (x : Taken). x .number) e in omega arith
+    picked : (t : Bool) → leb b 2 ≡ t → answerOf Refused ≡ cond t (record { answer = 0; status = b }) (record { answer = 12; status = 0 }) → 2 < b
+    picked true h e = let n : _≡_ {A = ℕ} 12 0 = ap (λ (x : Taken). x .answer) e in omega arith
     picked false h e = leb-false b 2 h
 
 -- ---- the 13 bytes, after each field is written in turn

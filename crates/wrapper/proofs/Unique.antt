@@ -7,7 +7,7 @@ use Rattle.fields.proofs.Only.{Only}
 use Rattle.wrapper.specs.declared.status.CommandStatus.the-variants.{Passed, Failed, PhaseError}
 use Rattle.wrapper.specs.declared.status.StatusByte.{StatusByte}
 use Rattle.wrapper.specs.declared.status.StatusByte.the-variants.{Known, Refused}
-use Rattle.wrapper.specs.Status.{statusOfNumber, Taken, told}
+use Rattle.wrapper.specs.Status.{statusOfNumber, Taken, answerOf}
 use Rattle.wrapper.proofs.counters.left_after.Kinds as left-after-kinds
 use Rattle.wrapper.proofs.counters.left_after.Reads as left-after
 use Rattle.wrapper.proofs.counters.residue_of.Kinds as residue-of-kinds
@@ -40,15 +40,15 @@ use Rattle.wrapper.proofs.verdict.verdict_number.Kinds as verdict-numbe
 use Rattle.wrapper.proofs.verdict.verdict_number.Reads as verdict-number
 
 -- document 01's number, and the status's own, tell the answer
-untold : Taken → StatusByte
-untold t = cond (eqb (t .number) 12) Refused (Known (statusOfNumber (t .status)))
+named : Taken → StatusByte
+named t = cond (eqb (t .answer) 12) Refused (Known (statusOfNumber (t .status)))
 
-untold-told : (x : StatusByte) → untold (told x) ≡ x
-unfolding untold statusOfNumber
-untold-told (Known Passed) = refl
-untold-told (Known Failed) = refl
-untold-told (Known PhaseError) = refl
-untold-told Refused = refl
+named-answer : (x : StatusByte) → named (answerOf x) ≡ x
+unfolding named statusOfNumber
+named-answer (Known Passed) = refl
+named-answer (Known Failed) = refl
+named-answer (Known PhaseError) = refl
+named-answer Refused = refl
 
 pub left-after-only : Only 0 left-after-kinds.ps left-after-kinds.r left-after.Post (λ κs s. tt {0})
 left-after-only κs a x y s t p q = (p ∙ sym q, refl)
@@ -57,7 +57,7 @@ pub residue-of-only : Only 0 residue-of-kinds.ps residue-of-kinds.r residue-of.P
 residue-of-only κs a x y s t p q = (p ∙ sym q, refl)
 
 pub status-of-only : Only 0 status-of-kinds.ps status-of-kinds.r status-of.Post (λ κs s. tt {0})
-status-of-only κs a x y s t p q = (sym (untold-told x) ∙ ap untold (p ∙ sym q) ∙ untold-told y, refl)
+status-of-only κs a x y s t p q = (sym (named-answer x) ∙ ap named (p ∙ sym q) ∙ named-answer y, refl)
 
 pub status-number-only : Only 0 status-number-kinds.ps status-number-kinds.r status-number.Post (λ κs s. tt {0})
 status-number-only κs a x y s t p q = (p ∙ sym q, refl)

@@ -44,8 +44,8 @@ ours =
     ∷ case (parsed (0x55 ∷ 0x53 ∷ 0x42 ∷ 0x43 ∷ replicate 26 1)) (record { valid = false; wrapper = blank })
     -- the status of tag 01020304, residue 12, failed
     ∷ case (statusBytes 0x01020304 (residueOf 512 500) (statusNumber Failed)) (0x55 ∷ 0x53 ∷ 0x42 ∷ 0x53 ∷ 4 ∷ 3 ∷ 2 ∷ 1 ∷ 12 ∷ 0 ∷ 0 ∷ 0 ∷ 1 ∷ [])
-    ∷ case (statusCall 2) (record { number = 0; status = 2 })
-    ∷ case (statusCall 3) (record { number = 12; status = 0 })
+    ∷ case (statusCall 2) (record { answer = 0; status = 2 })
+    ∷ case (statusCall 3) (record { answer = 12; status = 0 })
     ∷ case (fallen (record { 0 = 5 }) 7 .0) 0
     -- the verdict: LUN at and above max LUN (its upper four bits do not count), block length 17, a byte too many, a wrong signature
     ∷ case (verdictOf 3 (message 0 0xF3 10)) Meaningful

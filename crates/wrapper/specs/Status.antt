@@ -52,15 +52,15 @@ statusBytes tag residue status =
 
 -- 01's number for what becomes of a status byte, and the status that it stands for, by its number
 pub record Taken : Type 0 where
-  pub number : ℕ
+  pub answer : ℕ
   pub status : ℕ
 
 abbrev taken : ℕ → ℕ → Taken
-taken n s = record { number = n; status = s }
+taken n s = record { answer = n; status = s }
 
-abbrev pub told : StatusByte → Taken
-told (Known s) = taken 0 (statusNumber s)
-told Refused = taken 12 0
+abbrev pub answerOf : StatusByte → Taken
+answerOf (Known s) = taken 0 (statusNumber s)
+answerOf Refused = taken 12 0
 
 -- 12: "a status byte above 2"
 unfoldable pub statusCall : ℕ → Taken

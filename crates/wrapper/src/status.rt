@@ -3,7 +3,7 @@ use crate::counters::Residue;
 use crate::in_status;
 use fields::put_le32;
 ghost use mathlib.Core.Path.{_≡_};
-ghost use Rattle.wrapper.specs.Status.{told, statusCall, statusNumber, statusOfNumber, statusBytes};
+ghost use Rattle.wrapper.specs.Status.{answerOf, statusCall, statusNumber, statusOfNumber, statusBytes};
 
 // 55 53 42 53, little-endian.
 const SIGNED: u32 = 0x53425355;
@@ -22,7 +22,7 @@ pub enum StatusByte {
 
 // Bytes above 2 are refused.
 pub fn status_of(byte: u8) -> StatusByte
-    ensures { λ r. ⌜ told r ≡ statusCall byte ⌝ }
+    ensures { λ r. ⌜ answerOf r ≡ statusCall byte ⌝ }
 {
     match byte {
         0 => StatusByte::Known(CommandStatus::Passed),
