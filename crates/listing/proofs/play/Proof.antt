@@ -1,0 +1,16 @@
+-- `listing::play` is safe and ends: the IO buffer stays as long. Assumes nothing.
+use borrow.Author.Needs.{needs}
+use Rattle.listing.proofs.play.Statement.{statement}
+use Rattle.listing.proofs.play.Tie as tie
+
+-- that the buffer was as long behind the first poll lies too far back to be found
+same-length : tie.Need-same-length
+same-length c =
+    let second = c .before .before .before .before .before .before in
+    search (second .io2, second .before .before .before .before .before .before .before .io, needs)
+
+pub play-spec : {M : Type 1} → statement M
+play-spec =
+    tie.close (tie.spec
+    (λ c. search needs) (λ c. search needs) (λ c. search needs) (λ c. search needs) (λ c. search needs) (λ c. search needs)
+    same-length (λ c. search needs))
