@@ -14,6 +14,7 @@ use Rattle.wrapper.specs.declared.status.CommandStatus.the-variants.{Passed}
 use Rattle.device.specs.declared.Device.{Device}
 use Rattle.device.specs.declared.Status.{Status}
 use Rattle.device.specs.declared.Status.the-variants.{Absent, Present}
+use Rattle.device.specs.Device.{rebuilt}
 use Rattle.device.specs.Create.{fixed, newDevice}
 use Rattle.bbb.specs.Poll.{Given, given, Polling, pollCall}
 
@@ -61,7 +62,7 @@ starred =
 
 -- a device with P 8 and an IO buffer of 40 bytes: 1, 2, 3, .. in front, of which some are unread
 unfoldable pub in-state : State → Status → ℕ → ℕ → ℕ → Device
-in-state state status read write left = record { fixed = fixed 8 0 40; state = state; marks = buffer.at read write; wrapper = record { tag = 1; length = 20; direction = In; lun = 0; blocklength = 6; block = replicate 16 0 }; status = status; left = record { 0 = left } }
+in-state state status read write left = rebuilt (newDevice (fixed 8 0 40)) state (buffer.at read write) (record { tag = 1; length = 20; direction = In; lun = 0; blocklength = 6; block = replicate 16 0 }) status (record { 0 = left })
 
 unfoldable pub io : List ℕ
 io = 1 ∷ 2 ∷ 3 ∷ 4 ∷ 5 ∷ 6 ∷ 7 ∷ 8 ∷ replicate 32 0

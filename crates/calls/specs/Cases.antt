@@ -14,8 +14,8 @@ use Rattle.ring.specs.declared.State.{State}
 use Rattle.ring.specs.declared.State.the-variants.{CommandTransfer, CommandTransferInvalid, DataTransferNoData, DataTransferToHost, DataTransferFromHost}
 use Rattle.device.specs.declared.Device.{Device}
 use Rattle.device.specs.declared.Status.the-variants.{Absent, Present}
-use Rattle.device.specs.Device.{withStatus}
-use Rattle.device.specs.Create.{fixed}
+use Rattle.device.specs.Device.{rebuilt, withStatus}
+use Rattle.device.specs.Create.{fixed, newDevice}
 use Rattle.calls.specs.declared.FirmwareStatus.{FirmwareStatus}
 use Rattle.calls.specs.declared.Request.{Request}
 use Rattle.calls.specs.Status.{setStatusCall}
@@ -26,14 +26,10 @@ use Rattle.calls.specs.Command.{showing, offered, stepping, commandCall,
 -- a device with P 8, max LUN 3 and an IO buffer of 32 bytes, three of them unread; L = 512, of which 2 are left; the command is 12 01
 -- 80 00 FF, for LUN 1, with a block of so many bytes
 abbrev device : State → ℕ → Device
-device state blocklength = record {
-  fixed = fixed 8 3 32;
-  state = state;
-  marks = at 1 4;
-  wrapper = record { tag = 7; length = 512; direction = In; lun = 1; blocklength = blocklength; block = 0x12 ∷ 0x01 ∷ 0x80 ∷ 0x00 ∷ 0xFF ∷ replicate 11 9 };
-  status = Absent;
-  left = record { 0 = 2 };
-}
+device state blocklength =
+    rebuilt (newDevice (fixed 8 3 32)) state (at 1 4)
+    (record { tag = 7; length = 512; direction = In; lun = 1; blocklength = blocklength; block = 0x12 ∷ 0x01 ∷ 0x80 ∷ 0x00 ∷ 0xFF ∷ replicate 11 9 })
+    Absent (record { 0 = 2 })
 
 abbrev io : List ℕ
 io = 1 ∷ 2 ∷ 3 ∷ 4 ∷ replicate 28 5
