@@ -26,6 +26,7 @@ use ring::row_of;
 use ring::settle;
 use wrapper::Wrapper;
 use wrapper::counters::Left;
+use wrapper::in_wrapper;
 ghost use mathlib.Core.Path.{_≡_};
 ghost use mathlib.Core.Bool.{cond};
 ghost use Prim.Native.Nat.{_≤_};
@@ -153,7 +154,7 @@ fn wrapper_then(o: Opened, old: Wrapper, io: &[u8]) -> Wrapper
     let marks = o.marks;
     if is_valid(found) {
         let end = marks.read;
-        return wrapper::read_wrapper(&io[end - 31..end]);
+        return wrapper::read_wrapper(&io[end - in_wrapper::SIZE..end]);
     }
     old
 }

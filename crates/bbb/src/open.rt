@@ -8,6 +8,7 @@ use ring::Found;
 use ring::state_number;
 use wrapper::DataDirection;
 use wrapper::counters::Left;
+use wrapper::in_wrapper;
 ghost use mathlib.Core.Path.{_≡_};
 ghost use mathlib.Core.Bool.{_&&_};
 ghost use Prim.Native.Nat.{_+_, _≤_};
@@ -35,7 +36,7 @@ fn parse(m: Marks, left: Left, cleared: bool, io: &[u8]) -> Opened
     ensures { λ r. ⌜ Opens (parsedOpen (buffer (now (io .entry)) m) left cleared) (now (io .entry)) r (now (io .entry)) ⌝ }
 {
     let from = m.read;
-    let end = from + 31;
+    let end = from + in_wrapper::SIZE;
     let marks = Marks {
         read: end,
         write: m.write,
@@ -69,7 +70,7 @@ fn ripe(taken: bool, unread: usize) -> bool
     ensures { λ r. ⌜ r ≡ taken && leb 31 unread ⌝ }
 {
     if taken {
-        return 31 <= unread;
+        return in_wrapper::SIZE <= unread;
     }
     false
 }

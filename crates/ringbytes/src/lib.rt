@@ -18,6 +18,7 @@ use recordbytes::known;
 use recordbytes::numbers_at;
 use recordbytes::store;
 use wrapper::head_of;
+use wrapper::in_wrapper;
 ghost use mathlib.Core.Path.{_≡_};
 ghost use mathlib.Core.Bool.{true, cond};
 ghost use Prim.Native.Nat.{_<_, _^_};
@@ -44,9 +45,9 @@ fn keep_wrapper(record: &mut [u8], o: Opened, io: &[u8])
     let marks = o.marks;
     if is_valid(found) {
         let end = marks.read;
-        let message = &io[end - 31..end];
+        let message = &io[end - in_wrapper::SIZE..end];
         let head = head_of(message);
-        store::wrapper(record, head, &message[15..31]);
+        store::wrapper(record, head, &message[in_wrapper::BLOCK..in_wrapper::SIZE]);
     }
 }
 
