@@ -1,5 +1,5 @@
 // The socket for firmware in C and for Rust: numbers and byte slices, the record as 52 bytes. In C a slice is two arguments, its pointer
-// and its length; host/include/souklavanh.h says what each call does. Every call takes any bytes of any length and any numbers, and ends
+// and its length; c/include/souklavanh.h says what each call does. Every call takes any bytes of any length and any numbers, and ends
 // with an answer. Every call that is lent a record to work on tests it first: a refusal with 10 leaves all that was lent as it was.
 // An archive has the functions of its own crate alone: so each call is handed on here, from the crate that proves it.
 //     decode    the decoder's two entries, and BOT's verdict on a message

@@ -1,0 +1,90 @@
+//! Faults on purpose. Each must end the program with a message and a nonzero exit; checks/oracle runs
+//! them all, so that a driver that has gone deaf is noticed.
+
+use crate::benchfile::{InAnswer, Offers, OutAnswer};
+use crate::endpoints::ScriptedBus;
+use crate::lines;
+use crate::panics;
+use usb_device::endpoint::{Endpoint, In, Out};
+use usbd_storage::subclass::scsi::peek::peek_parse_cb;
+
+const PACKET_SIZE: u16 = 8;
+
+struct Ends<'a> {
+    input: Endpoint<'a, ScriptedBus, In>,
+    output: Endpoint<'a, ScriptedBus, Out>,
+}
+
+type Fault = fn(&Ends);
+
+/// Name and fault; the name stands in the message that the fault must give.
+const FAULTS: &[(&str, Fault)] = &[
+    ("a third OUT read", |ends| read_packets(ends, 3)),
+    ("a second IN write", |ends| write_packets(ends, 2, 8)),
+    ("an IN write longer than P", |ends| {
+        write_packets(ends, 1, 9)
+    }),
+    ("an empty IN write", |ends| write_packets(ends, 1, 0)),
+    ("a stall of one endpoint only", |ends| ends.input.stall()),
+    ("an unstall after a stall", |ends| {
+        stall_both(ends);
+        ends.input.unstall();
+        ends.output.unstall();
+    }),
+    ("more than one stall", |ends| {
+        stall_both(ends);
+        stall_both(ends);
+    }),
+    ("a foreign panic", |_| {
+        panics::catch(panics::SET_STATUS, || panic!("a foreign panic"));
+    }),
+    // A panic that is an answer elsewhere, and not of this call.
+    ("cb.is_empty()", |_| {
+        panics::catch(panics::SET_STATUS, || peek_parse_cb(&[]));
+    }),
+];
+
+pub fn names() -> impl Iterator<Item = &'static str> {
+    FAULTS.iter().map(|(name, _)| *name)
+}
+
+/// Runs the fault of that name inside of a poll; returns only if nobody noticed.
+pub fn run(name: &str) {
+    let (_, fault) = FAULTS
+        .iter()
+        .find(|(known, _)| *known == name)
+        .expect("the name of a fault");
+    let allocator = lines::allocator();
+    let empty = OutAnswer::Packet(Vec::new());
+    allocator.bus().begin_poll(
+        usize::from(PACKET_SIZE),
+        Offers {
+            in_answer: InAnswer::Accepts,
+            out: [empty.clone(), empty],
+        },
+    );
+    fault(&Ends {
+        input: allocator.bulk(PACKET_SIZE),
+        output: allocator.bulk(PACKET_SIZE),
+    });
+    allocator.bus().finish();
+}
+
+fn read_packets(ends: &Ends, count: usize) {
+    for _ in 0..count {
+        let packet = ends.output.read(&mut [0; PACKET_SIZE as usize]);
+        assert_eq!(packet, Ok(0), "an empty packet was offered");
+    }
+}
+
+fn write_packets(ends: &Ends, count: usize, length: usize) {
+    for _ in 0..count {
+        let written = ends.input.write(&vec![0; length]);
+        assert_eq!(written, Ok(length), "IN takes every packet");
+    }
+}
+
+fn stall_both(ends: &Ends) {
+    ends.input.stall();
+    ends.output.stall();
+}

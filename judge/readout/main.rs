@@ -1,0 +1,131 @@
+//! How long a block takes through the exported calls and through the Rust, in one process. `judge/readout/run` builds and
+//! starts this program; docs/READOUT.md says what is measured.
+//!
+//!     time BLOCKS ROUNDS               a line for each packet size and direction: ns a block of both, and their ratio
+//!     run SIDE DIRECTION P BLOCKS      one side alone, once, and nothing is printed: for counting instructions
+
+mod exported;
+mod original;
+mod story;
+mod watch;
+
+use exported::Exported;
+use std::process::ExitCode;
+use std::time::Instant;
+use story::{Direction, Story};
+use watch::{All, Light, Watch};
+
+const PACKET_SIZES: [usize; 4] = [64, 32, 16, 8];
+const DIRECTIONS: [Direction; 2] = [Direction::ToHost, Direction::FromHost];
+
+fn main() -> ExitCode {
+    let arguments: Vec<String> = std::env::args().skip(1).collect();
+    let words: Vec<&str> = arguments.iter().map(String::as_str).collect();
+    match command(&words) {
+        Some(()) => ExitCode::SUCCESS,
+        None => {
+            eprintln!("unknown arguments; judge/readout/run names them");
+            ExitCode::FAILURE
+        }
+    }
+}
+
+fn command(words: &[&str]) -> Option<()> {
+    match words {
+        ["time", blocks, rounds] => time(
+            blocks.parse().ok()?,
+            rounds.parse().ok().filter(|n| *n > 0)?,
+        ),
+        ["run", side, direction, packet_size, blocks] => {
+            let story = Story {
+                direction: DIRECTIONS
+                    .into_iter()
+                    .find(|known| known.name() == *direction)?,
+                packet_size: packet_size.parse().ok()?,
+                blocks: blocks.parse().ok()?,
+            };
+            run_one(side, &story)?;
+        }
+        _ => return None,
+    }
+    Some(())
+}
+
+fn run_one(side: &str, story: &Story) -> Option<()> {
+    let mut watch = Light::default();
+    match side {
+        "exported" => by_exported(story, &mut watch),
+        "original" => by_original(story, &mut watch),
+        _ => return None,
+    }
+    std::hint::black_box(watch);
+    Some(())
+}
+
+fn time(blocks: u32, rounds: usize) {
+    for packet_size in PACKET_SIZES {
+        for direction in DIRECTIONS {
+            let story = Story {
+                direction,
+                packet_size,
+                blocks,
+            };
+            require_same_bytes(&story);
+            let (exported, original) = medians(&story, rounds);
+            println!(
+                "P {packet_size:2} {:9}  exported {exported:7.1} ns a block, original {original:7.1}, ratio {:.3}",
+                direction.name(),
+                exported / original
+            );
+        }
+    }
+}
+
+/// Without the clock: both sides give the host and the firmware the same bytes and answers, all of them.
+fn require_same_bytes(story: &Story) {
+    let (mut exported, mut original) = (All::default(), All::default());
+    by_exported(story, &mut exported);
+    by_original(story, &mut original);
+    assert_eq!(exported, original, "the two sides part");
+}
+
+/// Nanoseconds a block. The sides take turns, and which of them is first does too.
+fn medians(story: &Story, rounds: usize) -> (f64, f64) {
+    let (mut exported, mut original) = (Vec::new(), Vec::new());
+    for round in 0..rounds {
+        for turn in [round, round + 1] {
+            if turn.is_multiple_of(2) {
+                exported.push(timed(story, by_exported));
+            } else {
+                original.push(timed(story, by_original));
+            }
+        }
+    }
+    let a_block = |times: Vec<f64>| median(times) / f64::from(story.blocks);
+    (a_block(exported), a_block(original))
+}
+
+fn timed(story: &Story, run: fn(&Story, &mut Light)) -> f64 {
+    let mut watch = Light::default();
+    let began = Instant::now();
+    run(story, &mut watch);
+    let took = began.elapsed().as_nanos() as f64;
+    std::hint::black_box(watch);
+    took
+}
+
+fn median(mut times: Vec<f64>) -> f64 {
+    times.sort_by(f64::total_cmp);
+    times[times.len() / 2]
+}
+
+fn by_exported(story: &Story, watch: &mut impl Watch) {
+    let mut side = Exported::new(story.packet_size);
+    story.run(&mut side, watch);
+}
+
+fn by_original(story: &Story, watch: &mut impl Watch) {
+    let allocator = original::allocator();
+    let mut side = original::Original::new(&allocator, story.packet_size);
+    story.run(&mut side, watch);
+}

@@ -1,0 +1,70 @@
+//! A USB mass-storage Bulk-Only socket over an archive whose every call is proved against its contract.
+//!
+//! A [`Device`] holds its record of 52 bytes and borrows the IO buffer. It knows no USB stack: the firmware tells each
+//! [`Device::poll`] what its endpoints would answer ([`Endpoints`]), and does what the [`Poll`] reports: it takes that many
+//! OUT packets off the endpoint, sends the bytes at the front of the packet buffer, stalls or unstalls both endpoints.
+//!
+//! ```
+//! use souklavanh::{CommandStatus, Device, Endpoints, ScsiCommand, State};
+//!
+//! let mut buffer = [0; 512];
+//! let mut device = Device::new(64, 0, &mut buffer).unwrap();
+//! let mut packet = [0; 64];
+//!
+//! // The host asks whether the unit is ready: a wrapper with tag 1, no data and six bytes of command block, all 0.
+//! let mut wrapper = [0; 31];
+//! wrapper[..4].copy_from_slice(b"USBC");
+//! wrapper[4] = 1;
+//! wrapper[14] = 6;
+//! let poll = device.poll(Endpoints::offering(&wrapper), &mut packet);
+//! assert_eq!((poll.result, poll.taken), (Ok(()), 1));
+//! assert_eq!(device.state(), Some(State::DataTransferToHostStatusAwait));
+//!
+//! // The firmware looks at the command and answers it.
+//! let offer = device.command_step().unwrap().unwrap();
+//! assert_eq!((offer.lun, offer.command), (0, ScsiCommand::TestUnitReady));
+//! device.set_status(CommandStatus::Passed, 0).unwrap();
+//!
+//! // The next poll sends the status.
+//! let poll = device.poll(Endpoints::silent(), &mut packet);
+//! assert_eq!(&packet[..poll.sent], b"USBS\x01\0\0\0\0\0\0\0\0");
+//! ```
+//!
+//! # A bus reset
+//!
+//! At a bus reset, and where the plug was pulled, the firmware starts afresh, in this order:
+//!
+//! 1. It empties both endpoints. A packet that was handed to IN and not yet fetched must not go out behind the reset: the host
+//!    would take it for the answer to its next command, and every status would come one command late. An OUT packet that came
+//!    before the reset must not be offered behind it. Not every peripheral does this by itself, and the firmware may hand one
+//!    more packet over before it sees the reset. A packet that comes behind the reset is the host's next command and stays.
+//! 2. It calls [`Device::renew`] and unstalls both endpoints, as that reports.
+//! 3. It forgets the command that it was at work on.
+//!
+//! | call | is for |
+//! |---|---|
+//! | [`Device::new`] | power-up, and a record that is broken |
+//! | [`Device::renew`] | a bus reset, or a plug that was pulled: a new device over the same buffer |
+//! | [`Device::reset`] | what the Rust crate usbd-storage does at a reset: unread bytes stay. Not for a bus reset |
+//!
+//! # The build
+//!
+//! The build links the archive that the variable `SOUKLAVANH_ARCHIVE` names; `tools/archive` makes one. There is no
+//! dependency and no use of `std`. The archive itself needs `memset`.
+
+#![no_std]
+
+mod answer;
+mod command;
+mod device;
+mod endpoints;
+pub mod ffi;
+mod state;
+mod verdict;
+
+pub use answer::{CreateError, EmptyBlock, Error};
+pub use command::{Command, Offer, PageControl, ScsiCommand, decode, decode_told};
+pub use device::{Control, Device, RECORD_LENGTH};
+pub use endpoints::{EndpointError, Endpoints, In, Out, Poll, Stalls};
+pub use state::{CommandStatus, State};
+pub use verdict::{Verdict, verdict};
