@@ -6,7 +6,8 @@ use Prim.Native.Nat.{ℕ, _+_, _-_, _≤_, _<_, zero-le}
 use lib.Dec.{ltb}
 use borrow.Author.Tests.{eq-eqb, ne-eqb, le-leb, lt-leb}
 use Rattle.buffer.specs.declared.Marks.{Marks}
-use Rattle.buffer.specs.Buffer.{Buffer, Sound, Leaves, buffer, at, emptied}
+use Rattle.buffer.specs.Buffer.{Buffer, buffer, at, emptied}
+use Rattle.buffer.specs.Inner.Buffer.{Sound, Leaves}
 use Rattle.answers.specs.declared.Answer.the-variants.{FullPacketExpected}
 use Rattle.answers.specs.declared.Endpoint.{Endpoint}
 use Rattle.answers.specs.Answers.{endpointOf}
@@ -21,7 +22,8 @@ use Rattle.wrapper.specs.Counters.{fallen}
 use Rattle.wrapper.specs.Status.{statusNumber}
 use Rattle.packets.specs.declared.Received.{Received}
 use Rattle.packets.specs.declared.Sent.{Sent}
-use Rattle.packets.specs.Packets.{Reads, Sends, withStatus}
+use Rattle.packets.specs.Packets.{withStatus}
+use Rattle.packets.specs.Inner.Packets.{Reads, Sends}
 use Rattle.device.specs.declared.Numbers.{Numbers}
 use Rattle.device.specs.declared.Status.{Status}
 use Rattle.device.specs.declared.Status.the-variants.{Absent, Present}
@@ -29,7 +31,7 @@ use Rattle.bbb.specs.declared.Turn.{Turn}
 use Rattle.bbb.specs.declared.open.Opened.{Opened}
 use Rattle.bbb.specs.declared.act.Did.{Did}
 use Rattle.bbb.specs.Poll.{Given, leftThen, fallsShort, offers, offeredBy, statusPut}
-use Rattle.bbb.specs.Phases.{openOf, doneOf, Acts, restDid, emptiedMarks, oneMore, tookFrom, took, refuses, readied, sentFrom, sentBy, sentPacket, acted, actedPacket}
+use Rattle.bbb.specs.Inner.Phases.{openOf, doneOf, Acts, restDid, emptiedMarks, oneMore, tookFrom, took, refuses, readied, sentFrom, sentBy, sentPacket, acted, actedPacket}
 
 -- ---- small tests and picks
 

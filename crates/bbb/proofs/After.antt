@@ -25,7 +25,8 @@ use Rattle.fields.specs.Overlay.{overlay}
 use Rattle.fields.proofs.Bools.{of-picked}
 use Rattle.fields.proofs.Seq.{drop-take}
 use Rattle.fields.proofs.Overlay.{part-inside}
-use Rattle.buffer.specs.Buffer.{Buffer, Sound, buffer, at, unread, unreadBytes, emptied, fitting, lacksRoom, ready, given}
+use Rattle.buffer.specs.Buffer.{Buffer, buffer, at, unread, unreadBytes, emptied, fitting, lacksRoom, ready, given}
+use Rattle.buffer.specs.Inner.Buffer.{Sound}
 use Rattle.buffer.proofs.Kept.{length-unread, ready-most, sound-emptied}
 use Rattle.buffer.proofs.Room.{fitting-by-unread}
 use Rattle.buffer.proofs.Unread.{unread-written, unread-filled, unread-writtenAll, unread-readOff, unread-emptied}

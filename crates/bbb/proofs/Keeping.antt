@@ -19,13 +19,14 @@ use borrow.Author.Tests.{leb-true, le-leb}
 use Rattle.fields.specs.Field.{getBits}
 use Rattle.fields.proofs.Bools.{and-right, not-true, of-picked}
 use Rattle.fields.proofs.Overlay.{length-overlay}
-use Rattle.buffer.specs.Buffer.{Buffer, Sound, buffer, at, unread, unreadBytes, emptied, ready, given, readOff}
+use Rattle.buffer.specs.Buffer.{Buffer, buffer, at, unread, unreadBytes, emptied, ready, given, readOff}
+use Rattle.buffer.specs.Inner.Buffer.{Sound}
 use Rattle.buffer.proofs.Kept.{length-written, sound-written, length-filled, sound-filled, length-writtenAll, sound-writtenAll, sound-readOff, sound-emptied}
 use Rattle.answers.specs.declared.Endpoint.{Endpoint}
 use Rattle.answers.specs.Answers.{Answering, answer, endpointOf}
 use Rattle.ring.specs.declared.State.{State}
 use Rattle.ring.specs.declared.State.the-variants.{CommandTransfer, CommandTransferInvalid, DataTransferNoData, StatusTransfer, DataTransferToHost, DataTransferToHostStatusAwait, DataTransferToHostEnding, DataTransferFromHost, DataTransferFromHostEnding}
-use Rattle.ring.specs.Ring.{byDirection}
+use Rattle.ring.specs.States.{byDirection}
 use Rattle.wrapper.specs.declared.DataDirection.{DataDirection}
 use Rattle.wrapper.specs.declared.DataDirection.the-variants.{Out, In, NotExpected}
 use Rattle.wrapper.specs.declared.Wrapper.{Wrapper}

@@ -10,7 +10,8 @@ use borrow.Author.Tests.{eq-eqb, ne-eqb, leb-true}
 use Rattle.fields.proofs.Bools.{and-right, clash}
 use Rattle.fields.proofs.Seq.{length-part}
 use Rattle.buffer.specs.declared.Marks.{Marks}
-use Rattle.buffer.specs.Buffer.{Buffer, Sound, buffer, at, unread}
+use Rattle.buffer.specs.Buffer.{Buffer, buffer, at, unread}
+use Rattle.buffer.specs.Inner.Buffer.{Sound}
 use Rattle.answers.specs.declared.Answer.the-variants.{Done}
 use Rattle.answers.specs.declared.Endpoint.{Endpoint}
 use Rattle.answers.specs.Answers.{endpointOf}
@@ -19,15 +20,17 @@ use Rattle.ring.specs.States.{stateNumber}
 use Rattle.wrapper.specs.declared.DataDirection.the-variants.{NotExpected}
 use Rattle.wrapper.specs.declared.Head.{Head}
 use Rattle.wrapper.specs.declared.counters.Left.{Left}
-use Rattle.wrapper.specs.Wrapper.{isValid, wrapperOf, headOf}
+use Rattle.wrapper.specs.Wrapper.{isValid, wrapperOf}
+use Rattle.wrapper.specs.Inner.Wrapper.{headOf}
 use Rattle.packets.specs.declared.Received.{Received}
-use Rattle.packets.specs.Packets.{Reads, takesOne, received}
+use Rattle.packets.specs.Packets.{takesOne, received}
+use Rattle.packets.specs.Inner.Packets.{Reads}
 use Rattle.device.specs.declared.Numbers.{Numbers}
 use Rattle.device.specs.Broken.{Whole}
 use Rattle.device.proofs.Wholly.{whole-sound}
 use Rattle.bbb.specs.declared.open.Opened.{Opened}
 use Rattle.bbb.specs.Poll.{messageAt}
-use Rattle.bbb.specs.Phases.{Opens, behind, parsedOpen, countOf, openAfter, readOpen, readIo, opens, leftWhen, isOpening, opened, openedIo}
+use Rattle.bbb.specs.Inner.Phases.{Opens, behind, parsedOpen, countOf, openAfter, readOpen, readIo, opens, leftWhen, isOpening, opened, openedIo}
 
 -- ---- small tests
 

@@ -10,15 +10,15 @@ use borrow.Author.Tests.{le-leb, lt-leb, leb-true}
 use Rattle.fields.proofs.Bools.{and-left, and-right}
 use Rattle.fields.proofs.Seq.{length-part}
 use Rattle.buffer.specs.declared.Marks.{Marks}
-use Rattle.buffer.specs.Buffer.{Sound, buffer}
+use Rattle.buffer.specs.Buffer.{buffer}
+use Rattle.buffer.specs.Inner.Buffer.{Sound}
 use Rattle.answers.specs.declared.Answer.the-variants.{BrokenRecord, PacketRefused}
 use Rattle.answers.specs.declared.Stalls.{Stalls}
 use Rattle.answers.specs.declared.Stalls.the-variants.{Kept}
 use Rattle.answers.specs.Answers.{endpointOf, stallsOf}
 use Rattle.ring.specs.declared.Act.{Act}
 use Rattle.ring.specs.declared.Row.{Row}
-use Rattle.ring.specs.States.{rowOf}
-use Rattle.ring.specs.Ring.{settled}
+use Rattle.ring.specs.Inner.Ring.{rowOf, settled}
 use Rattle.wrapper.specs.declared.Wrapper.{Wrapper}
 use Rattle.wrapper.specs.Wrapper.{wrapperOf}
 use Rattle.device.specs.declared.Device.{Device}
@@ -32,8 +32,8 @@ use Rattle.bbb.specs.declared.Change.{Change}
 use Rattle.bbb.specs.declared.Polled.{Polled}
 use Rattle.bbb.specs.declared.open.Opened.{Opened}
 use Rattle.bbb.specs.declared.act.Did.{Did}
-use Rattle.bbb.specs.Poll.{Given, Fits, isFitting, refusedBy, pollingOf, pollRule, pollCall}
-use Rattle.bbb.specs.Phases.{openOf, isValidFound, InFront, Opens, opened, openedIo, justRead, wrapperThen, Acts, acted, actedPacket, endedOf, endsWith, goneOn, changedBy}
+use Rattle.bbb.specs.Poll.{Given, Fits, isFitting, pollingOf, pollRule, pollCall}
+use Rattle.bbb.specs.Inner.Phases.{refusedBy, openOf, isValidFound, InFront, Opens, opened, openedIo, justRead, wrapperThen, Acts, acted, actedPacket, endedOf, endsWith, goneOn, changedBy}
 use Rattle.bbb.proofs.Same.{finish, follows, same}
 
 -- ---- small picks

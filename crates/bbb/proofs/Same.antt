@@ -16,8 +16,8 @@ use Rattle.ring.specs.declared.Found.{Found}
 use Rattle.ring.specs.declared.Found.the-variants.{Nothing, Invalid, Valid}
 use Rattle.ring.specs.declared.Act.{Act}
 use Rattle.ring.specs.declared.Act.the-variants.{Stay, Stall, Next, Enter, Send, Wait, Fill, Take, Drop}
-use Rattle.ring.specs.States.{rowOf}
-use Rattle.ring.specs.Ring.{statusAwaitAct, noDataAct, toHostEndingAct, toHostAct, fromHostEndingAct, fromHostAct, byDirection, startAct, readCbwAct, statusTransferAct}
+use Rattle.ring.specs.Inner.Ring.{rowOf, statusAwaitAct, noDataAct, toHostEndingAct, toHostAct, fromHostEndingAct, fromHostAct, startAct, readCbwAct, statusTransferAct}
+use Rattle.ring.specs.States.{byDirection}
 use Rattle.wrapper.specs.declared.DataDirection.{DataDirection}
 use Rattle.wrapper.specs.declared.DataDirection.the-variants.{Out, In, NotExpected}
 use Rattle.wrapper.specs.declared.Wrapper.{Wrapper}
@@ -28,7 +28,7 @@ use Rattle.device.specs.declared.Status.the-variants.{Absent}
 use Rattle.device.specs.declared.Device.{Device}
 use Rattle.device.specs.Device.{isPresent, numbersOf, inState, rebuilt}
 use Rattle.bbb.specs.Poll.{Given, Polling, Point, point, reaching, leaving, ending, ends, sendBy, send, sendStatus, sendData, takeBy, takeData, enterStatus, statusAwaitRule, noDataRule, toHostEndingRule, fallsShort, toHostRule, fromHostEndingRule, fromHostRule, startRule, messageAt, behind31, parseRule, readBy, readOneBy, readCbwRule, statusTransferRule, invalidRule, ruleIn}
-use Rattle.bbb.specs.Phases.{Open, opening, behind, parsedOpen, openAfter, readOpen, opens, isOpening, opened, openedIo, justRead, wrapperThen, Done, tookFrom, took, sentFrom, sentBy, sentPacket, acted, actedPacket, Ended, endedBy, endsWith, goneOn}
+use Rattle.bbb.specs.Inner.Phases.{Open, opening, behind, parsedOpen, openAfter, readOpen, opens, isOpening, opened, openedIo, justRead, wrapperThen, Done, tookFrom, took, sentFrom, sentBy, sentPacket, acted, actedPacket, Ended, endedBy, endsWith, goneOn}
 
 -- the record with what changed, with the wrapper w, and what is reported
 abbrev pub finish : Device → Ended → Wrapper → Polling

@@ -10,7 +10,7 @@ use Rattle.bbb.specs.declared.Polled.{Polled}
 use Rattle.bbb.specs.declared.open.Opened.{Opened}
 use Rattle.bbb.specs.declared.Change.{Change}
 use Rattle.bbb.specs.Poll.{Polling, pollingOf}
-use Rattle.bbb.specs.Phases.{Open, openOf, Ended, endedOf}
+use Rattle.bbb.specs.Inner.Phases.{Open, openOf, Ended, endedOf}
 use Rattle.bbb.proofs.fits.Kinds as fits-kinds
 use Rattle.bbb.proofs.fits.Reads as fits
 use Rattle.bbb.proofs.is_valid.Kinds as is-valid-kinds

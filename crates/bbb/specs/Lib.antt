@@ -1,6 +1,7 @@
--- specs.Poll     a poll, state by state, as document 01 has it
--- specs.Phases   how the code goes about it: open, decide, act. Only the contracts of inner functions cite it
--- specs.Cases    document 01's cases of polls
+-- What a reader of a poll must believe, in document 01's words.
+--     Poll     a poll, state by state
+--     Cases    document 01's cases of polls
+--     Inner    what only inner functions need
 pub mod Poll
-pub mod Phases
 pub mod Cases
+pub mod Inner

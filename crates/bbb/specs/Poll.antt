@@ -5,14 +5,13 @@ use Prim.Native.Nat.{ℕ, _+_, _≤_}
 use lib.Dec.{eqb, ltb, leb}
 use lib.ListN.{length, take, drop}
 use Rattle.buffer.specs.Buffer.{Buffer, buffer, at, unread, emptied}
-use Rattle.answers.specs.declared.Answer.{Answer}
 use Rattle.answers.specs.declared.Endpoint.{Endpoint}
 use Rattle.answers.specs.declared.Stalls.{Stalls}
 use Rattle.answers.specs.declared.Stalls.the-variants.{Kept}
 use Rattle.answers.specs.Answers.{Answering, answerOf, answer, endpointOf, stallsOf}
 use Rattle.ring.specs.declared.State.{State}
 use Rattle.ring.specs.declared.State.the-variants.{CommandTransfer, CommandTransferInvalid, DataTransferNoData, StatusTransfer, DataTransferToHost, DataTransferToHostStatusAwait, DataTransferToHostEnding, DataTransferFromHost, DataTransferFromHostEnding}
-use Rattle.ring.specs.Ring.{byDirection}
+use Rattle.ring.specs.States.{byDirection}
 use Rattle.wrapper.specs.declared.Wrapper.{Wrapper}
 use Rattle.wrapper.specs.declared.counters.Left.{Left}
 use Rattle.wrapper.specs.Counters.{fallen}
@@ -244,10 +243,6 @@ pub record Fits (p : ℕ) (packet one two : List ℕ) : Type 0 where
 
 unfoldable pub isFitting : ℕ → ℕ → ℕ → ℕ → Bool
 isFitting p packet one two = leb one p && (leb two p && leb p packet)
-
--- A refusal leaves "all as before".
-abbrev pub refusedBy : Device → Answer → Polled
-refusedBy d a = record { device = d; report = record { answer = a; taken = 0; sent = 0; stalls = Kept } }
 
 abbrev pub refusing : Device → List ℕ → Given → ℕ → Polling
 refusing d io g n = record { device = d; answer = answer n; taken = 0; sent = 0; stalls = Kept; io = io; packet = g .packet }

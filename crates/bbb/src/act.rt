@@ -18,11 +18,12 @@ use wrapper::counters::left_after;
 ghost use mathlib.Core.Path.{_≡_};
 ghost use Prim.Native.Nat.{_≤_};
 ghost use lib.ListN.{length};
-ghost use Rattle.buffer.specs.Buffer.{Sound, Leaves, buffer};
+ghost use Rattle.buffer.specs.Buffer.{buffer};
+ghost use Rattle.buffer.specs.Inner.Buffer.{Sound, Leaves};
 ghost use Rattle.answers.specs.Answers.{endpointOf};
-ghost use Rattle.packets.specs.Packets.{Reads};
+ghost use Rattle.packets.specs.Inner.Packets.{Reads};
 ghost use Rattle.bbb.specs.Poll.{given, leftThen, Fits, fallsShort, offers, offeredBy, statusPut};
-ghost use Rattle.bbb.specs.Phases.{openOf, doneOf, Acts, restDid, emptiedMarks, oneMore, took, refuses, readied, sentBy, sentPacket, acted, actedPacket};
+ghost use Rattle.bbb.specs.Inner.Phases.{openOf, doneOf, Acts, restDid, emptiedMarks, oneMore, took, refuses, readied, sentBy, sentPacket, acted, actedPacket};
 
 // What an act did.
 pub struct Did {

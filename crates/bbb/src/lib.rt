@@ -30,10 +30,11 @@ use wrapper::in_wrapper;
 ghost use mathlib.Core.Path.{_≡_};
 ghost use mathlib.Core.Bool.{cond};
 ghost use Prim.Native.Nat.{_≤_};
-ghost use Rattle.buffer.specs.Buffer.{Sound, buffer};
+ghost use Rattle.buffer.specs.Buffer.{buffer};
+ghost use Rattle.buffer.specs.Inner.Buffer.{Sound};
 ghost use Rattle.device.specs.declared.Status.the-variants.{Absent};
-ghost use Rattle.bbb.specs.Poll.{given, Fits, isFitting, refusedBy, pollingOf, pollCall};
-ghost use Rattle.bbb.specs.Phases.{isValidFound, openOf, InFront, wrapperThen, endedOf, goneOn, changedBy};
+ghost use Rattle.bbb.specs.Poll.{given, Fits, isFitting, pollingOf, pollCall};
+ghost use Rattle.bbb.specs.Inner.Phases.{refusedBy, isValidFound, openOf, InFront, wrapperThen, endedOf, goneOn, changedBy};
 
 // The endpoints' answers for this poll, two OUT reads and one IN write: 0 does its part, 1 busy, others errors.
 pub struct Turn {

@@ -14,10 +14,11 @@ ghost use mathlib.Core.Bool.{_&&_};
 ghost use Prim.Native.Nat.{_+_, _≤_};
 ghost use lib.Dec.{leb};
 ghost use lib.ListN.{length};
-ghost use Rattle.buffer.specs.Buffer.{Sound, buffer};
+ghost use Rattle.buffer.specs.Buffer.{buffer};
+ghost use Rattle.buffer.specs.Inner.Buffer.{Sound};
 ghost use Rattle.device.specs.Broken.{Whole};
 ghost use Rattle.answers.specs.Answers.{endpointOf};
-ghost use Rattle.bbb.specs.Phases.{Opens, opens, countOf, parsedOpen, readOpen, readIo, opened, openedIo, leftWhen};
+ghost use Rattle.bbb.specs.Inner.Phases.{Opens, opens, countOf, parsedOpen, readOpen, readIo, opened, openedIo, leftWhen};
 
 // What opening found, and where the poll stands then. The direction counts where a valid wrapper was found.
 pub struct Opened {

@@ -37,7 +37,8 @@ use Rattle.calls.specs.Bus.{Handling, handledOf, replied, resetCall, controlCal
 use Rattle.calls.specs.Command.{steppedOf, offers, stepCall}
 use Rattle.benchfile.specs.Event.{inAnswer, firstAnswer, secondAnswer, firstLength, secondLength, firstPacket, secondPacket, statusByte, figure, room, requestType, request, agrees, isPoll, isStatus, isLong, suits}
 use Rattle.benchact.specs.declared.Acted.{Acted}
-use Rattle.benchact.specs.Act.{Acting, actingOf, front, turnOf, polledBy, polled, pollActs, statusOf, statedBy, stated, statusActs, movedBy, written, writeActs, writeAllActs, readInto, readActs, handledBy, inFront, handled, resetActs, requestOf, controlActs, commandInFront, stepped, commandActs, actBy}
+use Rattle.benchact.specs.Act.{Acting, front, turnOf, polled, pollActs, statusOf, stated, statusActs, written, writeActs, writeAllActs, readInto, readActs, inFront, handled, resetActs, requestOf, controlActs, commandInFront, stepped, commandActs, actBy}
+use Rattle.benchact.specs.Inner.Act.{actingOf, polledBy, statedBy, movedBy, handledBy}
 
 -- ---- what the kind says of the n bytes
 

@@ -7,7 +7,8 @@ use denote.Ref.{now}
 use Rattle.fields.proofs.Only.{Only}
 use Rattle.answers.proofs.Unique.{named, named-answer}
 use Rattle.benchact.specs.declared.Acted.{Acted}
-use Rattle.benchact.specs.Act.{Acting, actingOf}
+use Rattle.benchact.specs.Act.{Acting}
+use Rattle.benchact.specs.Inner.Act.{actingOf}
 use Rattle.benchact.proofs.act.Kinds as act-kinds
 use Rattle.benchact.proofs.act.Reads as act
 

@@ -8,23 +8,18 @@ use Rattle.fields.specs.Overlay.{overlay}
 use Rattle.fields.specs.Field.{get}
 use Rattle.answers.specs.declared.Stalls.{Stalls}
 use Rattle.answers.specs.declared.Stalls.the-variants.{Kept}
-use Rattle.answers.specs.Answers.{Answering, answerOf}
+use Rattle.answers.specs.Answers.{Answering}
 use Rattle.wrapper.specs.declared.Wrapper.{Wrapper}
 use Rattle.device.specs.declared.Device.{Device}
 use Rattle.bbb.specs.declared.Turn.{Turn}
-use Rattle.bbb.specs.declared.Polled.{Polled}
 use Rattle.bbb.specs.Poll.{Polling, given, pollCall}
 use Rattle.calls.specs.declared.FirmwareStatus.{FirmwareStatus}
-use Rattle.calls.specs.declared.Stated.{Stated}
-use Rattle.calls.specs.declared.Moved.{Moved}
 use Rattle.calls.specs.declared.Request.{Request}
-use Rattle.calls.specs.declared.Handled.{Handled}
 use Rattle.calls.specs.Status.{Stating, setStatusCall}
 use Rattle.calls.specs.Data.{Moving, readCall, writeCall, writeAllCall}
 use Rattle.calls.specs.Bus.{Handling, resetCall, controlCall}
 use Rattle.calls.specs.Command.{Offered, Stepping, stepCall}
 use Rattle.benchfile.specs.Event.{inAnswer, firstAnswer, secondAnswer, firstPacket, secondPacket, statusByte, figure, room, requestType, request}
-use Rattle.benchact.specs.declared.Acted.{Acted}
 
 -- What a call left and told: the record, the answer, "count (packets taken, bytes read or written, else 0)", stalls, and how many bytes
 -- the line shows; the IO buffer, and the lent bytes, whose first ones are shown.
@@ -36,9 +31,6 @@ pub record Acting : Type 0 where
   pub shown : ℕ
   pub io : List ℕ
   pub lent : List ℕ
-
-abbrev pub actingOf : Acted → List ℕ → List ℕ → Acting
-actingOf r io lent = record { device = r .device; answer = answerOf (r .answer); count = r .count; stalls = r .stalls; shown = r .shown; io = io; lent = lent }
 
 -- how many of the lent bytes the line shows, and all of them
 pub record Front : Type 0 where
@@ -53,10 +45,6 @@ front shown lent = record { shown = shown; lent = lent }
 unfoldable pub turnOf : List ℕ → Turn
 turnOf body = record { first = get firstAnswer body; second = get secondAnswer body; write = get inAnswer body }
 
--- what is returned of it
-abbrev pub polledBy : Polled → Acted
-polledBy r = record { device = r .device; answer = r .report .answer; count = r .report .taken; stalls = r .report .stalls; shown = r .report .sent }
-
 unfoldable pub polled : Polling → Acting
 polled o = record { device = o .device; answer = o .answer; count = o .taken; stalls = o .stalls; shown = o .sent; io = o .io; lent = o .packet }
 
@@ -69,10 +57,6 @@ pollActs body d io lent = polled (pollCall d io (given lent (firstPacket body) (
 unfoldable pub statusOf : List ℕ → FirmwareStatus
 statusOf body = record { status = get statusByte body; figure = get figure body }
 
--- what is returned of it
-abbrev pub statedBy : Stated → Acted
-statedBy r = record { device = r .device; answer = r .answer; count = 0; stalls = Kept; shown = 0 }
-
 unfoldable pub stated : List ℕ → List ℕ → Stating → Acting
 stated io lent o = record { device = o .device; answer = o .answer; count = 0; stalls = Kept; shown = 0; io = io; lent = lent }
 
@@ -80,10 +64,6 @@ unfoldable pub statusActs : List ℕ → Device → List ℕ → List ℕ → Ac
 statusActs body d io lent = stated io lent (setStatusCall d io (statusOf body))
 
 -- ---- 3 `write_data`, 4 `try_write_data_all`: the n bytes are the source
-
--- what is returned of a write, and of a read that shows so many bytes
-abbrev pub movedBy : Moved → ℕ → Acted
-movedBy r shown = record { device = r .device; answer = r .report .answer; count = r .report .count; stalls = Kept; shown = shown }
 
 unfoldable pub written : List ℕ → Moving → Acting
 written lent o = record { device = o .device; answer = o .answer; count = o .count; stalls = Kept; shown = 0; io = o .bytes; lent = lent }
@@ -103,10 +83,6 @@ unfoldable pub readActs : List ℕ → Device → List ℕ → List ℕ → Acti
 readActs body d io lent = readInto io lent (get room body) (readCall d io (take (get room body) lent))
 
 -- ---- 6 reset, 7 control: "control answer"
-
--- what is returned of either, with so many bytes shown
-abbrev pub handledBy : Handled → ℕ → Acted
-handledBy r shown = record { device = r .device; answer = r .report .answer; count = 0; stalls = r .report .stalls; shown = shown }
 
 -- these bytes are put in front, and all of them are shown
 unfoldable pub inFront : List ℕ → List ℕ → Front

@@ -20,7 +20,8 @@ ghost use lib.ListN.{length};
 ghost use Rattle.calls.specs.Bus.{replied};
 ghost use Rattle.calls.specs.Command.{offers};
 ghost use Rattle.benchfile.specs.Event.{isPoll, suits};
-ghost use Rattle.benchact.specs.Act.{front, actingOf, turnOf, polledBy, pollActs, statusOf, statedBy, movedBy, readActs, handledBy, inFront, resetActs, requestOf, controlActs, commandInFront, commandActs, actBy};
+ghost use Rattle.benchact.specs.Act.{front, turnOf, pollActs, statusOf, readActs, inFront, resetActs, requestOf, controlActs, commandInFront, commandActs, actBy};
+ghost use Rattle.benchact.specs.Inner.Act.{actingOf, polledBy, statedBy, movedBy, handledBy};
 
 // What a call left and told: the record, the answer, the line's count, what was asked of the endpoints, and how many bytes are shown.
 pub struct Acted {

@@ -13,7 +13,7 @@ use Rattle.fields.proofs.Bools.{and-left, and-right, not-true, not-false, clash
 use Rattle.fields.proofs.Field.{byte-read}
 use Rattle.benchfile.specs.declared.Tally.{Tally}
 use Rattle.benchfile.specs.File.{joined, countField, lastField, magic, Good, Judges}
-use Rattle.benchfile.specs.Walk.{tallyOf, Tallies, isMagic, agreesWith}
+use Rattle.benchfile.specs.Inner.Walk.{tallyOf, Tallies, isMagic, agreesWith}
 
 -- ---- `BOT1`
 

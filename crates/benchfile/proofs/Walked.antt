@@ -13,7 +13,7 @@ use Rattle.fields.proofs.Bools.{not-true, not-false, clash}
 use Rattle.benchfile.specs.declared.event.Head.{Head}
 use Rattle.benchfile.specs.Event.{lengthField, frontOf, headOf, eventAt}
 use Rattle.benchfile.specs.File.{joined, areEvents, lastOffset}
-use Rattle.benchfile.specs.Walk.{Fills, Tallies}
+use Rattle.benchfile.specs.Inner.Walk.{Fills, Tallies}
 use Rattle.benchfile.proofs.Front.{front-event, head-event, whole-event, whole-numbers, whole-long, whole-within}
 use Rattle.benchfile.proofs.Lists.{joined-snoc, are-snoc, last-snoc, first-at-0, none-joined, Leads, leads}
 

@@ -11,7 +11,8 @@ use lib.Seq.{take-at, drop-at, drop-drop, drop-append-le, take-append-seam}
 use Rattle.fields.specs.Field.{get}
 use Rattle.fields.proofs.Bools.{and-left, and-right}
 use Rattle.benchfile.specs.Event.{lengthField, bodyOf, isEvent, frontOf, eventAt}
-use Rattle.benchfile.specs.File.{joined, areEvents, Good, ReadAt}
+use Rattle.benchfile.specs.File.{joined, areEvents, Good}
+use Rattle.benchfile.specs.Inner.File.{ReadAt}
 use Rattle.benchfile.proofs.Front.{event-long, front-event, head-event}
 use Rattle.benchfile.proofs.Lists.{isFirst, first-at-0, none-joined}
 

@@ -4,9 +4,9 @@ use Prim.Native.Nat.{ℕ, _+_, _≤_}
 use mathlib.Core.Path.{_≡_}
 use mathlib.Core.Bool.{Bool, true, false, _&&_}
 use mathlib.Core.List.{List, [], _∷_, _++_}
-use lib.ListN.{length, take, drop}
+use lib.ListN.{length, drop}
 use Rattle.fields.specs.Field.{Field, littleEndian, get}
-use Rattle.benchfile.specs.Event.{kindByte, bodyOf, isEvent, eventAt}
+use Rattle.benchfile.specs.Event.{isEvent}
 
 -- events one behind the other
 unfoldable pub joined : List (List ℕ) → List ℕ
@@ -48,12 +48,6 @@ pub record Good (file : List ℕ) (events : List (List ℕ)) : Type 0 where
   pub trailer : List ℕ
   pub parts : file ≡ joined events ++ trailer
   pub closes : Closes trailer events
-
--- Event e stands at an offset of the events xs, is read there, and the next one stands behind it.
-pub record ReadAt (xs : List ℕ) (at : ℕ) (e : List ℕ) : Type 0 where
-  pub head : eventAt xs at ≡ record { whole = true; kind = get kindByte e; length = length (bodyOf e) }
-  pub body : take (length (bodyOf e)) (drop (at + 3) xs) ≡ bodyOf e
-  pub next : at + 3 + length (bodyOf e) ≡ at + length e
 
 -- The verdict, in both directions: what is accepted is a good file, and every good file is accepted.
 pub record Judges (verdict : Bool) (file : List ℕ) : Type 0 where

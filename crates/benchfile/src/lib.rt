@@ -8,7 +8,7 @@ use fields::le32;
 ghost use mathlib.Core.Path.{_≡_};
 ghost use lib.ListN.{length};
 ghost use Rattle.benchfile.specs.File.{Judges};
-ghost use Rattle.benchfile.specs.Walk.{Tallies, isMagic, agreesWith};
+ghost use Rattle.benchfile.specs.Inner.Walk.{Tallies, isMagic, agreesWith};
 
 const LONGEST: usize = 65536;
 

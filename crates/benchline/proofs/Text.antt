@@ -16,7 +16,8 @@ use Rattle.fields.proofs.Overlay.{length-overlay, take-overlay, drop-overlay, o
 use Rattle.answers.specs.declared.Stalls.{Stalls}
 use Rattle.answers.specs.declared.Stalls.the-variants.{Kept, Stalled, Unstalled, UnstalledStalled}
 use Rattle.benchline.specs.declared.Line.{Line}
-use Rattle.benchline.specs.Line.{space, decimal, number, numbers, numbersLength, stallsText, fields, hex, bytesText, lineOf, roomFor, Puts}
+use Rattle.benchline.specs.Line.{space, decimal, number, numbers, stallsText, fields, hex, bytesText, lineOf}
+use Rattle.benchline.specs.Inner.Line.{numbersLength, roomFor, Puts}
 use Rattle.benchline.proofs.Decimal.{more-digits, few-digits}
 
 -- what is laid right behind xs makes xs longer

@@ -5,7 +5,7 @@ use mathlib.Core.List.{List}
 use Prim.Native.Nat.{ℕ}
 use denote.Ref.{now}
 use Rattle.fields.proofs.Only.{Only}
-use Rattle.benchline.specs.Line.{Puts}
+use Rattle.benchline.specs.Inner.Line.{Puts}
 use Rattle.benchline.proofs.put_line.Kinds as put-line-kinds
 use Rattle.benchline.proofs.put_line.Reads as put-line
 

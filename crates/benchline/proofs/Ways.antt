@@ -10,7 +10,8 @@ use Rattle.fields.proofs.Overlay.{Laid, laid-turn, laid-end}
 use Rattle.answers.specs.declared.Stalls.{Stalls}
 use Rattle.answers.specs.declared.Stalls.the-variants.{Kept, Stalled, Unstalled, UnstalledStalled}
 use Rattle.benchline.specs.declared.Line.{Line}
-use Rattle.benchline.specs.Line.{digit, decimal, number, numbers, numbersLength, stallsText, fields, hex, bytesText, lineOf, roomFor, Puts}
+use Rattle.benchline.specs.Line.{digit, decimal, number, numbers, stallsText, fields, hex, bytesText, lineOf}
+use Rattle.benchline.specs.Inner.Line.{numbersLength, roomFor, Puts}
 use Rattle.benchline.proofs.Decimal.{one-digit, more-digits, some-digit}
 use Rattle.benchline.proofs.Text.{then-put, fits-behind, then-store, store, length-more, length-number, length-numbers, length-fields, length-hex, length-line, some-stalls, line-fits}
 

@@ -1,12 +1,9 @@
 -- Document 01 on the lines of `bench`: "Fields per event, decimal: index, answer, state, left, unread, count .., stalls (`-`, `S`, `U`, `US`),
 -- bytes in lower-case hex .. or `-`." Assumes nothing: these are definitions.
-use Prim.Native.Nat.{ℕ, zero, suc, _+_, _*_, _/_, _%_}
-use mathlib.Core.Path.{_≡_}
+use Prim.Native.Nat.{ℕ, zero, suc, _+_, _/_, _%_}
 use mathlib.Core.Bool.{cond}
 use mathlib.Core.List.{List, [], _∷_, _++_}
 use lib.Dec.{ltb}
-use lib.ListN.{length}
-use Rattle.fields.specs.Overlay.{overlay}
 use Rattle.answers.specs.declared.Stalls.{Stalls}
 use Rattle.answers.specs.declared.Stalls.the-variants.{Kept, Stalled, Unstalled, UnstalledStalled}
 use Rattle.benchline.specs.declared.Line.{Line}
@@ -47,16 +44,6 @@ numbers l =
     ++ number (l .unread)
     ++ number (l .count)
 
--- how long these are
-abbrev pub numbersLength : Line → ℕ
-numbersLength l =
-    length (number (l .index))
-    + length (number (l .answer))
-    + length (number (l .state))
-    + length (number (l .left))
-    + length (number (l .unread))
-    + length (number (l .count))
-
 -- "stalls (`-`, `S`, `U`, `US`)"
 abbrev pub stallsText : Stalls → List ℕ
 stallsText Kept = dash ∷ []
@@ -81,12 +68,3 @@ fields l = numbers l ++ stallsText (l .stalls) ++ (space ∷ [])
 -- the line of an event, with these bytes
 unfoldable pub lineOf : Line → List ℕ → List ℕ
 lineOf l bytes = fields l ++ bytesText bytes ++ (newline ∷ [])
-
--- the most that a line with n bytes takes: six numbers of 20 digits, the spaces behind them, stalls, a space, the bytes, the end of the line
-unfoldable pub roomFor : ℕ → ℕ
-roomFor n = 131 + 2 * n
-
--- A text was put in at an index, everything else stayed, and it ends there.
-pub record Puts (at : ℕ) (ys before after : List ℕ) (end : ℕ) : Type 0 where
-  pub ends : end ≡ at + length ys
-  pub text : after ≡ overlay before at ys

@@ -4,7 +4,8 @@ use answers::Stalls;
 ghost use mathlib.Core.Path.{_≡_};
 ghost use Prim.Native.Nat.{_+_, _≤_, _<_};
 ghost use lib.ListN.{length};
-ghost use Rattle.benchline.specs.Line.{digit, decimal, number, numbers, numbersLength, stallsText, fields, hex, bytesText, lineOf, roomFor, Puts};
+ghost use Rattle.benchline.specs.Line.{digit, decimal, number, numbers, stallsText, fields, hex, bytesText, lineOf};
+ghost use Rattle.benchline.specs.Inner.Line.{numbersLength, roomFor, Puts};
 
 // What a line tells, beside its bytes.
 pub struct Line {

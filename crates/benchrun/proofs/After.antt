@@ -16,11 +16,12 @@ use Rattle.device.specs.declared.Device.{Device}
 use Rattle.device.specs.Create.{isPacketSize, creation, createCall}
 use Rattle.benchfile.specs.Event.{eventAt}
 use Rattle.benchfile.proofs.Front.{whole-fits}
-use Rattle.benchline.specs.Line.{roomFor}
+use Rattle.benchline.specs.Inner.Line.{roomFor}
 use Rattle.benchline.proofs.Text.{line-fits}
 use Rattle.benchact.specs.Act.{Acting, actBy}
 use Rattle.benchrun.specs.declared.step.Run.{Run}
-use Rattle.benchrun.specs.Run.{fieldsOf, lineText, toldLine, Beginning, begunOf, creationOf, created, beginBy, eventsOf, refusedBy, openBy, Opens, Running, runningOf, wentOn, eventBy, stepBy, Roomy}
+use Rattle.benchrun.specs.Run.{fieldsOf, lineText, toldLine, Beginning, begunOf, creationOf, created, beginBy, eventsOf, refusedBy, openBy, Opens, Running, runningOf, wentOn, eventBy, stepBy}
+use Rattle.benchrun.specs.Inner.Run.{Roomy}
 
 -- no line is longer than the room for its bytes
 room-less : (n m : ℕ) → n ≤ m → roomFor n ≤ roomFor m

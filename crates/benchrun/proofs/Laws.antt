@@ -22,12 +22,15 @@ use Rattle.benchfile.specs.Event.{packetSize, maxLun, bufferSize, suits, eventA
 use Rattle.benchfile.specs.File.{Judges}
 use Rattle.benchfile.proofs.Front.{whole-fits, whole-suits, first-long}
 use Rattle.benchline.specs.declared.Line.{Line}
-use Rattle.benchline.specs.Line.{lineOf, roomFor, Puts}
+use Rattle.benchline.specs.Line.{lineOf}
+use Rattle.benchline.specs.Inner.Line.{roomFor, Puts}
 use Rattle.benchline.proofs.Text.{then-store, store}
 use Rattle.benchact.specs.declared.Acted.{Acted}
-use Rattle.benchact.specs.Act.{actingOf, actBy}
+use Rattle.benchact.specs.Act.{actBy}
+use Rattle.benchact.specs.Inner.Act.{actingOf}
 use Rattle.benchrun.specs.declared.step.Run.{Run}
-use Rattle.benchrun.specs.Run.{fieldsOf, lineText, toldLine, begunOf, stoppedAt, creationOf, created, beginBy, eventsOf, refusedBy, openBy, Opens, runningOf, wentOn, eventBy, stepBy, Roomy}
+use Rattle.benchrun.specs.Run.{fieldsOf, lineText, toldLine, begunOf, stoppedAt, creationOf, created, beginBy, eventsOf, refusedBy, openBy, Opens, runningOf, wentOn, eventBy, stepBy}
+use Rattle.benchrun.specs.Inner.Run.{Roomy}
 
 -- ---- the line
 

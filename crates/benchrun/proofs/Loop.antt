@@ -6,7 +6,8 @@ use Prim.Native.Nat.{ℕ, _-_, _≤_, _<_}
 use lib.ListN.{length, take, drop}
 use Rattle.fields.proofs.Bools.{not-true, not-false}
 use Rattle.benchrun.specs.declared.step.Run.{Run}
-use Rattle.benchrun.specs.Run.{begunOf, eventsOf, Opens, Running, runningOf, Roomy}
+use Rattle.benchrun.specs.Run.{begunOf, eventsOf, Opens, Running, runningOf}
+use Rattle.benchrun.specs.Inner.Run.{Roomy}
 use Rattle.benchrun.specs.Turns.{handed, nextOf, Turns, last, turn, Played, PlayedFile}
 use Rattle.benchrun.proofs.After.{ahead, after-index, after-less, after-line, after-roomy}
 

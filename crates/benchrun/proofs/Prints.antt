@@ -20,7 +20,8 @@ use Rattle.answers.specs.declared.Stalls.the-variants.{Kept}
 use Rattle.device.specs.Create.{noDevice, Creation}
 use Rattle.benchfile.specs.declared.event.Head.{Head}
 use Rattle.benchfile.specs.Event.{kindByte, bodyOf, isEvent, eventAt}
-use Rattle.benchfile.specs.File.{joined, areEvents, Good, ReadAt, Judges}
+use Rattle.benchfile.specs.File.{joined, areEvents, Good, Judges}
+use Rattle.benchfile.specs.Inner.File.{ReadAt}
 use Rattle.benchfile.proofs.Front.{front-short, creation-long}
 use Rattle.benchfile.proofs.Lists.{joined-snoc}
 use Rattle.benchfile.proofs.Judged.{events-part}

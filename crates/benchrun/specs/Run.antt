@@ -1,5 +1,5 @@
 -- A run of a bench file, event by event: each is a call and gives a line. Assumes nothing: these are definitions.
-use Prim.Native.Nat.{ℕ, _+_, _-_, _≤_}
+use Prim.Native.Nat.{ℕ, _+_, _-_}
 use mathlib.Core.Path.{_≡_}
 use mathlib.Core.Bool.{Bool, true, false, cond}
 use mathlib.Core.List.{List, [], _∷_}
@@ -16,7 +16,7 @@ use Rattle.benchfile.specs.declared.event.Head.{Head}
 use Rattle.benchfile.specs.Event.{packetSize, maxLun, bufferSize, eventAt}
 use Rattle.benchfile.specs.File.{Judges}
 use Rattle.benchline.specs.declared.Line.{Line}
-use Rattle.benchline.specs.Line.{lineOf, roomFor}
+use Rattle.benchline.specs.Line.{lineOf}
 use Rattle.benchact.specs.Act.{Acting, actBy}
 use Rattle.benchrun.specs.declared.step.Run.{Run}
 
@@ -115,8 +115,3 @@ stepBy run events io lent text =
     cond (eventAt events (run .at) .whole)
     (eventBy run (eventAt events (run .at)) events io lent text)
     (runningOf (stoppedAt (run .device) (run .at) (run .index)) io lent text)
-
--- The lent bytes hold what any event shows, and the text any line of them.
-pub record Roomy (lent text : List ℕ) : Type 0 where
-  pub shows : 65535 ≤ length lent
-  pub tells : roomFor (length lent) ≤ length text

@@ -6,7 +6,7 @@ use device::create::none;
 ghost use mathlib.Core.Path.{_≡_};
 ghost use Prim.Native.Nat.{_-_, _≤_};
 ghost use lib.ListN.{length};
-ghost use Rattle.benchline.specs.Line.{roomFor};
+ghost use Rattle.benchline.specs.Inner.Line.{roomFor};
 ghost use Rattle.benchrun.specs.Run.{begunOf, refusedBy, Opens};
 
 // Where the events end: in front of the trailer.

@@ -7,7 +7,8 @@ use crate::step::step;
 use libc::STDOUT_FILENO;
 ghost use Prim.Native.Nat.{_≤_};
 ghost use lib.ListN.{length};
-ghost use Rattle.benchrun.specs.Run.{runningOf, Roomy};
+ghost use Rattle.benchrun.specs.Run.{runningOf};
+ghost use Rattle.benchrun.specs.Inner.Run.{Roomy};
 ghost use Rattle.benchrun.specs.Turns.{Played, PlayedFile};
 
 // Turn by turn, up to the end.

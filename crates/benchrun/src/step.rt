@@ -22,8 +22,9 @@ ghost use Prim.Native.Nat.{_-_, _≤_};
 ghost use lib.ListN.{length, take};
 ghost use Rattle.answers.specs.Answers.{answerOf};
 ghost use Rattle.device.specs.Create.{createdOf};
-ghost use Rattle.benchline.specs.Line.{roomFor, Puts};
-ghost use Rattle.benchrun.specs.Run.{Roomy, fieldsOf, lineText, stoppedAt, begunOf, creationOf, beginBy, runningOf, stepBy};
+ghost use Rattle.benchline.specs.Inner.Line.{roomFor, Puts};
+ghost use Rattle.benchrun.specs.Run.{fieldsOf, lineText, stoppedAt, begunOf, creationOf, beginBy, runningOf, stepBy};
+ghost use Rattle.benchrun.specs.Inner.Run.{Roomy};
 
 // How far a run has come: the device, the offset and the index of the next event, how long the line of the last one is, and whether
 // there was one.

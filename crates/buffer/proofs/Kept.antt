@@ -11,7 +11,8 @@ use native.Mathlib.Omega.{arith}
 use borrow.Author.Tests.{leb-true, ltb-false, le-leb}
 use lib.Dec.{ltb, leb}
 use lib.ListN.{length, take, replicate, length-take, length-replicate}
-use Rattle.buffer.specs.Buffer.{Buffer, Sound, isSound, unread, unreadBytes, room, moved, withRoom, appended, fitting, written, filled, lacksRoom, writtenAll, ready, readOff, emptied}
+use Rattle.buffer.specs.Buffer.{Buffer, isSound, unread, unreadBytes, room, moved, withRoom, appended, fitting, written, filled, lacksRoom, writtenAll, ready, readOff, emptied}
+use Rattle.buffer.specs.Inner.Buffer.{Sound}
 use Rattle.fields.proofs.Bools.{and-left, and-right, of-picked}
 use Rattle.fields.proofs.Seq.{length-part}
 use Rattle.fields.proofs.Overlay.{length-overlay}

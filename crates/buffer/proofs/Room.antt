@@ -11,7 +11,8 @@ use native.Mathlib.Omega.{arith}
 use borrow.Author.Tests.{le-ltb, ltb-false}
 use lib.Dec.{ltb}
 use lib.ListN.{length}
-use Rattle.buffer.specs.Buffer.{Buffer, Sound, unread, room, moved, withRoom, fitting, lacksRoom}
+use Rattle.buffer.specs.Buffer.{Buffer, unread, room, moved, withRoom, fitting, lacksRoom}
+use Rattle.buffer.specs.Inner.Buffer.{Sound}
 use Rattle.fields.proofs.Bools.{of-picked}
 use Rattle.buffer.proofs.Kept.{length-moved}
 

@@ -12,7 +12,8 @@ use Rattle.buffer.specs.declared.marked.Taken.{Taken}
 use Rattle.buffer.specs.declared.marked.Put.{Put}
 use Rattle.buffer.specs.declared.Answer.{Answer}
 use Rattle.buffer.specs.declared.Answer.the-variants.{Done, Overflow, Broken}
-use Rattle.buffer.specs.Buffer.{Buffer, buffer, Leaves}
+use Rattle.buffer.specs.Buffer.{Buffer, buffer}
+use Rattle.buffer.specs.Inner.Buffer.{Leaves}
 use Rattle.buffer.specs.Calls.{Answering, answerOf}
 use Rattle.fields.proofs.Only.{Only}
 use Rattle.buffer.proofs.sound.Kinds as sound-kinds

@@ -11,7 +11,8 @@ use borrow.Author.Tests.{le-ltb}
 use lib.ListN.{length, take, drop, replicate, length-drop}
 use lib.Seq.{drop-drop, drop-append-le, length-take-le}
 use Rattle.fields.specs.Overlay.{overlay}
-use Rattle.buffer.specs.Buffer.{Buffer, Sound, unread, unreadBytes, room, moved, withRoom, appended, fitting, written, filled, lacksRoom, writtenAll, ready, readOff, emptied}
+use Rattle.buffer.specs.Buffer.{Buffer, unread, unreadBytes, room, moved, withRoom, appended, fitting, written, filled, lacksRoom, writtenAll, ready, readOff, emptied}
+use Rattle.buffer.specs.Inner.Buffer.{Sound}
 use Rattle.fields.proofs.Seq.{drop-take}
 use Rattle.fields.proofs.Overlay.{overlay-nothing, take-overlay, length-overlay}
 use Rattle.fields.proofs.Bools.{of-picked}

@@ -10,7 +10,8 @@ use borrow.Author.Tests.{lt-ltb, le-ltb, not-true, not-false}
 use lib.ListN.{length, take, drop, replicate, length-replicate}
 use lib.Seq.{length-take-le, take-take}
 use Rattle.fields.specs.Overlay.{overlay}
-use Rattle.buffer.specs.Buffer.{Buffer, buffer, at, Sound, Leaves, isSound, unread, unreadBytes, room, moved, withRoom, appended, fitting, written, filled, lacksRoom, writtenAll, ready, given, readOff}
+use Rattle.buffer.specs.Buffer.{Buffer, buffer, at, isSound, unread, unreadBytes, room, moved, withRoom, appended, fitting, written, filled, lacksRoom, writtenAll, ready, given, readOff}
+use Rattle.buffer.specs.Inner.Buffer.{Sound, Leaves}
 use Rattle.buffer.specs.Calls.{answering, unlessBroken}
 use Rattle.buffer.proofs.Kept.{is-sound, sound-moved, sound-written, sound-filled, sound-writtenAll, sound-readOff, sound-withRoom}
 

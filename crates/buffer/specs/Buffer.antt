@@ -1,7 +1,6 @@
 -- Document 01, section Buffer, sentence by sentence: what each call leaves of a buffer with sound marks.
 -- Assumes nothing: these are definitions.
-use mathlib.Core.Path.{_≡_}
-use Prim.Native.Nat.{ℕ, _+_, _-_, _≤_, min, max}
+use Prim.Native.Nat.{ℕ, _+_, _-_, min, max}
 use mathlib.Core.Bool.{Bool, cond, _&&_}
 use mathlib.Core.List.{List}
 use lib.Dec.{ltb, leb}
@@ -19,11 +18,6 @@ buffer b m = record { bytes = b; marks = m }
 
 abbrev pub at : ℕ → ℕ → Marks
 at r w = record { read = r; write = w }
-
--- Sound marks are in order and within the bytes. As a fact, and as a test.
-pub record Sound (s : Buffer) : Type 0 where
-  pub order : s .marks .read ≤ s .marks .write
-  pub within : s .marks .write ≤ length (s .bytes)
 
 unfoldable pub isSound : ℕ → Marks → Bool
 isSound len m = leb (m .read) (m .write) && leb (m .write) len
@@ -85,8 +79,3 @@ readOff n s = buffer (s .bytes) (at (s .marks .read + ready n s) (s .marks .writ
 -- Emptying sets both marks to 0; the bytes stay.
 unfoldable pub emptied : Buffer → Buffer
 emptied s = buffer (s .bytes) (at 0 0)
-
--- What a call on sound marks promises of the buffer s that it leaves: it is t, and its marks are sound again.
-pub record Leaves (s t : Buffer) : Type 0 where
-  pub same : s ≡ t
-  pub sound : Sound s

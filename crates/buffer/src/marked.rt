@@ -9,7 +9,8 @@ ghost use mathlib.Core.Path.{_≡_};
 ghost use mathlib.Core.Bool.{not};
 ghost use Prim.Native.Nat.{_+_, _-_, _≤_, max};
 ghost use lib.ListN.{length};
-ghost use Rattle.buffer.specs.Buffer.{Sound, Leaves, buffer, at, moved, withRoom, fitting, written, filled, lacksRoom, writtenAll, ready, given, readOff};
+ghost use Rattle.buffer.specs.Buffer.{buffer, at, moved, withRoom, fitting, written, filled, lacksRoom, writtenAll, ready, given, readOff};
+ghost use Rattle.buffer.specs.Inner.Buffer.{Sound, Leaves};
 ghost use Rattle.fields.specs.Overlay.{overlay};
 
 // How many bytes a call took or gave, and the marks after it.

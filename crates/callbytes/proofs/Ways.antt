@@ -23,7 +23,7 @@ use Rattle.device.specs.declared.create.Created.{Created}
 use Rattle.device.specs.Create.{creation, Creation, createdOf, createCall}
 use Rattle.calls.proofs.After.{by-request, status-keeps}
 use Rattle.recordbytes.specs.Record.{isKnown, deviceAt, storeState, storeLeft, storeStatus, storeDevice, newRecord}
-use Rattle.recordbytes.specs.Storable.{Fixable}
+use Rattle.recordbytes.specs.Inner.Storable.{Fixable}
 use Rattle.recordbytes.proofs.Stored.{is-known}
 use Rattle.recordbytes.proofs.Parts.{status-alone, entered}
 use Rattle.border.specs.Word.{word, plain, stallsNumber}

@@ -22,7 +22,8 @@ use borrow.Table.Steps.{cases}
 use Rattle.fields.specs.Overlay.{overlay}
 use Rattle.fields.proofs.Bools.{and-left, of-picked, clash}
 use Rattle.buffer.specs.declared.Marks.{Marks}
-use Rattle.buffer.specs.Buffer.{Buffer, Sound, buffer, unread, unreadBytes, room, withRoom, appended, fitting, written, lacksRoom, writtenAll, ready, given, readOff}
+use Rattle.buffer.specs.Buffer.{Buffer, buffer, unread, unreadBytes, room, withRoom, appended, fitting, written, lacksRoom, writtenAll, ready, given, readOff}
+use Rattle.buffer.specs.Inner.Buffer.{Sound}
 use Rattle.buffer.proofs.Kept.{length-written, sound-written, length-writtenAll, sound-writtenAll, sound-readOff}
 use Rattle.buffer.proofs.Room.{room-left, fitting-by-unread}
 use Rattle.buffer.proofs.Unread.{unread-written, unread-writtenAll, unread-readOff}

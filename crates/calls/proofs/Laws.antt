@@ -12,7 +12,8 @@ use borrow.Author.Tests.{eq-eqb, ne-eqb, le-leb, lt-leb}
 use Rattle.fields.specs.Overlay.{overlay}
 use Rattle.fields.proofs.Bools.{not-true, not-false}
 use Rattle.buffer.specs.declared.Marks.{Marks}
-use Rattle.buffer.specs.Buffer.{Buffer, Sound, Leaves, buffer, fitting, written, lacksRoom, writtenAll, ready, given, readOff}
+use Rattle.buffer.specs.Buffer.{Buffer, buffer, fitting, written, lacksRoom, writtenAll, ready, given, readOff}
+use Rattle.buffer.specs.Inner.Buffer.{Sound, Leaves}
 use Rattle.answers.specs.declared.Answer.the-variants.{Done, IoBufferOverflow, InvalidState, BrokenRecord, StatusRefused, EmptyBlock}
 use Rattle.answers.specs.declared.Stalls.the-variants.{Unstalled}
 use Rattle.answers.specs.Answers.{Answering, answer}
@@ -45,10 +46,11 @@ use Rattle.calls.specs.declared.Handled.{Handled}
 use Rattle.calls.specs.declared.command.Shown.{Shown}
 use Rattle.calls.specs.declared.command.Step.{Step}
 use Rattle.calls.specs.Checks.{isIn, bufferOf}
-use Rattle.calls.specs.Status.{stating, statedOf, refuses, takesStatus, withFigure, acceptedStatus, setStatusCall}
-use Rattle.calls.specs.Data.{Moving, movedOf, unmoved, movesTo, worksIn, leaving, readOut, limited, writeIn, writeAllIn}
-use Rattle.calls.specs.Bus.{handledOf, keeps, enters0, entering, resetCall, served, controlCall}
-use Rattle.calls.specs.Command.{shownOf, showing, hides, isShown, commandCall, offered, steppedOf, stepping, offersNone, isOffered, offering, blockOf, stepCall}
+use Rattle.calls.specs.Status.{stating, statedOf, takesStatus, withFigure, acceptedStatus, setStatusCall}
+use Rattle.calls.specs.Inner.Returned.{refuses, unmoved, movesTo, keeps, enters0, hides, offersNone}
+use Rattle.calls.specs.Data.{Moving, movedOf, worksIn, leaving, readOut, limited, writeIn, writeAllIn}
+use Rattle.calls.specs.Bus.{handledOf, entering, resetCall, served, controlCall}
+use Rattle.calls.specs.Command.{shownOf, showing, isShown, commandCall, offered, steppedOf, stepping, isOffered, offering, blockOf, stepCall}
 
 -- ---- the record
 

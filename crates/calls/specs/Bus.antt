@@ -3,8 +3,6 @@ use Prim.Native.Nat.{ℕ}
 use mathlib.Core.Bool.{cond}
 use mathlib.Core.List.{List, [], _∷_}
 use lib.Dec.{eqb}
-use Rattle.answers.specs.declared.Answer.{Answer}
-use Rattle.answers.specs.declared.Answer.the-variants.{Done}
 use Rattle.answers.specs.declared.Stalls.{Stalls}
 use Rattle.answers.specs.declared.Stalls.the-variants.{Kept, Unstalled}
 use Rattle.answers.specs.Answers.{Answering, answer, answerOf}
@@ -33,13 +31,6 @@ handling a stalls bytes d = record { answer = a; stalls = stalls; bytes = bytes;
 
 abbrev pub handledOf : Handled → Handling
 handledOf r = handling (answerOf (r .report .answer)) (r .report .stalls) (replied (r .report .reply)) (r .device)
-
--- what a call returns that changes nothing, and one that enters 0
-abbrev pub keeps : Device → Answer → Reply → Handled
-keeps d answer reply = record { device = d; report = record { answer = answer; stalls = Kept; reply = reply } }
-
-abbrev pub enters0 : Device → Handled
-enters0 d = record { device = entering0 d; report = record { answer = Done; stalls = Unstalled; reply = Nothing } }
 
 -- "Entering 0 clears status and left and unstalls both"
 unfoldable pub entering : Device → Handling

@@ -3,7 +3,6 @@ use Prim.Native.Nat.{ℕ}
 use mathlib.Core.Bool.{Bool, true, false, cond, not, _&&_}
 use mathlib.Core.List.{List, [], _∷_, map}
 use lib.ListN.{take, replicate}
-use Rattle.answers.specs.declared.Answer.{Answer}
 use Rattle.answers.specs.Answers.{Answering, answer, answerOf}
 use Rattle.scsi.specs.declared.ScsiCommand.{ScsiCommand}
 use Rattle.scsi.specs.Decoding.{Answering as Decoding, plainCall}
@@ -37,9 +36,6 @@ showing w = record { answer = answer 0; shown = true; lun = w .lun; blocklength 
 abbrev pub hiding : Answering → Showing
 hiding a = record { answer = a; shown = false; lun = 0; blocklength = 0; block = replicate 16 0 }
 
-abbrev pub hides : Answer → Shown
-hides answer = record { answer = answer; shown = false; lun = 0; blocklength = 0; block = replicate 16 0 }
-
 -- "A command is shown in every state but 0"
 unfoldable pub isShown : Device → Bool
 isShown d = not (isIn 0 d)
@@ -71,9 +67,6 @@ stepping a os = record { answer = a; offers = os }
 
 abbrev pub steppedOf : Step → Stepping
 steppedOf r = stepping (answerOf (r .answer)) (offers (r .offer))
-
-abbrev pub offersNone : Answer → Step
-offersNone answer = record { answer = answer; offer = Nothing }
 
 -- "the command step offers it when no status is present"
 unfoldable pub isOffered : Device → Bool

@@ -4,9 +4,7 @@ use mathlib.Core.Bool.{cond}
 use mathlib.Core.List.{List}
 use lib.ListN.{length, take}
 use Rattle.fields.specs.Overlay.{overlay}
-use Rattle.buffer.specs.declared.Marks.{Marks}
 use Rattle.buffer.specs.Buffer.{Buffer, fitting, written, lacksRoom, writtenAll, ready, given, readOff}
-use Rattle.answers.specs.declared.Answer.{Answer}
 use Rattle.answers.specs.Answers.{Answering, answer, answerOf}
 use Rattle.wrapper.specs.declared.counters.Left.{Left}
 use Rattle.device.specs.declared.Device.{Device}
@@ -28,13 +26,6 @@ moving a count d bytes = record { answer = a; count = count; device = d; bytes =
 
 abbrev pub movedOf : Moved → List ℕ → Moving
 movedOf r bytes = moving (answerOf (r .report .answer)) (r .report .count) (r .device) bytes
-
--- what a call returns that moved nothing, and one that left these marks
-abbrev pub unmoved : Device → Answer → Moved
-unmoved d answer = record { device = d; report = record { answer = answer; count = 0 } }
-
-abbrev pub movesTo : Device → Marks → Answer → ℕ → Moved
-movesTo d m answer count = record { device = withMarks m d; report = record { answer = answer; count = count } }
 
 -- 3: "read or write call in another state", and "all as before"
 unfoldable pub worksIn : ℕ → Device → List ℕ → List ℕ → Moving → Moving

@@ -5,9 +5,11 @@
 --     Bus        reset and control requests
 --     Command    the command shown, and the command step
 --     Cases      cases, computed
+--     Inner      what only inner functions need
 pub mod Checks
 pub mod Status
 pub mod Data
 pub mod Bus
 pub mod Command
 pub mod Cases
+pub mod Inner

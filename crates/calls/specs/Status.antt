@@ -3,7 +3,6 @@ use Prim.Native.Nat.{ℕ}
 use mathlib.Core.Bool.{Bool, cond, _||_}
 use mathlib.Core.List.{List}
 use lib.Dec.{eqb, leb}
-use Rattle.answers.specs.declared.Answer.{Answer}
 use Rattle.answers.specs.Answers.{Answering, answer, answerOf}
 use Rattle.wrapper.specs.Counters.{residueOf}
 use Rattle.wrapper.specs.Status.{statusOfNumber}
@@ -25,10 +24,6 @@ stating a d = record { answer = a; device = d }
 
 abbrev pub statedOf : Stated → Stating
 statedOf r = stating (answerOf (r .answer)) (r .device)
-
--- what a call returns that took no status
-abbrev pub refuses : Device → Answer → Stated
-refuses d answer = record { device = d; answer = answer }
 
 -- "`set_status` is accepted in 2, 4, 5, 7"
 unfoldable pub takesStatus : ℕ → Bool

@@ -10,7 +10,8 @@ ghost use mathlib.Core.Path.{_≡_};
 ghost use Prim.Native.Nat.{_≤_};
 ghost use lib.ListN.{take};
 ghost use Rattle.scsi.specs.Decoding.{plainCall};
-ghost use Rattle.calls.specs.Command.{hides, shownOf, commandCall, offersNone, steppedOf, isOffered, offering, stepCall};
+ghost use Rattle.calls.specs.Command.{shownOf, commandCall, steppedOf, isOffered, offering, stepCall};
+ghost use Rattle.calls.specs.Inner.Returned.{hides, offersNone};
 
 // The answer, whether a command is shown, its LUN and its block, which has so many bytes.
 pub struct Shown {

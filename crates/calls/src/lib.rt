@@ -25,9 +25,10 @@ ghost use Prim.Native.Nat.{min};
 ghost use Rattle.device.specs.Device.{numbersOf, withStatus};
 ghost use Rattle.device.specs.Broken.{isWhole};
 ghost use Rattle.calls.specs.Checks.{isIn};
-ghost use Rattle.calls.specs.Status.{statedOf, refuses, takesStatus, acceptedStatus, setStatusCall};
-ghost use Rattle.calls.specs.Data.{unmoved, movesTo, movedOf, readCall, writeCall, writeAllCall};
-ghost use Rattle.calls.specs.Bus.{keeps, enters0, handledOf, served, resetCall, controlCall};
+ghost use Rattle.calls.specs.Status.{statedOf, takesStatus, acceptedStatus, setStatusCall};
+ghost use Rattle.calls.specs.Inner.Returned.{refuses, unmoved, movesTo, keeps, enters0};
+ghost use Rattle.calls.specs.Data.{movedOf, readCall, writeCall, writeAllCall};
+ghost use Rattle.calls.specs.Bus.{handledOf, served, resetCall, controlCall};
 
 // A status byte, and the firmware's figure: how many bytes it dealt with.
 pub struct FirmwareStatus {

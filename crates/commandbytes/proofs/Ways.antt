@@ -12,8 +12,7 @@ use Rattle.answers.specs.Answers.{answerOf}
 use Rattle.device.specs.declared.Device.{Device}
 use Rattle.scsi.specs.declared.ScsiCommand.{ScsiCommand}
 use Rattle.calls.specs.declared.command.Shown as command
-use Rattle.calls.specs.declared.command.Offer.the-variants.{Command}
-use Rattle.calls.specs.declared.command.Offer.the-variants.{Nothing as None}
+use Rattle.calls.specs.declared.command.Offer.the-variants.{Command, Nothing as None}
 use Rattle.calls.specs.declared.command.Step.{Step}
 use Rattle.calls.specs.Command.{shownOf, commandCall, Stepping, offers, steppedOf, stepCall}
 use Rattle.scsi.specs.Numbers.{numbers}

@@ -23,7 +23,8 @@ use Rattle.recordbytes.proofs.Parts.{device-kept, marks-alone}
 use Rattle.border.specs.Word.{word, plain}
 use Rattle.border.specs.Record.{onDevice}
 use Rattle.border.proofs.Lending.{known-then, long-then, unknown, made}
-use Rattle.databytes.specs.Data.{Storable, is10, moves, moved, readOn, writeOn, writeAllOn}
+use Rattle.databytes.specs.Data.{moves, moved, readOn, writeOn, writeAllOn}
+use Rattle.databytes.specs.Inner.Data.{Storable, is10}
 
 -- ---- what is stored
 

@@ -1,27 +1,13 @@
 -- What a read or a write leaves of all that it was lent: its result, the record's bytes, and those that it may write to. On the device that
 -- the record's bytes hold it does what the call by value does; `storeDevice` says what bytes hold the device that it leaves. Assumes
 -- nothing: these are definitions.
-use Prim.Native.Nat.{ℕ, _^_, _<_}
-use mathlib.Core.Bool.{Bool}
+use Prim.Native.Nat.{ℕ}
 use mathlib.Core.List.{List}
-use lib.Dec.{eqb}
-use Rattle.answers.specs.Answers.{answerOf}
 use Rattle.device.specs.declared.Device.{Device}
-use Rattle.calls.specs.declared.Moved as value
 use Rattle.calls.specs.Data.{Moving, readCall, writeCall, writeAllCall}
 use Rattle.recordbytes.specs.Record.{storeDevice}
 use Rattle.border.specs.Word.{word, plain}
 use Rattle.border.specs.Record.{onDevice}
-
--- what a read or a write by value left has its place in a record: marks and count are numbers of 32 bits
-pub record Storable (m : value.Moved) : Type 0 where
-  pub read : m .device .marks .read < 2 ^ 32
-  pub write : m .device .marks .write < 2 ^ 32
-  pub count : m .report .count < 2 ^ 32
-
--- whether a read or a write by value was refused for a broken record
-abbrev pub is10 : value.Moved → Bool
-is10 m = eqb (answerOf (m .report .answer) .number) 10
 
 pub record Moved : Type 0 where
   pub result : ℕ

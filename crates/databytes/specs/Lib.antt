@@ -1,2 +1,5 @@
--- specs.Data    what a read or a write leaves of all that it was lent
+-- What a caller of reading and writing over a record of bytes must believe.
+--     Data     what a read or a write leaves of all that it was lent
+--     Inner    what only inner functions need
 pub mod Data
+pub mod Inner

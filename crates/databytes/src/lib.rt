@@ -13,7 +13,8 @@ ghost use Rattle.answers.specs.Answers.{answerOf};
 ghost use Rattle.recordbytes.specs.Layout.{recordSize};
 ghost use Rattle.recordbytes.specs.Record.{storeMarks};
 ghost use Rattle.border.specs.Word.{word, plain};
-ghost use Rattle.databytes.specs.Data.{Storable, is10, moves, readOn, writeOn, writeAllOn};
+ghost use Rattle.databytes.specs.Data.{moves, readOn, writeOn, writeAllOn};
+ghost use Rattle.databytes.specs.Inner.Data.{Storable, is10};
 
 // The marks go into the record, answer and count into the result. A broken record, which the call by value refused, stays as it is: only a
 // whole one's marks are known to be small.

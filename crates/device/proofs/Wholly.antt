@@ -15,7 +15,8 @@ use lib.Dec.{eqb, ltb, leb}
 use lib.ListN.{length}
 use borrow.Author.Tests.{eq-eqb, eqb-true, leb-true, le-leb, ltb-false}
 use Rattle.fields.proofs.Bools.{and-left, and-right, not-true, of-picked}
-use Rattle.buffer.specs.Buffer.{Sound, isSound, buffer}
+use Rattle.buffer.specs.Buffer.{isSound, buffer}
+use Rattle.buffer.specs.Inner.Buffer.{Sound}
 use Rattle.ring.specs.declared.State.the-variants.{CommandTransfer}
 use Rattle.device.specs.declared.Fixed.{Fixed}
 use Rattle.device.specs.declared.Device.{Device}

@@ -58,12 +58,6 @@ unfoldable pub tile : ℕ → List Field → ℕ → Bool
 tile from [] to = eqb from to
 tile from (f ∷ fs) to = eqb (f .start) from && tile (from + f .width) fs to
 
--- where each field of a table starts, and where the last one ends
-abbrev pub places : List Field → List ℕ
-places [] = []
-places (f ∷ []) = f .start ∷ (f .start + f .width) ∷ []
-places (f ∷ g ∷ fs) = f .start ∷ places (g ∷ fs)
-
 -- A field of some bits of one byte: the byte, its lowest bit (0 is the least significant), and how many bits it has.
 pub record Bits : Type 0 where
   pub byte : ℕ

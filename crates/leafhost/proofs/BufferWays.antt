@@ -10,7 +10,8 @@ use Rattle.buffer.specs.declared.Answer.{Answer}
 use Rattle.buffer.specs.declared.Answer.the-variants.{Done, Overflow, Broken}
 use Rattle.buffer.specs.Buffer.{Buffer, buffer}
 use Rattle.buffer.specs.Calls.{Answering, answerOf, readInto}
-use Rattle.leafhost.specs.Buffer.{host, numberOf, marksOf, markedBy, shown, hosted, hostInto}
+use Rattle.leafhost.specs.Buffer.{host, markedBy, shown, hosted, hostInto}
+use Rattle.leafhost.specs.Inner.Buffer.{numberOf, marksOf}
 
 -- three stores fill a list of three
 pub three-stored : (l : List ℕ) (a b c : ℕ) → length l ≡ 3 → set (set (set l 0 a) 1 b) 2 c ≡ a ∷ b ∷ c ∷ []

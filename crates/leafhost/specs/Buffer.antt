@@ -6,21 +6,8 @@ use mathlib.Core.List.{List, [], _∷_}
 use lib.Dec.{eqb}
 use lib.ListN.{length, getD}
 use Rattle.buffer.specs.declared.Marks.{Marks}
-use Rattle.buffer.specs.declared.Answer.{Answer}
-use Rattle.buffer.specs.declared.Answer.the-variants.{Done, Overflow, Broken}
 use Rattle.buffer.specs.Buffer.{Buffer, buffer, at}
 use Rattle.buffer.specs.Calls.{Answering, readInto}
-
--- 01's number of an answer, and the three numbers that it leaves: read mark, write mark, count; a refusal leaves them
-abbrev pub numberOf : Answer → ℕ
-numberOf (Done n t) = 0
-numberOf (Overflow t) = 1
-numberOf Broken = 10
-
-abbrev pub marksOf : Answer → List ℕ → List ℕ
-marksOf (Done n t) was = t .read ∷ t .write ∷ n ∷ []
-marksOf (Overflow t) was = t .read ∷ t .write ∷ 0 ∷ []
-marksOf Broken was = was
 
 -- the marks that the caller's numbers stand for
 unfoldable pub markedBy : List ℕ → Marks

@@ -1,5 +1,7 @@
 -- What a caller of the leaves in C or Rust must believe.
 --     Buffer    the buffer's calls
 --     Codecs    the wrapper and the status, on numbers and bytes; the decoder's is scsi.specs.Numbers, the verdict's wrapper.specs.Verdict
+--     Inner     what only inner functions need
 pub mod Buffer
 pub mod Codecs
+pub mod Inner

@@ -5,7 +5,8 @@ use buffer::Marks;
 ghost use mathlib.Core.Path.{_≡_};
 ghost use lib.ListN.{length};
 ghost use Rattle.buffer.specs.Calls.{availableCall, cleanCall, shiftCall, writeCall, writeAllCall, fillCall, readCall};
-ghost use Rattle.leafhost.specs.Buffer.{hosted, marksOf, numberOf, host, markedBy, hostInto};
+ghost use Rattle.leafhost.specs.Buffer.{hosted, host, markedBy, hostInto};
+ghost use Rattle.leafhost.specs.Inner.Buffer.{marksOf, numberOf};
 
 // The answer's number; marks and count go where the caller keeps them.
 fn report(marks: &mut [usize], a: Answer) -> u32

@@ -43,7 +43,7 @@ use Rattle.recordbytes.specs.Layout as field
 use Rattle.recordbytes.specs.Record.{statusBy, statusAt, marksAt, wrapperAt, fixedAt, deviceAt, storeState, storeMarks, storeLeft}
 use Rattle.recordbytes.proofs.Stored.{known-is}
 use Rattle.border.specs.Word.{word}
-use Rattle.onward.specs.Onward.{Steady, Ready, sendsIn, Sending, MaySend, Taking, MayTake, bufferOf, SendsOn, TakesOn}
+use Rattle.onward.specs.Inner.Onward.{Steady, Ready, sendsIn, Sending, MaySend, Taking, MayTake, bufferOf, SendsOn, TakesOn}
 
 -- ---- the tests
 

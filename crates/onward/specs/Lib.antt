@@ -1,2 +1,3 @@
--- specs.Onward    polls in the midst of a transfer: which they are, and what they leave
-pub mod Onward
+-- No reader needs these to believe a poll: they tell the short way of the code.
+--     Inner    what only inner functions need
+pub mod Inner

@@ -19,7 +19,7 @@ ghost use Prim.Native.Nat.{_-_, _≤_};
 ghost use lib.ListN.{length};
 ghost use Rattle.device.specs.Broken.{Whole};
 ghost use Rattle.recordbytes.specs.Layout.{recordSize};
-ghost use Rattle.onward.specs.Onward.{Steady, sendsIn, MaySend, MayTake, SendsOn, TakesOn};
+ghost use Rattle.onward.specs.Inner.Onward.{Steady, sendsIn, MaySend, MayTake, SendsOn, TakesOn};
 
 fn sends_in(state: u8) -> bool
     ensures { λ x. ⌜ x ≡ sendsIn state ⌝ }

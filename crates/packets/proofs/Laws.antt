@@ -13,7 +13,8 @@ use Rattle.fields.proofs.Bools.{of-picked}
 use Rattle.fields.proofs.Overlay.{overlay-nothing}
 use Rattle.buffer.specs.declared.Marks.{Marks}
 use Rattle.buffer.specs.declared.marked.Put.{Put}
-use Rattle.buffer.specs.Buffer.{Buffer, Sound, Leaves, buffer, at, unread, lacksRoom, writtenAll, filled, written, emptied, ready, given, readOff}
+use Rattle.buffer.specs.Buffer.{Buffer, buffer, at, unread, lacksRoom, writtenAll, filled, written, emptied, ready, given, readOff}
+use Rattle.buffer.specs.Inner.Buffer.{Sound, Leaves}
 use Rattle.buffer.proofs.Unread.{filled-none}
 use Rattle.answers.specs.declared.Answer.the-variants.{Done, IoBufferOverflow}
 use Rattle.answers.specs.declared.Endpoint.{Endpoint}
@@ -24,7 +25,8 @@ use Rattle.wrapper.specs.declared.counters.Left.{Left}
 use Rattle.wrapper.specs.declared.counters.Residue.{Residue}
 use Rattle.wrapper.specs.Status.{statusBytes}
 use Rattle.packets.specs.declared.Received.{Received}
-use Rattle.packets.specs.Packets.{handed, readAnswer, takesOne, brought, received, Reports, Reads, accepted, sendAnswer, sentCount, sentOff, sentInto, Sends, filledUp, withStatus}
+use Rattle.packets.specs.Packets.{handed, readAnswer, takesOne, brought, received, accepted, sendAnswer, sentCount, sentOff, sentInto, filledUp, withStatus}
+use Rattle.packets.specs.Inner.Packets.{Reports, Reads, Sends}
 
 -- ---- how much moves
 

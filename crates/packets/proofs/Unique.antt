@@ -14,7 +14,7 @@ use Rattle.answers.specs.declared.Answer.{Answer}
 use Rattle.answers.proofs.Unique.{answer-once}
 use Rattle.packets.specs.declared.Received.{Received}
 use Rattle.packets.specs.declared.Sent.{Sent}
-use Rattle.packets.specs.Packets.{Reads, Sends}
+use Rattle.packets.specs.Inner.Packets.{Reads, Sends}
 use Rattle.packets.proofs.read_packet.Kinds as read-packet-kinds
 use Rattle.packets.proofs.read_packet.Reads as read-packet
 use Rattle.packets.proofs.send_packet.Kinds as send-packet-kinds

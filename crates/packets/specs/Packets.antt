@@ -1,20 +1,16 @@
 -- One packet: what a read, a send, the fill and the status leave, over the buffer's definitions. Assumes nothing: these are definitions.
-use mathlib.Core.Path.{_≡_}
 use mathlib.Core.Bool.{Bool, false, cond}
 use mathlib.Core.List.{List, []}
 use Prim.Native.Nat.{ℕ, _-_, min}
 use lib.Dec.{eqb}
 use lib.ListN.{length}
 use Rattle.fields.specs.Overlay.{overlay}
-use Rattle.buffer.specs.declared.marked.Put.{Put}
-use Rattle.buffer.specs.Buffer.{Buffer, Leaves, buffer, unread, lacksRoom, writtenAll, filled, written, emptied, ready, given, readOff}
+use Rattle.buffer.specs.Buffer.{Buffer, unread, lacksRoom, writtenAll, filled, written, emptied, ready, given, readOff}
 use Rattle.answers.specs.declared.Endpoint.{Endpoint}
-use Rattle.answers.specs.Answers.{Answering, answer, answerOf, serves, answeredBy}
+use Rattle.answers.specs.Answers.{Answering, answer, serves, answeredBy}
 use Rattle.wrapper.specs.declared.counters.Left.{Left}
 use Rattle.wrapper.specs.declared.counters.Residue.{Residue}
 use Rattle.wrapper.specs.Status.{statusBytes}
-use Rattle.packets.specs.declared.Received.{Received}
-use Rattle.packets.specs.declared.Sent.{Sent}
 
 -- ---- "OUT reads (a packet of 0 to P bytes, busy, or an error)"
 
@@ -37,20 +33,6 @@ brought p e packet s = cond (lacksRoom p s) 0 (length (handed e packet))
 unfoldable pub received : ℕ → Endpoint → List ℕ → Buffer → Buffer
 received p e packet s = writtenAll p (handed e packet) s
 
--- What is reported of it, by whether there was room, with n bytes put in.
-pub record Reports (t : Put) (e : Endpoint) (n : ℕ) (r : Received) : Type 0 where
-  pub answer : answerOf (r .answer) ≡ cond (t .done) (answeredBy e) (answer 1)
-  pub taken : r .taken ≡ cond (t .done) (serves e) false
-  pub count : r .count ≡ cond (t .done) n 0
-  pub marks : r .marks ≡ t .marks
-
--- What a read promises.
-pub record Reads (p : ℕ) (e : Endpoint) (packet : List ℕ) (s : Buffer) (r : Received) (io : List ℕ) : Type 0 where
-  pub answer : answerOf (r .answer) ≡ readAnswer p e s
-  pub taken : r .taken ≡ takesOne p e s
-  pub count : r .count ≡ brought p e packet s
-  pub leaves : Leaves (buffer io (r .marks)) (received p e packet s)
-
 -- ---- "one IN write (accepted whole, busy, or an error)"
 
 -- How many bytes IN may take: P where it does its part.
@@ -71,13 +53,6 @@ sentOff p e s = readOff (accepted e p) s
 -- "The packet buffer holds the sent bytes in front, the rest unchanged."
 unfoldable pub sentInto : ℕ → Endpoint → Buffer → List ℕ → List ℕ
 sentInto p e s packet = overlay packet 0 (given (accepted e p) s)
-
--- What a send promises.
-pub record Sends (p : ℕ) (e : Endpoint) (s : Buffer) (packet : List ℕ) (r : Sent) (packet′ : List ℕ) : Type 0 where
-  pub answer : answerOf (r .answer) ≡ sendAnswer e (unread s)
-  pub count : r .count ≡ sentCount p e s
-  pub leaves : Leaves (buffer (s .bytes) (r .marks)) (sentOff p e s)
-  pub into : packet′ ≡ sentInto p e s packet
 
 -- ---- what is written before it is sent
 

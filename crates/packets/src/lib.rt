@@ -13,10 +13,12 @@ use wrapper::status::CommandStatus;
 ghost use mathlib.Core.Path.{_≡_};
 ghost use Prim.Native.Nat.{_≤_, min};
 ghost use lib.ListN.{length};
-ghost use Rattle.buffer.specs.Buffer.{Sound, Leaves, buffer, at};
+ghost use Rattle.buffer.specs.Buffer.{buffer, at};
+ghost use Rattle.buffer.specs.Inner.Buffer.{Sound, Leaves};
 ghost use Rattle.answers.specs.Answers.{answerOf};
 ghost use Rattle.wrapper.specs.Status.{statusNumber};
-ghost use Rattle.packets.specs.Packets.{Reports, Reads, Sends, sendAnswer, filledUp, withStatus};
+ghost use Rattle.packets.specs.Packets.{sendAnswer, filledUp, withStatus};
+ghost use Rattle.packets.specs.Inner.Packets.{Reports, Reads, Sends};
 
 // After a packet was asked of OUT: the answer, whether a packet was taken, of how many bytes, and the marks.
 pub struct Received {

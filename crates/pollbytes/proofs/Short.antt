@@ -13,7 +13,7 @@ use Rattle.recordbytes.specs.Layout.{recordSize}
 use Rattle.recordbytes.specs.Record.{deviceAt, storeDevice}
 use Rattle.recordbytes.proofs.Stored.{is-known}
 use Rattle.recordbytes.proofs.Parts.{moved-to, moved-within}
-use Rattle.onward.specs.Onward.{Ready, MaySend, SendsOn, MayTake, TakesOn}
+use Rattle.onward.specs.Inner.Onward.{Ready, MaySend, SendsOn, MayTake, TakesOn}
 use Rattle.onward.proofs.Going.{sentOn, send-rule, takenOn, take-rule}
 use Rattle.ringbytes.specs.Poll.{polls, pollOn}
 use Rattle.ringbytes.proofs.Round.{on}

@@ -12,8 +12,7 @@ use Rattle.buffer.specs.Buffer.{unread, unreadBytes, lacksRoom}
 use Rattle.buffer.proofs.Kept.{length-unread}
 use Rattle.answers.specs.Answers.{serves}
 use Rattle.ring.specs.declared.State.{State}
-use Rattle.ring.specs.States.{stateNumber}
-use Rattle.ring.specs.Ring.{byDirection}
+use Rattle.ring.specs.States.{stateNumber, byDirection}
 use Rattle.wrapper.specs.declared.DataDirection.{DataDirection}
 use Rattle.wrapper.specs.declared.DataDirection.the-variants.{Out, In, NotExpected}
 use Rattle.wrapper.specs.declared.Wrapper.{Wrapper}

@@ -13,7 +13,8 @@ use lib.ListN.{length, take, drop, replicate, length-append, length-replicate}
 use lib.Seq.{length-take-le}
 use Rattle.fields.proofs.Bools.{of-picked, clash}
 use Rattle.fields.proofs.Seq.{none-of}
-use Rattle.buffer.specs.Buffer.{Buffer, Sound, buffer, at, unread, unreadBytes, lacksRoom}
+use Rattle.buffer.specs.Buffer.{Buffer, buffer, at, unread, unreadBytes, lacksRoom}
+use Rattle.buffer.specs.Inner.Buffer.{Sound}
 use Rattle.buffer.proofs.Kept.{length-unread}
 use Rattle.buffer.proofs.Room.{lacks-by-unread}
 use Rattle.answers.specs.declared.Endpoint.{Endpoint}

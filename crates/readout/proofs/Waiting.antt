@@ -9,7 +9,8 @@ use borrow.Author.Tests.{eq-eqb, ltb-true, ltb-false}
 use borrow.Table.Steps.{cases}
 use lib.ListN.{length, take}
 use Rattle.fields.proofs.Bools.{clash}
-use Rattle.buffer.specs.Buffer.{Sound, unread, unreadBytes, lacksRoom}
+use Rattle.buffer.specs.Buffer.{unread, unreadBytes, lacksRoom}
+use Rattle.buffer.specs.Inner.Buffer.{Sound}
 use Rattle.buffer.proofs.Kept.{length-unread}
 use Rattle.answers.specs.Answers.{answer, serves}
 use Rattle.ring.specs.declared.State.{State}

@@ -32,7 +32,7 @@ use Rattle.device.specs.declared.Status.the-variants.{Absent, Present}
 use Rattle.device.specs.Create.{newDevice}
 use Rattle.recordbytes.specs.Layout as field
 use Rattle.recordbytes.specs.Record.{isKnown, statusBy, statusAt, marksAt, wrapperAt, fixedAt, deviceAt, storeState, storeMarks, storeLeft, storeStatus, storeWrapper, storeDevice, newRecord}
-use Rattle.recordbytes.specs.Storable.{Storable, RecordOf, Fixable}
+use Rattle.recordbytes.specs.Inner.Storable.{Storable, RecordOf, Fixable}
 use Rattle.recordbytes.proofs.Storing.{isApart}
 use Rattle.recordbytes.proofs.Reading.{reads-marks, reads-wrapper, reads-device, reads-status}
 use Rattle.recordbytes.proofs.Stored.{Write, write, storeAll, areWithin, areApart, length-all, bytes-elsewhere, get-elsewhere, get-there, known-is}

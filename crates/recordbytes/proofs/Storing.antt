@@ -29,8 +29,9 @@ use Rattle.device.specs.declared.Fixed.{Fixed}
 use Rattle.device.specs.declared.Status.{Status}
 use Rattle.device.specs.declared.Status.the-variants.{Absent, Present}
 use Rattle.recordbytes.specs.Layout as field
-use Rattle.recordbytes.specs.Record.{store, joined, storeState, storeMarks, storeLeft, storeStatus, storeWrapper, newRecord}
-use Rattle.recordbytes.specs.Storable.{Fixable}
+use Rattle.recordbytes.specs.Record.{store, storeState, storeMarks, storeLeft, storeStatus, storeWrapper, newRecord}
+use Rattle.recordbytes.specs.Inner.Record.{joined}
+use Rattle.recordbytes.specs.Inner.Storable.{Fixable}
 
 -- ---- one field
 

@@ -1,8 +1,9 @@
--- specs.Layout     where each field of the record stands
--- specs.Record     what bytes hold, whether they are a record at all, and what storing a device leaves of them
--- specs.Storable   which devices have a place in a record, and which records are a device's
--- specs.Cases      cases of layout, reading and storing
+-- What a reader of the record as bytes must believe.
+--     Layout    where each field of the record stands
+--     Record    what bytes hold, whether they are a record at all, and what storing a device leaves of them
+--     Cases     cases of layout, reading and storing
+--     Inner     what only inner functions need
 pub mod Layout
 pub mod Record
-pub mod Storable
 pub mod Cases
+pub mod Inner

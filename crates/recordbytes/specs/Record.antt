@@ -10,7 +10,6 @@ use Rattle.buffer.specs.declared.Marks.{Marks}
 use Rattle.buffer.specs.Buffer.{at}
 use Rattle.ring.specs.declared.State.{State}
 use Rattle.ring.specs.States.{stateNumber, stateOfNumber}
-use Rattle.wrapper.specs.declared.Head.{Head}
 use Rattle.wrapper.specs.declared.Wrapper.{Wrapper}
 use Rattle.wrapper.specs.declared.counters.Left.{Left}
 use Rattle.wrapper.specs.Status.{statusNumber, statusOfNumber}
@@ -85,10 +84,6 @@ storeLeft l r = store field.left (l .0) r
 abbrev pub storeStatus : Status → List ℕ → List ℕ
 storeStatus Absent r = store field.present 0 r
 storeStatus (Present byte residue) r = store field.status (statusNumber byte) (store field.residue (residue .0) (store field.present 1 r))
-
--- a wrapper's head and its block
-abbrev pub joined : Head → List ℕ → Wrapper
-joined h block = record { tag = h .tag; length = h .length; direction = h .direction; lun = h .lun; blocklength = h .blocklength; block = block }
 
 unfoldable pub storeWrapper : Wrapper → List ℕ → List ℕ
 storeWrapper w r =

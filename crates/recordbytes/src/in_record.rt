@@ -1,6 +1,6 @@
 // Where the fields of a record stand, and how many bytes it has. The table is `table` in specs/Layout.antt.
 ghost use mathlib.Core.Path.{_≡_};
-ghost use Rattle.fields.specs.Field.{places};
+ghost use Rattle.fields.specs.Inner.Field.{places};
 ghost use Rattle.recordbytes.specs.Layout.{table};
 
 pub const PACKET_SIZE: usize = 0;

@@ -18,8 +18,9 @@ ghost use Prim.Native.Nat.{_+_, _≤_, _<_, _^_};
 ghost use lib.ListN.{length};
 ghost use Rattle.fields.specs.Field.{littleEndian, oneByte};
 ghost use Rattle.recordbytes.specs.Layout as field;
-ghost use Rattle.recordbytes.specs.Record.{joined, store, storeState, storeMarks, storeLeft, storeStatus, storeWrapper, newRecord};
-ghost use Rattle.recordbytes.specs.Storable.{Fixable};
+ghost use Rattle.recordbytes.specs.Record.{store, storeState, storeMarks, storeLeft, storeStatus, storeWrapper, newRecord};
+ghost use Rattle.recordbytes.specs.Inner.Record.{joined};
+ghost use Rattle.recordbytes.specs.Inner.Storable.{Fixable};
 
 fn store8(r: &mut [u8], at: usize, n: u8)
     requires { ⌜ at < length (now r) ⌝ }

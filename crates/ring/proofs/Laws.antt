@@ -15,8 +15,7 @@ use Rattle.ring.specs.declared.Found.the-variants.{Nothing, Invalid, Val
 use Rattle.ring.specs.declared.Act.{Act}
 use Rattle.ring.specs.declared.Act.the-variants.{Stay, Stall, Next, Enter, Send, Wait, Fill, Take, Drop}
 use Rattle.ring.specs.declared.Row.{Row}
-use Rattle.ring.specs.States.{rowOf}
-use Rattle.ring.specs.Ring.{extra, whole, readCbwAct, startAct, noDataAct, statusTransferAct, toHostAct, statusAwaitAct, toHostEndingAct, fromHostAct, fromHostEndingAct, settled}
+use Rattle.ring.specs.Inner.Ring.{rowOf, extra, whole, readCbwAct, startAct, noDataAct, statusTransferAct, toHostAct, statusAwaitAct, toHostEndingAct, fromHostAct, fromHostEndingAct, settled}
 
 -- ---- the table of acts
 

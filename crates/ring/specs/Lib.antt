@@ -1,4 +1,5 @@
--- specs.States   document 01's numbers of the states; what each act is
--- specs.Ring     to what act a poll comes, handler by handler
+-- What a reader of the states must believe.
+--     States    document 01's numbers of the states, and where a valid wrapper leads
+--     Inner     what only inner functions need
 pub mod States
-pub mod Ring
+pub mod Inner

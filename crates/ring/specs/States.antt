@@ -1,16 +1,11 @@
--- "States, numbered", back from a number, and the table of acts to which a poll can come. Assumes nothing: these are definitions.
+-- "States, numbered", back from a number, and where a valid wrapper leads by its direction. Assumes nothing: these are definitions.
 use Prim.Native.Nat.{ℕ}
-use mathlib.Core.Bool.{Bool, true, false, cond}
+use mathlib.Core.Bool.{cond}
 use lib.Dec.{eqb}
+use Rattle.wrapper.specs.declared.DataDirection.{DataDirection}
+use Rattle.wrapper.specs.declared.DataDirection.the-variants.{NotExpected, In, Out}
 use Rattle.ring.specs.declared.State.{State}
 use Rattle.ring.specs.declared.State.the-variants.{CommandTransfer, CommandTransferInvalid, DataTransferNoData, StatusTransfer, DataTransferToHost, DataTransferToHostStatusAwait, DataTransferToHostEnding, DataTransferFromHost, DataTransferFromHostEnding}
-use Rattle.ring.specs.declared.Act.{Act}
-use Rattle.ring.specs.declared.Act.the-variants as act
-use Rattle.ring.specs.declared.Kind.{Kind}
-use Rattle.ring.specs.declared.Kind.the-variants as kind
-use Rattle.ring.specs.declared.Before.{Before}
-use Rattle.ring.specs.declared.Before.the-variants as before
-use Rattle.ring.specs.declared.Row.{Row}
 
 -- "States, numbered: 0 CommandTransfer, .. 8 DataTransferFromHostEnding."
 abbrev pub stateNumber : State → ℕ
@@ -36,17 +31,8 @@ stateOfNumber n =
     (cond (eqb n 6) DataTransferToHostEnding
     (cond (eqb n 7) DataTransferFromHost DataTransferFromHostEnding)))))))
 
-abbrev row : State → Kind → Before → Bool → Row
-row s k b counts = record { 0 = s; 1 = k; 2 = b; 3 = counts }
-
--- An act: the state in which it is done, what crosses the wire, what comes before, and whether left falls by it.
-abbrev pub rowOf : Act → Row
-rowOf act.Stay = row CommandTransfer kind.Rest before.Nothing false
-rowOf act.Stall = row CommandTransferInvalid kind.Stall before.Nothing false
-rowOf act.Next = row StatusTransfer kind.Send before.Nothing false
-rowOf act.Enter = row StatusTransfer kind.Send before.Status false
-rowOf act.Send = row DataTransferToHost kind.Send before.Whole true
-rowOf act.Wait = row DataTransferToHostStatusAwait kind.Rest before.Nothing false
-rowOf act.Fill = row DataTransferToHostEnding kind.Send before.Fill true
-rowOf act.Take = row DataTransferFromHost kind.Read before.Nothing true
-rowOf act.Drop = row DataTransferFromHostEnding kind.Read before.Empty true
+-- "Valid goes on to 7, 4 or, through 2, to 5": one of three by the direction, out of the host, to the host, or without data.
+abbrev pub byDirection : {A : Type 0} → DataDirection → A → A → A → A
+byDirection Out out to none = out
+byDirection In out to none = to
+byDirection NotExpected out to none = none

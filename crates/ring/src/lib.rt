@@ -4,8 +4,8 @@ use wrapper::DataDirection;
 ghost use mathlib.Core.Path.{_≡_};
 ghost use Prim.Native.Nat.{_+_, _≤_};
 ghost use Rattle.ring.specs.declared.Act.the-variants.{Enter};
-ghost use Rattle.ring.specs.States.{stateNumber, stateOfNumber, rowOf};
-ghost use Rattle.ring.specs.Ring.{extra, whole, readCbwAct, startAct, noDataAct, statusTransferAct, toHostAct, statusAwaitAct, toHostEndingAct, fromHostAct, fromHostEndingAct, settled};
+ghost use Rattle.ring.specs.States.{stateNumber, stateOfNumber};
+ghost use Rattle.ring.specs.Inner.Ring.{rowOf, extra, whole, readCbwAct, startAct, noDataAct, statusTransferAct, toHostAct, statusAwaitAct, toHostEndingAct, fromHostAct, fromHostEndingAct, settled};
 
 // Document 01's states, in its order.
 pub enum State {

@@ -17,7 +17,8 @@ use Rattle.answers.specs.declared.Stalls.{Stalls}
 use Rattle.answers.specs.Answers.{answerOf, endpointOf}
 use Rattle.wrapper.specs.declared.Head.{Head}
 use Rattle.wrapper.specs.declared.Wrapper.{Wrapper}
-use Rattle.wrapper.specs.Wrapper.{wrapperOf, headOf}
+use Rattle.wrapper.specs.Wrapper.{wrapperOf}
+use Rattle.wrapper.specs.Inner.Wrapper.{headOf}
 use Rattle.device.specs.declared.Device.{Device}
 use Rattle.device.specs.declared.Numbers.{Numbers}
 use Rattle.device.specs.declared.Status.the-variants.{Absent}
@@ -27,15 +28,17 @@ use Rattle.device.proofs.Wholly.{tested, whole-is, size-most, packet-known, pac
 use Rattle.bbb.specs.declared.Change.{Change}
 use Rattle.bbb.specs.declared.open.Opened.{Opened}
 use Rattle.bbb.specs.Poll.{Given, Polling, Fits, isFitting, refusing, pollingOf, pollCall}
-use Rattle.bbb.specs.Phases.{openOf, isValidFound, InFront, Opens, opened, openedIo, justRead, wrapperThen, endedOf, goneOn, changedBy}
+use Rattle.bbb.specs.Inner.Phases.{openOf, isValidFound, InFront, Opens, opened, openedIo, justRead, wrapperThen, endedOf, goneOn, changedBy}
 use Rattle.bbb.proofs.Polling as bbb
 use Rattle.bbb.proofs.Keeping.{call-whole, call-sizes}
-use Rattle.recordbytes.specs.Record.{isKnown, deviceAt, joined, storeState, storeMarks, storeLeft, storeStatus, storeWrapper, storeDevice}
+use Rattle.recordbytes.specs.Record.{isKnown, deviceAt, storeState, storeMarks, storeLeft, storeStatus, storeWrapper, storeDevice}
+use Rattle.recordbytes.specs.Inner.Record.{joined}
 use Rattle.recordbytes.proofs.Stored.{Known, is-known}
 use Rattle.recordbytes.proofs.Parts.{device-kept, polled, moved-to, parsed}
 use Rattle.border.specs.Word.{word, plain, stallsNumber}
 use Rattle.border.specs.Record.{onDevice}
-use Rattle.ringbytes.specs.Poll.{Keepable, keptChange, polls, pollOn}
+use Rattle.ringbytes.specs.Poll.{polls, pollOn}
+use Rattle.ringbytes.specs.Inner.Poll.{Keepable, keptChange}
 use Rattle.ringbytes.specs.Poll as spec
 use Rattle.border.proofs.Lending.{known-then, made}
 

@@ -24,17 +24,19 @@ ghost use mathlib.Core.Bool.{true, cond};
 ghost use Prim.Native.Nat.{_<_, _^_};
 ghost use lib.ListN.{length};
 ghost use Rattle.answers.specs.Answers as answers;
-ghost use Rattle.buffer.specs.Buffer.{Sound, buffer};
+ghost use Rattle.buffer.specs.Buffer.{buffer};
+ghost use Rattle.buffer.specs.Inner.Buffer.{Sound};
 ghost use Rattle.device.specs.declared.Status.the-variants.{Absent};
 ghost use Rattle.device.specs.Device.{numbersOf};
 ghost use Rattle.device.specs.Broken.{Whole};
 ghost use Rattle.bbb.specs.Poll.{given, Fits};
-ghost use Rattle.bbb.specs.Phases.{isValidFound, InFront, justRead};
+ghost use Rattle.bbb.specs.Inner.Phases.{isValidFound, InFront, justRead};
 ghost use Rattle.wrapper.specs.Wrapper.{wrapperOf};
 ghost use Rattle.recordbytes.specs.Layout.{recordSize};
 ghost use Rattle.recordbytes.specs.Record.{isKnown, deviceAt, storeStatus, storeWrapper};
 ghost use Rattle.border.specs.Word as spec;
-ghost use Rattle.ringbytes.specs.Poll.{Keepable, keptChange, polls, pollOn};
+ghost use Rattle.ringbytes.specs.Poll.{polls, pollOn};
+ghost use Rattle.ringbytes.specs.Inner.Poll.{Keepable, keptChange};
 
 // The wrapper that opening found, if it is valid: it stands in the IO buffer, just in front of the read mark.
 fn keep_wrapper(record: &mut [u8], o: Opened, io: &[u8])

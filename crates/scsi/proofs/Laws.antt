@@ -22,7 +22,8 @@ use Rattle.scsi.specs.declared.ScsiCommand.{ScsiCommand}
 use Rattle.scsi.specs.declared.ScsiCommand.the-variants.{Unknown, Inquiry, TestUnitReady, RequestSense, ModeSense6, ModeSense10, ReadCapacity10, ReadCapacity16, Read, Write, ReadFormatCapacities}
 use Rattle.scsi.specs.declared.table.Row.{Row}
 use Rattle.scsi.specs.Commands.{flag, pageControl}
-use Rattle.scsi.specs.Decoding.{Layout, rows, opcodeOf, lists, shortestOf, counts, isListed, fieldsBy, Answering, decoded, decodeCall}
+use Rattle.scsi.specs.Decoding.{Layout, rows, opcodeOf, lists, counts, isListed, fieldsBy, Answering, decoded, decodeCall}
+use Rattle.scsi.specs.Inner.Decoding.{shortestOf}
 
 -- ---- the table, in the code's form
 

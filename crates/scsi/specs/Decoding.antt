@@ -46,11 +46,6 @@ unfoldable pub lists : List Layout → ℕ → ℕ → Bool
 lists [] opcode n = false
 lists (r ∷ rs) opcode n = cond (eqb (r .opcode) opcode) (leb (r .shortest) n) (lists rs opcode n)
 
--- the shortest block of an opcode, by its row
-abbrev pub shortestOf : List Layout → ℕ → ℕ
-shortestOf [] opcode = 0
-shortestOf (r ∷ rs) opcode = cond (eqb (r .opcode) opcode) (r .shortest) (shortestOf rs opcode)
-
 -- "88 and 8A count only with extended addressing"
 unfoldable pub counts : Bool → ℕ → Bool
 counts extended opcode = extended || not (eqb opcode 0x88 || eqb opcode 0x8A)

@@ -3,7 +3,9 @@
 --     Decoding    the table of opcodes and shortest lengths, and what a block decodes to
 --     Numbers     a command as six numbers, for callers in C and Rust
 --     Cases       document 01's cases
+--     Inner       what only inner functions need
 pub mod Commands
 pub mod Decoding
 pub mod Numbers
 pub mod Cases
+pub mod Inner

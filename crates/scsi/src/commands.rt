@@ -11,7 +11,8 @@ ghost use mathlib.Core.Bool.{true};
 ghost use Prim.Native.Nat.{_≤_, _<_};
 ghost use lib.ListN.{length};
 ghost use Rattle.scsi.specs.Commands.{flag, pageControl, requestSense, inquiry, modeSense6, modeSense10, readCapacity16, read10, write10, read16, write16, readFormatCapacities};
-ghost use Rattle.scsi.specs.Decoding.{rows, lists, shortestOf, fieldsBy};
+ghost use Rattle.scsi.specs.Decoding.{rows, lists, fieldsBy};
+ghost use Rattle.scsi.specs.Inner.Decoding.{shortestOf};
 
 // Whether a bit of a byte is set.
 fn is_set(b: &[u8], at: usize, bit: u8) -> bool

@@ -20,7 +20,8 @@ use Rattle.wrapper.specs.declared.DataDirection.the-variants.{Out, In, N
 use Rattle.wrapper.specs.declared.Wrapper.{Wrapper}
 use Rattle.wrapper.specs.declared.Head.{Head}
 use Rattle.wrapper.specs.declared.Parsed.{Parsed}
-use Rattle.wrapper.specs.Wrapper.{wrapperSignature, dCBWSignature, dCBWTag, dCBWDataTransferLength, direction, bCBWLUN, bCBWCBLength, CBWCB, Valid, isSigned, isBlockLength, isValid, directionOf, wrapperOf, headOf, blank, taken, parsed}
+use Rattle.wrapper.specs.Wrapper.{wrapperSignature, dCBWSignature, dCBWTag, dCBWDataTransferLength, direction, bCBWLUN, bCBWCBLength, CBWCB, Valid, isSigned, isBlockLength, isValid, directionOf, wrapperOf, blank, taken, parsed}
+use Rattle.wrapper.specs.Inner.Wrapper.{headOf}
 
 -- ---- the tests
 

@@ -4,8 +4,10 @@
 --     Wrapper     BOT's table of the wrapper (CBW), which wrappers are valid, and what a valid one says
 --     Verdict     BOT's verdict on one received message
 --     Cases       document 01's cases
+--     Inner       what only inner functions need
 pub mod Counters
 pub mod Status
 pub mod Wrapper
 pub mod Verdict
 pub mod Cases
+pub mod Inner

@@ -9,7 +9,6 @@ use Rattle.fields.specs.Field.{Field, Bits, littleEndian, oneByte, bits, bytesA
 use Rattle.wrapper.specs.declared.DataDirection.{DataDirection}
 use Rattle.wrapper.specs.declared.DataDirection.the-variants.{Out, In, NotExpected}
 use Rattle.wrapper.specs.declared.Wrapper.{Wrapper}
-use Rattle.wrapper.specs.declared.Head.{Head}
 use Rattle.wrapper.specs.declared.Parsed.{Parsed}
 
 -- BOT's table: field, first byte, number of bytes. Every number of BOT's is little-endian.
@@ -89,10 +88,6 @@ wrapperOf m = record {
   blocklength = get bCBWCBLength m;
   block = bytesAt CBWCB m;
 }
-
--- a wrapper without its command block
-abbrev pub headOf : Wrapper → Head
-headOf w = record { tag = w .tag; length = w .length; direction = w .direction; lun = w .lun; blocklength = w .blocklength }
 
 -- no wrapper: every number 0, no data
 unfoldable pub blank : Wrapper

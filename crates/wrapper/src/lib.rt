@@ -13,7 +13,8 @@ use fields::le32;
 ghost use mathlib.Core.Path.{_≡_};
 ghost use lib.ListN.{length};
 ghost use Rattle.fields.specs.Field.{bytesAt};
-ghost use Rattle.wrapper.specs.Wrapper.{CBWCB, isSigned, isBlockLength, isValid, directionOf, directionNumber, directionOfNumber, wrapperOf, headOf, blank, parsed};
+ghost use Rattle.wrapper.specs.Wrapper.{CBWCB, isSigned, isBlockLength, isValid, directionOf, directionNumber, directionOfNumber, wrapperOf, blank, parsed};
+ghost use Rattle.wrapper.specs.Inner.Wrapper.{headOf};
 
 // 55 53 42 43, little-endian.
 const SIGNED: u32 = 0x43425355;

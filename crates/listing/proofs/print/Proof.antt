@@ -6,7 +6,8 @@ use native.Mathlib.Omega.{arith}
 use lib.ListN.{length}
 use lib.Seq.{length-take-le}
 use Rattle.benchline.specs.declared.Line.{Line}
-use Rattle.benchline.specs.Line.{lineOf, roomFor, Puts}
+use Rattle.benchline.specs.Line.{lineOf}
+use Rattle.benchline.specs.Inner.Line.{roomFor, Puts}
 use Rattle.benchline.proofs.Text.{line-fits}
 use borrow.Author.Needs.{needs}
 use Rattle.listing.proofs.print.Statement.{statement}

@@ -1,15 +1,21 @@
--- To what act a poll comes: one definition for each handler. Assumes nothing: these are definitions.
+-- To what act a poll comes, one definition for each handler, and the row of each act. Assumes nothing: these are definitions.
 use Prim.Native.Nat.{ℕ}
 use mathlib.Core.Bool.{Bool, true, false, cond}
 use lib.Dec.{eqb}
 use Rattle.wrapper.specs.declared.DataDirection.{DataDirection}
-use Rattle.wrapper.specs.declared.DataDirection.the-variants.{Out, In, NotExpected}
 use Rattle.ring.specs.declared.State.{State}
 use Rattle.ring.specs.declared.State.the-variants.{CommandTransfer, CommandTransferInvalid, DataTransferNoData, StatusTransfer, DataTransferToHost, DataTransferToHostStatusAwait, DataTransferToHostEnding, DataTransferFromHost, DataTransferFromHostEnding}
+use Rattle.ring.specs.States.{byDirection}
 use Rattle.ring.specs.declared.Found.{Found}
 use Rattle.ring.specs.declared.Found.the-variants.{Nothing, Invalid, Valid}
 use Rattle.ring.specs.declared.Act.{Act}
 use Rattle.ring.specs.declared.Act.the-variants.{Stay, Stall, Next, Enter, Send, Wait, Fill, Take, Drop}
+use Rattle.ring.specs.declared.Kind.{Kind}
+use Rattle.ring.specs.declared.Before.{Before}
+use Rattle.ring.specs.declared.Row.{Row}
+use Rattle.ring.specs.declared.Act.the-variants as act
+use Rattle.ring.specs.declared.Kind.the-variants as kind
+use Rattle.ring.specs.declared.Before.the-variants as before
 
 -- "5: status present goes to 3." "Entering 3 .. sends at once."
 unfoldable pub statusAwaitAct : Bool → Act
@@ -34,11 +40,6 @@ fromHostEndingAct left = cond (eqb left 0) Enter Drop
 -- "7: left 0 goes to 5; status present goes to 8; otherwise read a packet."
 unfoldable pub fromHostAct : ℕ → Bool → Act
 fromHostAct left present = cond (eqb left 0) (statusAwaitAct present) (cond present (fromHostEndingAct left) Take)
-
-abbrev pub byDirection : {A : Type 0} → DataDirection → A → A → A → A
-byDirection Out out to none = out
-byDirection In out to none = to
-byDirection NotExpected out to none = none
 
 -- "Valid goes on to 7, 4 or, through 2, to 5." In 0 no status is present: a record that has one there is broken.
 unfoldable pub startAct : DataDirection → ℕ → Act
@@ -79,3 +80,18 @@ extra false = 0
 abbrev pub whole : Bool → ℕ
 whole true = 4
 whole false = 0
+
+abbrev row : State → Kind → Before → Bool → Row
+row s k b counts = record { 0 = s; 1 = k; 2 = b; 3 = counts }
+
+-- An act: the state in which it is done, what crosses the wire, what comes before, and whether left falls by it.
+abbrev pub rowOf : Act → Row
+rowOf act.Stay = row CommandTransfer kind.Rest before.Nothing false
+rowOf act.Stall = row CommandTransferInvalid kind.Stall before.Nothing false
+rowOf act.Next = row StatusTransfer kind.Send before.Nothing false
+rowOf act.Enter = row StatusTransfer kind.Send before.Status false
+rowOf act.Send = row DataTransferToHost kind.Send before.Whole true
+rowOf act.Wait = row DataTransferToHostStatusAwait kind.Rest before.Nothing false
+rowOf act.Fill = row DataTransferToHostEnding kind.Send before.Fill true
+rowOf act.Take = row DataTransferFromHost kind.Read before.Nothing true
+rowOf act.Drop = row DataTransferFromHostEnding kind.Read before.Empty true

@@ -7,9 +7,12 @@ use Prim.Native.Nat.{ℕ, _+_, _-_, _≤_}
 use lib.Dec.{eqb, leb}
 use lib.ListN.{take, drop}
 use Rattle.buffer.specs.declared.Marks.{Marks}
-use Rattle.buffer.specs.Buffer.{Buffer, Sound, buffer, at, unread}
+use Rattle.buffer.specs.Buffer.{Buffer, buffer, at, unread}
+use Rattle.buffer.specs.Inner.Buffer.{Sound}
 use Rattle.answers.specs.declared.Endpoint.{Endpoint}
+use Rattle.answers.specs.declared.Answer.{Answer}
 use Rattle.answers.specs.declared.Stalls.{Stalls}
+use Rattle.answers.specs.declared.Stalls.the-variants.{Kept}
 use Rattle.answers.specs.Answers.{Answering, answerOf, answer, endpointOf, stallsOf}
 use Rattle.ring.specs.declared.State.{State}
 use Rattle.ring.specs.declared.Found.{Found}
@@ -19,8 +22,8 @@ use Rattle.ring.specs.declared.Kind.the-variants as kind
 use Rattle.ring.specs.declared.Before.{Before}
 use Rattle.ring.specs.declared.Before.the-variants as before
 use Rattle.ring.specs.declared.Row.{Row}
-use Rattle.ring.specs.States.{stateNumber, rowOf}
-use Rattle.ring.specs.Ring.{settled}
+use Rattle.ring.specs.States.{stateNumber}
+use Rattle.ring.specs.Inner.Ring.{rowOf, settled}
 use Rattle.wrapper.specs.declared.DataDirection.{DataDirection}
 use Rattle.wrapper.specs.declared.DataDirection.the-variants.{NotExpected}
 use Rattle.wrapper.specs.declared.Wrapper.{Wrapper}
@@ -33,10 +36,17 @@ use Rattle.device.specs.declared.Device.{Device}
 use Rattle.device.specs.declared.Numbers.{Numbers}
 use Rattle.device.specs.Device.{isPresent, rebuilt}
 use Rattle.bbb.specs.declared.Turn.{Turn}
+use Rattle.bbb.specs.declared.Polled.{Polled}
 use Rattle.bbb.specs.declared.Change.{Change}
 use Rattle.bbb.specs.declared.open.Opened.{Opened}
 use Rattle.bbb.specs.declared.act.Did.{Did}
 use Rattle.bbb.specs.Poll.{Given, leftThen, messageAt, fallsShort, offers, offeredBy, statusPut}
+
+-- ---- check
+
+-- A refusal leaves "all as before".
+abbrev pub refusedBy : Device → Answer → Polled
+refusedBy d a = record { device = d; report = record { answer = a; taken = 0; sent = 0; stalls = Kept } }
 
 -- ---- open
 

@@ -1,0 +1,10 @@
+-- The room that a run needs. Assumes nothing: these are definitions.
+use Prim.Native.Nat.{ℕ, _≤_}
+use mathlib.Core.List.{List}
+use lib.ListN.{length}
+use Rattle.benchline.specs.Inner.Line.{roomFor}
+
+-- The lent bytes hold what any event shows, and the text any line of them.
+pub record Roomy (lent text : List ℕ) : Type 0 where
+  pub shows : 65535 ≤ length lent
+  pub tells : roomFor (length lent) ≤ length text

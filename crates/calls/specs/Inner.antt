@@ -1,0 +1,3 @@
+-- What only inner functions promise or require: no public contract and no public theorem rests on it (checks/believed).
+--     Returned    what the code of a call returns, case by case
+pub mod Returned

@@ -1,0 +1,42 @@
+-- What the code of a call returns, case by case. Assumes nothing: these are definitions.
+use Prim.Native.Nat.{ℕ}
+use mathlib.Core.Bool.{false}
+use lib.ListN.{replicate}
+use Rattle.buffer.specs.declared.Marks.{Marks}
+use Rattle.answers.specs.declared.Answer.{Answer}
+use Rattle.answers.specs.declared.Answer.the-variants.{Done}
+use Rattle.answers.specs.declared.Stalls.the-variants.{Kept, Unstalled}
+use Rattle.device.specs.declared.Device.{Device}
+use Rattle.device.specs.Device.{entering0, withMarks}
+use Rattle.calls.specs.declared.Stated.{Stated}
+use Rattle.calls.specs.declared.Moved.{Moved}
+use Rattle.calls.specs.declared.Reply.{Reply}
+use Rattle.calls.specs.declared.Reply.the-variants as reply
+use Rattle.calls.specs.declared.Handled.{Handled}
+use Rattle.calls.specs.declared.command.Shown.{Shown}
+use Rattle.calls.specs.declared.command.Offer.the-variants as offer
+use Rattle.calls.specs.declared.command.Step.{Step}
+
+-- what a call returns that took no status
+abbrev pub refuses : Device → Answer → Stated
+refuses d answer = record { device = d; answer = answer }
+
+-- what a call returns that moved nothing, and one that left these marks
+abbrev pub unmoved : Device → Answer → Moved
+unmoved d answer = record { device = d; report = record { answer = answer; count = 0 } }
+
+abbrev pub movesTo : Device → Marks → Answer → ℕ → Moved
+movesTo d m answer count = record { device = withMarks m d; report = record { answer = answer; count = count } }
+
+-- what a call returns that changes nothing, and one that enters 0
+abbrev pub keeps : Device → Answer → Reply → Handled
+keeps d answer reply = record { device = d; report = record { answer = answer; stalls = Kept; reply = reply } }
+
+abbrev pub enters0 : Device → Handled
+enters0 d = record { device = entering0 d; report = record { answer = Done; stalls = Unstalled; reply = reply.Nothing } }
+
+abbrev pub hides : Answer → Shown
+hides answer = record { answer = answer; shown = false; lun = 0; blocklength = 0; block = replicate 16 0 }
+
+abbrev pub offersNone : Answer → Step
+offersNone answer = record { answer = answer; offer = offer.Nothing }

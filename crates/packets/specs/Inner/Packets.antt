@@ -1,0 +1,34 @@
+-- What the functions for one packet promise, with sound marks again. Assumes nothing: these are definitions.
+use mathlib.Core.Path.{_≡_}
+use mathlib.Core.Bool.{false, cond}
+use mathlib.Core.List.{List}
+use Prim.Native.Nat.{ℕ}
+use Rattle.buffer.specs.declared.marked.Put.{Put}
+use Rattle.buffer.specs.Buffer.{Buffer, buffer, unread}
+use Rattle.buffer.specs.Inner.Buffer.{Leaves}
+use Rattle.answers.specs.declared.Endpoint.{Endpoint}
+use Rattle.answers.specs.Answers.{answer, answerOf, serves, answeredBy}
+use Rattle.packets.specs.declared.Received.{Received}
+use Rattle.packets.specs.declared.Sent.{Sent}
+use Rattle.packets.specs.Packets.{readAnswer, takesOne, brought, received, sendAnswer, sentCount, sentOff, sentInto}
+
+-- What is reported of it, by whether there was room, with n bytes put in.
+pub record Reports (t : Put) (e : Endpoint) (n : ℕ) (r : Received) : Type 0 where
+  pub answer : answerOf (r .answer) ≡ cond (t .done) (answeredBy e) (answer 1)
+  pub taken : r .taken ≡ cond (t .done) (serves e) false
+  pub count : r .count ≡ cond (t .done) n 0
+  pub marks : r .marks ≡ t .marks
+
+-- What a read promises.
+pub record Reads (p : ℕ) (e : Endpoint) (packet : List ℕ) (s : Buffer) (r : Received) (io : List ℕ) : Type 0 where
+  pub answer : answerOf (r .answer) ≡ readAnswer p e s
+  pub taken : r .taken ≡ takesOne p e s
+  pub count : r .count ≡ brought p e packet s
+  pub leaves : Leaves (buffer io (r .marks)) (received p e packet s)
+
+-- What a send promises.
+pub record Sends (p : ℕ) (e : Endpoint) (s : Buffer) (packet : List ℕ) (r : Sent) (packet′ : List ℕ) : Type 0 where
+  pub answer : answerOf (r .answer) ≡ sendAnswer e (unread s)
+  pub count : r .count ≡ sentCount p e s
+  pub leaves : Leaves (buffer (s .bytes) (r .marks)) (sentOff p e s)
+  pub into : packet′ ≡ sentInto p e s packet
