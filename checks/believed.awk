@@ -186,40 +186,45 @@ function follow(name, seen,    list, n, i, queue, last, next_one) {
 # The last part of a name, by which it is known in its file.
 function short(name) { sub(/.*(::|\.)/, "", name); return name }
 
+# Prints what NAME rests on, and marks it as reached.
+function list_of(name,    seen, definitions, types, size, files, list, before, i, def) {
+    split("", seen)
+    follow(name, seen)
+    for (i = 1; i <= count; i++) {
+        def = order[i]
+        if (!(def in seen) || def in is_function) continue
+        reached[def] = 1
+        if (index(def, "::")) types++; else definitions++
+        size += last_line[def] - first_line[def] + 1 + comment[def]
+        if (place[def] != before) { files++; list = list "\n    " place[def] ":"; before = place[def] }
+        list = list " " short(def)
+    }
+    print name " rests on " definitions + 0 " definitions and " types + 0 " types, " size + 0 " lines in " files + 0 " files" list
+}
+
 END {
+    asked_for = split(asked, words, " ")
+    for (e = 1; e <= asked_for; e++) if (ours(words[e])) list_of(words[e]); else fault(words[e] " is not there")
+    if (asked_for) exit faults > 0
+
     for (e = 1; e <= entries; e++) {
         name = entry[e]
+        passed++
         if (!ours(name)) { fault("crates/entries.txt has " name ", which is not there"); continue }
         if (name in is_function ? text[name] !~ /ensures/ : name !~ /\.proofs\./) fault(name " has no contract")
-        split("", seen)
-        follow(name, seen)
-        definitions = 0; types = 0; size = 0; files = 0; list = ""; before = ""
-        for (i = 1; i <= count; i++) {
-            def = order[i]
-            if (!(def in seen) || def in is_function) continue
-            reached[def] = 1
-            if (index(def, "::")) types++; else definitions++
-            size += last_line[def] - first_line[def] + 1 + comment[def]
-            if (place[def] != before) { files++; list = list "\n    " place[def] ":"; before = place[def] }
-            list = list " " short(def)
-        }
-        figures = definitions " definitions and " types " types, " size " lines in " files " files"
-        if (asked == "" || index(" " asked " ", " " name " ")) print name " rests on " figures (brief ? "" : list)
-        summary[name] = figures
-        passed++
+        list_of(name)
     }
-    if (asked != "") exit faults > 0
     for (i = 1; i <= count; i++) {
         def = order[i]
         if (def in exports && !(def in is_entry)) fault(def " is exported, and crates/entries.txt does not have it")
         if (def !~ /^[a-z]+\.specs\./) continue
+        passed++
         inner = def ~ /^[a-z]+\.specs\.Inner\./
         if (inner && def in reached) fault(def " is inner, and something public rests on it")
         if (!inner && !(def in reached)) fault(def " is reached by nothing public; its place is specs/Inner")
         if (inner) inners++; else outers++
-        passed++
     }
     print outers " definitions are reached by something public, " inners " stand in specs/Inner"
-    if (faults) { print passed - faults " passed, " faults " failed"; exit 1 }
-    print passed " passed, 0 failed"
+    print passed - faults " passed, " faults + 0 " failed"
+    exit faults > 0
 }
