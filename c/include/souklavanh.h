@@ -28,7 +28,7 @@
  *        souk_stalls(word)  what to do with the stalls of the two bulk endpoints.
  *        souk_taken(word)   0, 1 or 2 packets were taken, 'one' first. Give those buffers back to the hardware. Offer a
  *                           packet that was not taken again, before any newer one.
- *        souk_count(word)   if n > 0, the first n bytes of 'packet' are to be sent. Hand exactly these bytes to the IN
+ *        souk_count(word)   if this is n > 0, send the first n bytes of 'packet': hand exactly these bytes to the IN
  *                           endpoint, as one packet, before the next poll. If 'write' was not 0, n is 0.
  *      Do all three whatever the answer is: a poll that ends with 4 or 6 may have gone on to another state first.
  *   The answer 6 (busy) is not a fault. Poll again later; the firmware must not undo or repeat anything. The answer 4, and the
