@@ -26,8 +26,8 @@
  *        IN   'write' is 0 if the IN endpoint would accept a packet now, and 1 (busy) if not.
  *   4. After the poll, in this order:
  *        souk_stalls(word)  what to do with the stalls of the two bulk endpoints.
- *        souk_taken(word)   0, 1 or 2 packets were taken, 'one' first. Give those buffers back to the hardware. Offer a
- *                           packet that was not taken again, before any newer one.
+ *        souk_taken(word)   0, 1 or 2 packets were taken, 'one' first. Give those buffers back to the hardware. If a packet
+ *                           was not taken, offer it again, before any newer one.
  *        souk_count(word)   if this is n > 0, send the first n bytes of 'packet': hand exactly these bytes to the IN
  *                           endpoint, as one packet, before the next poll. If 'write' was not 0, n is 0.
  *      Do all three whatever the answer is: a poll that ends with 4 or 6 may have gone on to another state first.
@@ -43,8 +43,8 @@
  *   2. Unstall both.
  *   3. Call souk_create, with the same numbers. Do not call souk_reset: it keeps unread bytes in io.
  *   4. Forget the command that the firmware was working on.
- * This was seen when IN kept its packet: 64 bytes of the list went out as the answer to INQUIRY, statuses came one command
- * late, and the disk was gone. This was seen with souk_reset in place of souk_create: the rest of a read stood before every
+ * What was seen when IN kept its packet: 64 bytes of the list went out as the answer to INQUIRY, statuses came one command
+ * late, and the disk was gone. What was seen with souk_reset in place of souk_create: the rest of a read stood before every
  * later wrapper, and neither replugging nor further resets brought the disk back.
  *
  * WHAT GOES TO THE HOST is what was put in, then filler FFh up to the length that the host asked for, then the status. So
