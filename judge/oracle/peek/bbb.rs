@@ -86,7 +86,7 @@ impl<Bus: UsbBus, Buf: BorrowMut<[u8]>> BulkOnly<'_, Bus, Buf> {
     }
 }
 
-/// Document 01's numbers, not the order in which the enum stands.
+/// Document 01's numbers, which are not in the order of the enum.
 fn number_of(state: State) -> u8 {
     match state {
         State::CommandTransfer => 0,

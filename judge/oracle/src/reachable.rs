@@ -130,7 +130,7 @@ pub fn all() -> Vec<Key> {
 }
 
 /// Every answer that an event can have in a state, by the table of answers of document 01 and the
-/// chains of the rulings. No state stands for a creation, no kind for a refused file.
+/// chains of the rulings. A creation has `None` as its state, and a refused file also as its kind.
 fn triples() -> Vec<(Option<u8>, Option<u8>, Vec<u8>)> {
     let mut triples = vec![(None, None, vec![14]), (None, Some(0), vec![0, 2, 5, 8, 9])];
     for state in RESTING {
