@@ -18,14 +18,14 @@ fn archive() -> Result<PathBuf, String> {
         "{VARIABLE} is not set; it names the archive that `tools/archive` makes"
     ))?;
     let path = PathBuf::from(named);
-    // A path that is not absolute starts at the package's folder.
+    // A relative path starts at the package's folder.
     match path.canonicalize() {
         Ok(whole) if whole.is_file() => Ok(whole),
         _ => Err(format!("{VARIABLE}: there is no file {}", path.display())),
     }
 }
 
-/// `path` is a whole one and names a file.
+/// `path` is absolute and names a file.
 fn link(path: &Path) {
     let folder = path.parent().expect("a file stands in a folder");
     let name = path.file_name().expect("a file has a name");

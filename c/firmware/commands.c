@@ -1,5 +1,5 @@
-/* A read-only disk of one unit: the commands that a stock Linux sends to a small disk, and READ FORMAT CAPACITIES, which
-   others ask. Everything else is refused, and the next REQUEST SENSE says why. */
+/* A read-only disk of one unit. It answers the commands that a stock Linux sends to a small disk, and READ FORMAT CAPACITIES,
+   which other hosts send. Everything else is refused, and the next REQUEST SENSE says why. */
 #include "commands.h"
 
 #include "faults.h"
@@ -7,7 +7,7 @@
 
 #include <string.h>
 
-/* Sense key, additional code: the reasons that this disk has. */
+/* Sense key, additional code: the reasons that this disk can give. */
 struct sense {
     uint8_t key, code;
 };
@@ -20,7 +20,7 @@ static const struct sense write_protected = {0x7, 0x27};
 
 static struct sense sense;
 
-static uint8_t built[36]; /* replies that are no part of the list; none is longer than the inquiry */
+static uint8_t built[36]; /* replies that are not part of the list; none is longer than the inquiry */
 
 void commands_start(void) {
     sense = nothing_wrong;
@@ -48,7 +48,7 @@ static void put_be32(uint8_t *at, uint32_t number) {
 }
 
 static struct reply inquiry(const uint64_t *command) {
-    static const char standard[] = "\x00\x80\x05\x02\x1F\0\0\0" /* disk, removable, SPC-3, 31 bytes behind the fifth */
+    static const char standard[] = "\x00\x80\x05\x02\x1F\0\0\0" /* disk, removable, SPC-3, 31 bytes after the fifth */
                                    "SOUKLAVN"
                                    "BATTERY FAULTS  "
                                    "1.00";
@@ -63,13 +63,13 @@ static struct reply request_sense(const uint64_t *command) {
     memset(built, 0, LENGTH);
     built[0] = 0x70;
     built[2] = sense.key;
-    built[7] = LENGTH - 8; /* bytes behind this one */
+    built[7] = LENGTH - 8; /* bytes after this one */
     built[12] = sense.code;
     sense = nothing_wrong;
     return passed_up_to(command[2], LENGTH);
 }
 
-/* Without this answer a laptop takes the disk for writable, and loses what it writes without a word. */
+/* Without this answer a laptop thinks that it can write to the disk, and loses what it writes without any message. */
 static struct reply mode_sense_6(const uint64_t *command) {
     static const uint8_t header[4] = {3, 0, 0x80 /* write protected */, 0};
     memcpy(built, header, sizeof header);
@@ -83,7 +83,7 @@ static struct reply read_capacity_10(void) {
 }
 
 static struct reply read_format_capacities(const uint64_t *command) {
-    put_be32(built, 8); /* bytes behind these four */
+    put_be32(built, 8); /* bytes after these four */
     put_be32(built + 4, FAULT_BLOCKS);
     put_be32(built + 8, FAULT_BLOCK);
     built[8] = 2; /* formatted */

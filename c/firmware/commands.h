@@ -11,7 +11,7 @@ struct reply {
     uint8_t status; /* an enum souk_status */
 };
 
-/* The sense is forgotten: nothing has gone wrong yet. */
+/* Forgets the sense: nothing has gone wrong yet. */
 void commands_start(void);
 
 /* The reply to a command of SOUK_COMMAND_NUMBERS numbers for this unit. Its bytes stay until the next call. */

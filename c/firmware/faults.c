@@ -1,5 +1,5 @@
-/* In a recorder these bytes are in flash memory, and grow. Each entry has 32 bytes: number, day, minute, battery voltage. A
-   place without an entry is a blank line: a byte FFh belongs nowhere, so that filler can never look like the list. */
+/* In a recorder these bytes are in flash memory, and their number grows. Each entry has 32 bytes: number, day, minute, battery
+   voltage. A place without an entry is a blank line. The byte FFh never occurs, so that filler can never look like the list. */
 #include "faults.h"
 
 #define BLANK "                               \n"

@@ -6,7 +6,7 @@
 
 enum { FAULT_BLOCK = 512, FAULT_BLOCKS = 3 };
 
-/* The bytes of the disk from a block on; the address is at most FAULT_BLOCKS. */
+/* The bytes of the disk, starting at a block; the address is at most FAULT_BLOCKS. */
 const uint8_t *faults_from(uint32_t address);
 
 #endif

@@ -1,4 +1,4 @@
-/* The USB peripheral, imitated. The first part is what a firmware has of its real one: flags that the interrupt handler sets,
+/* An imitated USB peripheral. The first part is what a firmware has from a real one: flags that the interrupt handler sets,
    and the buffers of the two bulk endpoints. The second part is the other end of the cable. */
 #ifndef PERIPHERAL_H
 #define PERIPHERAL_H
@@ -20,15 +20,15 @@ struct setup {
 
 /* ---- for the firmware */
 
-/* Since it was asked last. Behind a reset no bulk packet comes or goes before it is asked: the host has to set the device up
-   first. So what the endpoints hold then is from before the reset. */
+/* Whether a reset came since the last time this was asked. After a reset no bulk packet comes or goes before this is asked: the
+   host has to set the device up first. So what the endpoints hold then is from before the reset. */
 bool usb_bus_was_reset(void);
 
 bool usb_setup_came(struct setup *came); /* a control request; it waits for one of the two answers */
 void usb_setup_answer(uint8_t byte);
 void usb_setup_refuse(void);
 
-/* The OUT endpoint has two buffers, so that the host can send on while the firmware works. 0 is the older packet; NULL where
+/* The OUT endpoint has two buffers, so that the host can go on sending while the firmware works. 0 is the older packet; NULL if
    there is none. A packet stays until it is given back. */
 const struct packet *usb_out_packet(unsigned which);
 void usb_out_give_back(unsigned count);

@@ -4,60 +4,60 @@
  * asks its endpoints, hands over what they said, and does what the call tells it to do.
  *
  * WHAT THE FIRMWARE KEEPS
- *   record   SOUK_RECORD_SIZE bytes: the device. The firmware may read it (offsets below) and never writes it.
- *   io       SOUK_IO_SMALLEST to SOUK_IO_LARGEST bytes: data on its way. Always lend the same one, at its full length. Give it
- *            P + 30 bytes or more: with less, a wrapper that comes in pieces may never fit.
- *   packet   P bytes or more: a packet that is to be sent stands here after a poll. P is the packet size of the two bulk
+ *   record   SOUK_RECORD_SIZE bytes: the device. The firmware may read it (offsets below) but never writes it.
+ *   io       SOUK_IO_SMALLEST to SOUK_IO_LARGEST bytes: data on its way. Always lend the same buffer, at its full length. Give
+ *            it P + 30 bytes or more: with less, a wrapper that comes in pieces may never fit.
+ *   packet   P bytes or more: after a poll, the packet that you must send is here. P is the packet size of the two bulk
  *            endpoints: 8, 16, 32 or 64.
  *
  * NO CALL allocates, blocks, keeps a pointer, or has a precondition on values: any bytes, any lengths and any numbers get an
- * answer. A pointer and the length behind it must be true, and what a call may write must overlap nothing else lent to it.
- * A length of 0 is good; the pointer then is not followed, and must not be null. One call at a time for one record: make
- * them all from the main loop, and let interrupt handlers set flags only.
+ * answer. A pointer and the length after it must be true, and what a call may write must not overlap anything else lent to
+ * it. A length of 0 is allowed; the call then does not follow the pointer, but the pointer must not be null. Make only one
+ * call at a time for one record: make all calls from the main loop, and let interrupt handlers only set flags.
  *
  * A TURN OF THE MAIN LOOP
- *   1. Was there a bus reset? Empty both bulk endpoints, unstall them, souk_create again: A BUS RESET, below. A control
- *      request? souk_control.
- *   2. souk_command_step. Is a command offered? Put data in with souk_write_data, or take it with souk_read_data. When the
- *      last byte is in, set the status with souk_set_status, in the same turn.
- *   3. Ask the endpoints, then souk_poll:
+ *   1. Was there a bus reset? Empty both bulk endpoints, unstall them, and call souk_create again: see A BUS RESET, below. Was
+ *      there a control request? Call souk_control.
+ *   2. Call souk_command_step. Is a command offered? Put data in with souk_write_data, or take it with souk_read_data. When
+ *      the last byte is in, set the status with souk_set_status, in the same turn.
+ *   3. Ask the endpoints, then call souk_poll:
  *        OUT  offer up to two packets that have come in: 'one' is the older. Its answer 'first' is 0 if the packet is there
- *             and 1 (busy) if not; 'second' goes with 'two' in the same way. A packet of no bytes is a packet.
+ *             and 1 (busy) if not; 'second' is the same for 'two'. A packet of no bytes is also a packet.
  *        IN   'write' is 0 if the IN endpoint would accept a packet now, and 1 (busy) if not.
  *   4. After the poll, in this order:
- *        souk_stalls(word)  what to do with the two bulk endpoints' stalls.
- *        souk_taken(word)   0, 1 or 2 packets were taken, 'one' first. Give those buffers back to the hardware. A packet that
- *                           was not taken is to be offered again, in front of any newer one.
- *        souk_count(word)   n > 0 bytes are sent: they stand in the first n bytes of 'packet'. Hand exactly them to the IN
- *                           endpoint, as one packet, before the next poll. n is never above 0 where 'write' was not 0.
- *      Do all three whatever the answer is: a poll that ends with 4 or 6 may have moved on before.
- *   The answer 6 (busy) is no fault. Call again later, with nothing undone and nothing repeated by the firmware. 4 and, in
- *   state 7, 1 say that the firmware has to write or read data first.
+ *        souk_stalls(word)  what to do with the stalls of the two bulk endpoints.
+ *        souk_taken(word)   0, 1 or 2 packets were taken, 'one' first. Give those buffers back to the hardware. If a packet
+ *                           was not taken, offer it again, before any newer one.
+ *        souk_count(word)   if this is n > 0, send the first n bytes of 'packet': hand exactly these bytes to the IN
+ *                           endpoint, as one packet, before the next poll. If 'write' was not 0, n is 0.
+ *      Do all three whatever the answer is: a poll that ends with 4 or 6 may have gone on to another state first.
+ *   The answer 6 (busy) is not a fault. Poll again later; the firmware must not undo or repeat anything. The answer 4, and the
+ *   answer 1 in state 7, mean that the firmware has to write or read data first.
  *
- * A BUS RESET, or a plug that was pulled, breaks the present command off, and the host knows nothing of it any more. Before the
+ * A BUS RESET, or a plug that was pulled, breaks off the present command, and the host no longer knows about it. Before the
  * next poll, in this order:
- *   1. Empty both bulk endpoints. A packet that was handed to IN and not yet fetched must not go out behind the reset. OUT
- *      packets that came before the reset must not be offered behind it. Not every peripheral does this by itself, and the main
- *      loop may hand one more packet over before it sees the reset. Do it before the host can send again, for a packet that
- *      comes behind the reset is its next command: drop none of those.
+ *   1. Empty both bulk endpoints. A packet that was handed to IN and is not yet fetched must not go out after the reset. OUT
+ *      packets that came before the reset must not be offered after it. Not every peripheral does this by itself, and the main
+ *      loop may hand over one more packet before it sees the reset. Do this before the host can send again, because a packet
+ *      that comes after the reset is its next command: do not drop any of those.
  *   2. Unstall both.
- *   3. souk_create, with the same numbers. Not souk_reset, which keeps unread bytes in io.
- *   4. Forget the command that the firmware was at work on.
- * Seen where IN kept its packet: 64 bytes of the list went out as the answer to INQUIRY, statuses came one command late, and
- * the disk was gone. Seen with souk_reset in the place of souk_create: what was left of a read stood in front of every later
- * wrapper, and neither replugging nor further resets brought the disk back.
+ *   3. Call souk_create, with the same numbers. Do not call souk_reset: it keeps unread bytes in io.
+ *   4. Forget the command that the firmware was working on.
+ * What was seen when IN kept its packet: 64 bytes of the list went out as the answer to INQUIRY, statuses came one command
+ * late, and the disk was gone. What was seen with souk_reset in place of souk_create: the rest of a read stood before every
+ * later wrapper, and neither replugging nor further resets brought the disk back.
  *
  * WHAT GOES TO THE HOST is what was put in, then filler FFh up to the length that the host asked for, then the status. So
- *   - offer commands of exactly 31 bytes only. The polls also take longer messages, and bytes behind a wrapper go back to the
- *     host in front of the data. With P 32 or 64 a wrapper is one packet: in states 0 and 3 ask souk_verdict about 'one', and
- *     where it is SOUK_INVALID offer 31 zeros in its place. Both endpoints are then stalled, as the standard wants it;
+ *   - only offer commands of exactly 31 bytes. The polls also take longer messages, and then the bytes after the wrapper go
+ *     back to the host before the data. With P 32 or 64 a wrapper is one packet: in states 0 and 3 ask souk_verdict about
+ *     'one', and if it says SOUK_INVALID offer 31 zeros in its place. Both endpoints are then stalled, as the standard says;
  *   - put in at most L bytes for one command (SOUK_AT_DECLARED): more would go out;
  *   - put in all that fits before each poll: with less than P left, what is there goes out at once as a short packet, and a
  *     short packet ends the host's read;
- *   - then give the status, with the figure that was truly put in. The host learns from the residue where the filler starts.
- *     A figure that is too large turns filler into data.
+ *   - then give the status, with the number of bytes truly put in as the figure. The host learns from the residue where the
+ *     filler starts. If the figure is too large, filler counts as data.
  *
- * THE STATES (souk_state; arrows are gone along within one poll; reset and the request FF lead from every state to 0)
+ * THE STATES (souk_state; arrows are followed within one poll; reset and the request FF lead from every state to 0)
  *
  *    0 command --- invalid wrapper ---> 1 both endpoints stalled
  *       |
@@ -69,7 +69,7 @@
  *       +-- from host --> 7 reads -------- left 0 ---------------> 5
  *                            +------------ status --> 8 reads and drops ------ left 0 ---> 3
  *
- *    call                             makes sense in state
+ *    call                             makes sense in states
  *    souk_poll                        all
  *    souk_command_step, souk_command  2, 4, 5, 7 (in 1 they show an old command or an empty one: do not act on it)
  *    souk_write_data, ..._all         4
@@ -98,35 +98,35 @@ enum {
     SOUK_LUN_LARGEST = 15
 };
 
-/* The answers. 'As before' means: record, io, packet, dst, block and command have the bytes they had before the call. */
+/* The answers. 'As before' means: record, io, packet, dst, block and command hold the same bytes as before the call. */
 enum souk_answer {
     SOUK_DONE = 0,
-    /* No room. From a poll: fewer than P bytes are free for an OUT packet; the packet was not taken. The state reached stays,
-       unread bytes may have moved to the front of io and are the same. In state 7: souk_read_data, then poll. In state 0:
+    /* No room. From a poll: fewer than P bytes are free for an OUT packet; the packet was not taken. The state reached stays;
+       unread bytes may have moved to the front of io but are the same. In state 7: call souk_read_data, then poll. In state 0:
        bytes of a command that was broken off are in the way; create the record anew. From souk_try_write_data_all: the source
-       does not fit; nothing of it was taken, unread bytes may have moved to the front of io. */
+       does not fit; nothing of it was taken, but unread bytes may have moved to the front of io. */
     SOUK_IO_BUFFER_OVERFLOW = 1,
     SOUK_INVALID_MAX_LUN = 2, /* souk_create: max_lun is above 15. There is no device; the record is as before */
     SOUK_INVALID_STATE = 3,   /* read call outside 7, write call outside 4. As before */
-    /* A poll in state 4: at least P bytes are to be sent, fewer than P are there, and there is no status. The state reached
-       stays. Write data, or set the status if there is no more. */
+    /* A poll in state 4: at least P bytes are left, fewer than P are there, and there is no status. The state reached stays.
+       Write data, or set the status if there is no more. */
     SOUK_FULL_PACKET_EXPECTED = 4,
     SOUK_BUFFER_TOO_SMALL = 5, /* souk_create: size is below 31 or below P. There is no device; the record is as before */
     SOUK_WOULD_BLOCK = 6,      /* a poll needed an endpoint that is busy. What was reached stays: poll again */
-    SOUK_ENDPOINT_FAILED = 7,  /* a poll needed an endpoint that gave an error: souk_carried has it. What was reached stays */
+    SOUK_ENDPOINT_FAILED = 7,  /* a poll needed an endpoint that gave an error: see souk_carried. What was reached stays */
     SOUK_INVALID_PACKET_SIZE = 8, /* souk_create: P is not 8, 16, 32 or 64. There is no device; the record is as before */
     SOUK_BUFFER_TOO_LARGE = 9,    /* souk_create: size is above 65,536. There is no device; the record is as before */
-    /* The record is broken: the length of record or io is not the one of the creation, or the bytes are none that these calls
-       leave. Somebody else wrote into it. Also: record, block or command lent with a wrong length. As before. The only way on
-       is souk_create. */
+    /* The record is broken: record or io does not have the length that it had at creation, or these calls never leave such
+       bytes, so something else wrote into the record. Also: record, block or command was lent with a wrong length. As before.
+       Only souk_create helps. */
     SOUK_BROKEN_RECORD = 10,
     SOUK_PACKET_REFUSED = 11, /* a poll: an offered packet is longer than P, or 'packet' has fewer than P bytes. As before */
     SOUK_STATUS_REFUSED = 12, /* souk_set_status: in state 0, 1, 3, 6 or 8, or a status byte above 2. As before */
     SOUK_EMPTY_BLOCK = 13     /* decoding a block of no bytes. Nothing was done */
 };
 
-/* What an endpoint said, for 'first', 'second' and 'write'. Any other number is an error of the firmware's own; a poll that
-   needed this endpoint answers 7 and carries the number. */
+/* What an endpoint said, for 'first', 'second' and 'write'. Any other number is an error whose meaning the firmware chooses; a
+   poll that needed this endpoint answers 7 and carries the number. */
 enum souk_endpoint {
     SOUK_ENDPOINT_READY = 0,
     SOUK_ENDPOINT_BUSY = 1
@@ -142,7 +142,7 @@ enum souk_stalls {
 enum souk_state {
     SOUK_COMMAND_TRANSFER = 0,         /* waits for a wrapper */
     SOUK_COMMAND_TRANSFER_INVALID = 1, /* got an invalid one: both endpoints stalled until a reset */
-    SOUK_NO_DATA = 2,                  /* gone through within a poll, never seen between calls */
+    SOUK_NO_DATA = 2,                  /* passed within a poll, never seen between calls */
     SOUK_STATUS_TRANSFER = 3,
     SOUK_TO_HOST = 4,
     SOUK_STATUS_AWAITED = 5, /* all data is through, or there is none: set the status */
@@ -169,7 +169,7 @@ enum souk_direction {
     SOUK_DIRECTION_FROM_HOST = 2
 };
 
-/* command[0]; behind it what stands in command[1], [2] and so on. Numbers without a meaning are 0. */
+/* command[0]; each comment says what stands in command[1], [2] and so on. Numbers without a meaning are 0. */
 enum souk_kind {
     SOUK_UNKNOWN = 0,                /* opcode */
     SOUK_INQUIRY = 1,                /* EVPD, page, allocation length */
@@ -192,7 +192,7 @@ enum souk_page_control {
     SOUK_SAVED_VALUES = 3
 };
 
-/* Where things stand in the record, for reading. Four-byte numbers are little-endian: souk_number reads them. */
+/* Where each field stands in the record, for reading. Four-byte numbers are little-endian: souk_number reads them. */
 enum souk_record {
     SOUK_AT_PACKET_SIZE = 0,    /* 1 byte */
     SOUK_AT_MAX_LUN = 1,        /* 1 */
@@ -202,8 +202,8 @@ enum souk_record {
     SOUK_AT_READ_MARK = 8,      /* 4: unread bytes of io start here */
     SOUK_AT_WRITE_MARK = 12,    /* 4: and end here */
     SOUK_AT_LEFT = 16,          /* 4: bytes of this command still to go over the wire */
-    SOUK_AT_RESIDUE = 20,       /* 4: as the status reports it; old where none is present */
-    SOUK_AT_STATUS = 24,        /* 1: souk_status; old where none is present */
+    SOUK_AT_RESIDUE = 20,       /* 4: as the status reports it; an old value if none is present */
+    SOUK_AT_STATUS = 24,        /* 1: souk_status; an old value if none is present */
     SOUK_AT_DIRECTION = 25,     /* 1: souk_direction */
     SOUK_AT_LUN = 26,           /* 1 */
     SOUK_AT_BLOCK_LENGTH = 27,  /* 1: 0 before the first wrapper, then 1 to 16 */
@@ -212,7 +212,7 @@ enum souk_record {
     SOUK_AT_BLOCK = 36          /* 16: the command block */
 };
 
-/* ---- The parts of a 64-bit result. What a call does not give is 0 in it. */
+/* ---- The parts of a 64-bit result. A part that a call does not give is 0. */
 
 static inline uint32_t souk_answer(uint64_t word) {
     return (uint32_t)(word & 255u);
@@ -255,76 +255,77 @@ static inline uint32_t souk_number(const uint8_t *record, size_t at) {
            (uint32_t)record[at + 3] << 24;
 }
 
-/* ---- The calls. Every call that takes a record, but souk_create, answers 10 first if the record is broken. */
+/* ---- The calls. Every call that takes a record, except souk_create, first answers 10 if the record is broken. */
 
-/* A new device into the record's 52 bytes, whatever they were. Answers 0; 2, 5, 8, 9, looked at in this order; then 10 if the
-   record has not 52 bytes.
+/* Makes a new device in the record's 52 bytes, whatever they were. Answers 0; or 2, 5, 8, 9, tested in this order; then 10 if
+   the record does not have 52 bytes.
    packet_size  P: 8, 16, 32 or 64
    max_lun      the highest unit number, 0 to 15: 0 for one disk
    size         the length of io
-   Call it at power-up and at every bus reset. Empty both endpoints before it and unstall them: A BUS RESET, above, has the
-   order and the reasons. */
+   Call it at power-up and at every bus reset. Empty both endpoints and unstall them first: A BUS RESET, above, has the order
+   and the reasons. */
 uint32_t souk_create(uint8_t *record, size_t record_len, uint32_t packet_size, uint8_t max_lun, uint32_t size);
 
-/* One turn of the device, as told above. Answers 0, 1, 4, 6, 7, 10, 11. */
+/* One turn of the device, as described above. Answers 0, 1, 4, 6, 7, 10, 11. */
 uint64_t souk_poll(uint8_t *record, size_t record_len, uint8_t *io, size_t io_len, uint8_t *packet, size_t packet_len,
                    const uint8_t *one, size_t one_len, const uint8_t *two, size_t two_len, uint8_t first, uint8_t second,
                    uint8_t write);
 
-/* The status of the present command. The next poll goes on to it; a later call before that replaces it. Answers 0, 10, 12.
+/* Sets the status of the present command. The next poll goes on to it; another call before that poll replaces it. Answers 0,
+   10, 12.
    status  an enum souk_status
-   figure  how many bytes of L were dealt with: put in for the host, or taken from it. The host is told L less the figure, and
-           0 if the figure is above L. */
+   figure  how many bytes of L were dealt with: put in for the host, or taken from it. The host is told L less the figure, or 0
+           if the figure is above L. */
 uint32_t souk_set_status(uint8_t *record, size_t record_len, const uint8_t *io, size_t io_len, uint8_t status,
                          uint32_t figure);
 
-/* Takes data that came from the host: as much as is there and fits into dst. The rest of dst is kept. Take all of it before the
-   next poll: once nothing is left on the wire, or a status is set, the poll drops what was not taken. Answers 0, 3, 10. */
+/* Takes data that came from the host: as much as is there and fits into dst. The rest of dst is kept. Take all the data before
+   the next poll: once nothing is left on the wire, or a status is set, the poll drops what was not taken. Answers 0, 3, 10. */
 uint64_t souk_read_data(uint8_t *record, size_t record_len, const uint8_t *io, size_t io_len, uint8_t *dst, size_t dst_len);
 
-/* Puts in data for the host: as much of src as fits, and at most as much as is left on the wire (unread bytes that were put
-   in before are not counted against that). Go on with the rest after the next poll. Answers 0, 3, 10. */
+/* Puts in data for the host: as much of src as fits, but at most as many bytes as are left on the wire (unread bytes that were
+   put in before do not count here). Go on with the rest after the next poll. Answers 0, 3, 10. */
 uint64_t souk_write_data(uint8_t *record, size_t record_len, uint8_t *io, size_t io_len, const uint8_t *src,
                          size_t src_len);
 
-/* Puts in all of src, or nothing and answers 1. It is not limited by what is left: more than L would go out if more than L is
-   put in. Answers 0, 1, 3, 10. */
+/* Puts in all of src, or puts in nothing and answers 1. What is left does not limit it: if more than L is put in, more than L
+   would go out. Answers 0, 1, 3, 10. */
 uint64_t souk_try_write_data_all(uint8_t *record, size_t record_len, uint8_t *io, size_t io_len, const uint8_t *src,
                                  size_t src_len);
 
-/* NOT for a bus reset: see A BUS RESET, above. Breaks the present command off: state 0, no status, nothing left, both endpoints
-   to be unstalled. Unread bytes stay in io, and the next wrapper is read behind them. It is the reset of the Rust crate
+/* NOT for a bus reset: see A BUS RESET, above. Breaks off the present command: state 0, no status, nothing left, both endpoints
+   to be unstalled. Unread bytes stay in io, and the next wrapper is read in after them. This is the reset of the Rust crate
    usbd-storage, for those who want exactly that. Answers 0, 10. */
 uint64_t souk_reset(uint8_t *record, size_t record_len, const uint8_t *io, size_t io_len);
 
 /* A control request's first two bytes. Hand over only requests for the disk's own interface (wIndex): the other bytes are not
-   looked at. Answers 0, 10; 0 also where the request does not count and nothing was done.
-   A1h, FEh (Get Max LUN): souk_flag is 1 and souk_count the byte to answer.
-   A1h, FFh: as souk_reset, unread bytes stay; souk_stalls says to unstall. BOT's own reset request is 21h, FFh and does not
-   count here. */
+   looked at. Answers 0, 10; it also answers 0 if the request does not count and nothing was done.
+   A1h, FEh (Get Max LUN): souk_flag is 1 and souk_count is the byte to answer.
+   A1h, FFh: the same as souk_reset, unread bytes stay; souk_stalls says to unstall. BOT's own reset request is 21h, FFh and
+   does not count here. */
 uint64_t souk_control(uint8_t *record, size_t record_len, const uint8_t *io, size_t io_len, uint8_t request_type,
                       uint8_t request);
 
-/* The command block as it came, in every state but 0: souk_flag, souk_lun, souk_count bytes in front of the 16. Where none is
-   shown block is kept. Answers 0, 10 (also if block has not 16 bytes). */
+/* Shows the command block as it came, in every state but 0: see souk_flag and souk_lun; the first souk_count of the 16 bytes
+   are the block. If none is shown, block is kept. Answers 0, 10 (also if block does not have 16 bytes). */
 uint64_t souk_command(const uint8_t *record, size_t record_len, const uint8_t *io, size_t io_len, uint8_t *block,
                       size_t block_len);
 
-/* The command decoded, where one waits for the firmware: in every state but 0 while there is no status, so it is offered again
-   and again until the status is set. Where none is offered command is kept. In state 1 it is no new command. Answers 0, 10
-   (also if command has not 6 numbers), 13 (state 1 before the first good wrapper). */
+/* Decodes the command that waits for the firmware, in every state but 0 while there is no status. So it is offered again and
+   again until the status is set. If none is offered, command is kept. In state 1 it is not a new command. Answers 0, 10 (also
+   if command does not have 6 numbers), 13 (state 1 before the first good wrapper). */
 uint64_t souk_command_step(const uint8_t *record, size_t record_len, const uint8_t *io, size_t io_len, uint64_t *command,
                            size_t command_len);
 
 /* Decodes a block into six numbers: kind and fields. A block that is too short for its opcode is SOUK_UNKNOWN, and so are READ
-   (16) and WRITE (16). Answers 0, 10 (command has not 6 numbers), 13 (empty block); with 10 and 13 command is kept. */
+   (16) and WRITE (16). Answers 0, 10 (command does not have 6 numbers), 13 (empty block); with 10 and 13 command is kept. */
 uint32_t souk_decode(const uint8_t *block, size_t block_len, uint64_t *command, size_t command_len);
 
-/* The same; with extended 1 READ (16) and WRITE (16) are known too, with 0 not. Any other number: 10. */
+/* The same, but if extended is 1, READ (16) and WRITE (16) are known too; if it is 0, they are not. Any other number: 10. */
 uint32_t souk_decode_told(const uint8_t *block, size_t block_len, uint32_t extended, uint64_t *command, size_t command_len);
 
-/* What BOT says of one received message, as an enum souk_verdict and no answer. The polls do not ask it: they take messages
-   that BOT calls invalid (in pieces, or longer than 31 bytes) and units above max_lun. */
+/* What BOT says of one received message: an enum souk_verdict, not an answer. The polls do not use it: they take messages that
+   BOT calls invalid (in pieces, or longer than 31 bytes), and units above max_lun. */
 uint32_t souk_verdict(const uint8_t *message, size_t message_len, uint8_t max_lun);
 
 #ifdef __cplusplus

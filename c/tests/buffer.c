@@ -1,8 +1,8 @@
 /* Replays buffer operations on the proved buffer and prints what each left.
    Standard input: the operations that judge/oracle/buffer-ops writes. Standard output: a line for each,
        op answer count read write CONTENT [DESTINATION]
-   as judge/oracle/buffer-ops writes it for buffer.rs. Before that, broken marks are handed to every call, which buffer.rs cannot
-   be given: each has to answer 10 and to leave everything as it was.
+   as judge/oracle/buffer-ops writes it for buffer.rs. Before that, every call is given broken marks, which buffer.rs cannot be
+   given: each call has to answer 10 and to leave everything as it was.
    The kit has no C headers, so the few names used are declared here. */
 typedef __UINT8_TYPE__ uint8_t;
 typedef __UINT32_TYPE__ uint32_t;

@@ -3,7 +3,7 @@
        parse                                       a message in hex
        status                                      tag, length, figure and status byte, decimal
        verdict                                     max LUN in decimal and a message in hex; prints the verdict's number
-   The mode refusals reads nothing: every refusal has to give its number and to leave all that was lent as it was.
+   The mode 'refusals' reads nothing: every refusal has to give its number and to leave all that was lent as it was.
    The kit has no C headers, so the few names used are declared here. */
 typedef __UINT8_TYPE__ uint8_t;
 typedef __UINT32_TYPE__ uint32_t;
@@ -39,7 +39,7 @@ static void require(int ok, const char *what) {
     }
 }
 
-/* The next line, without its end; 0 where there is none. */
+/* The next line, without its end; 0 if there is none. */
 static int next_line(void) {
     size_t n = 0;
     int c;
@@ -65,7 +65,7 @@ static size_t hex(void) {
     return n;
 }
 
-/* A decimal number and the space or the end behind it. */
+/* A decimal number, and the space or the end after it. */
 static uint32_t number(uint32_t most) {
     uint64_t n = 0;
     require(*at != 0 && *at != ' ', "a number is missing");
@@ -87,7 +87,7 @@ static void print_hex(const uint8_t *s, size_t n) {
     putchar('\n');
 }
 
-/* By kind: the command's name and those of its fields. Where there is no name the number has to be 0. */
+/* By kind: the name of the command and the names of its fields. A number without a name has to be 0. */
 static const char *const words[][COMMAND] = {
     {"Unknown", "opcode"},
     {"Inquiry", "evpd", "page", "allocation"},
@@ -102,7 +102,7 @@ static const char *const words[][COMMAND] = {
     {"ReadFormatCapacities", "allocation"},
 };
 
-/* What the codecs are lent for their results, each with room for one more. All of it is 0xEE before a call. */
+/* What is lent to the codecs for their results, each with room for one more. All of it is 0xEE before a call. */
 static struct {
     uint64_t command[COMMAND + 1];
     uint32_t fields[FIELDS + 1];
@@ -193,7 +193,7 @@ static void refuses_message(const char *what, const uint8_t *message, size_t n) 
     refusal(what, wrapper_parse(message, n, lent.fields, FIELDS, lent.block, BLOCK), 0);
 }
 
-/* Three lengths that are not the right one. */
+/* Three wrong lengths. */
 static size_t wrong(size_t right, size_t which) { return (size_t[]){0, right - 1, right + 1}[which]; }
 
 static void refusals(void) {

@@ -1,15 +1,15 @@
-/* Corrupted records. A record is the firmware's memory, and a stray pointer can write into it; whatever it then holds, every
-   call has to answer, and to refuse it with 10 exactly where document 01 calls it broken.
+/* Corrupted records. A record is in the firmware's memory, and a stray pointer can write into it. Whatever the record then
+   holds, every call has to answer, and has to refuse it with 10 exactly if document 01 calls it broken.
    Sixteen good records are reached by polls: P 8 and 64, in every state that a device can be left in. Then each byte of each is
-   set to each value, and each is lent with each wrong length up to 60. To that come records of any bytes and any length, and
-   good ones with several bytes changed.
-   Each goes to every call that takes a record. What is looked at:
+   set to each value, and each is lent with each wrong length up to 60. Records of any bytes and any length are added, and good
+   ones with several bytes changed.
+   Each record goes to every call that takes one. This is tested:
      - a broken record, or a wrong length of block or command, gives 10 and nothing else, and not one byte changes;
      - any other record gives another answer, one that this call has, and is not broken afterwards;
-     - 3, 11, 12 and 13 change nothing; a packet behind the bytes sent and a destination behind those read are kept;
+     - 3, 11, 12 and 13 change nothing; a packet after the bytes sent, and a destination after those read, are kept;
      - what is lent for reading, and the bytes around all that is lent, are kept.
-   A fault ends the program with a line that says which. Compiled with GUARD 0 it lends exact heap blocks, for a tool that
-   watches their ends. */
+   A fault ends the program with a line that says which. If it is compiled with GUARD 0, it lends heap blocks of the exact size,
+   for a tool that watches their ends. */
 #include "souklavanh.h"
 
 #include <stdbool.h>
@@ -24,7 +24,7 @@
 enum { IO_LENGTH = 80, LONGEST_RECORD = 60, RANDOM_RECORDS = 100000 };
 enum { WRAPPER = 31, REST = 7 }; /* the bytes of a wrapper, and how many of them the good records in state 0 wait for */
 
-/* ---- What is lent. It stands at its block's end, so that the guard is right behind it whatever its length is. */
+/* ---- What is lent. It stands at the end of its block, so that the guard comes right after it, whatever its length is. */
 
 enum area { RECORD, IO, PACKET, DST, BLOCK, COMMAND, SRC, ONE, TWO, AREAS };
 
@@ -54,7 +54,7 @@ static void *block_of(size_t size) {
 
 /* ---- Faults */
 
-static char where[120]; /* which record is at work */
+static char where[120]; /* which record is being tried */
 
 static _Noreturn void fault(const char *call, const char *what, uint64_t word) {
     printf("%s, %s: %s (result %llx)\n", where, call, what, (unsigned long long)word);
@@ -149,7 +149,7 @@ static uint64_t call_command_step(void) {
 
 #define BIT(n) (1u << (n))
 
-/* What each call may write, which answers it has beside 10, and which bits of its result have a meaning. */
+/* What each call may write, which answers it has besides 10, and which bits of its result have a meaning. */
 static const struct call {
     const char *name;
     uint64_t (*make)(void);
@@ -265,7 +265,7 @@ static void feed_wrapper(struct good *g, const char *signature, uint8_t declared
     feed(g, bytes, WRAPPER);
 }
 
-/* All of it but the last bytes. */
+/* All of the wrapper except its last bytes. */
 static void feed_most_of_a_wrapper(struct good *g) {
     uint8_t bytes[WRAPPER];
     fill_wrapper(bytes, "USBC", 200, 0x80);
@@ -333,7 +333,7 @@ static void put_wrapper_before(uint32_t packet_size) {
     put_before(ONE, bytes + WRAPPER - length[ONE], length[ONE]);
 }
 
-/* The record and the good one's IO buffer; everything else, and the guards, have random bytes. */
+/* The record, and the IO buffer of the good record; everything else, and the guards, hold random bytes. */
 static void try_record(const struct good *g, const uint8_t *record, size_t count) {
     choose_arguments(g);
     length[RECORD] = count;
@@ -367,7 +367,7 @@ static void try_any_bytes(const struct good *g, unsigned which) {
     try_record(g, record, count);
 }
 
-/* Good bytes, lent too short or with others behind them: only the length is wrong. */
+/* Good bytes, lent too short or with others after them: only the length is wrong. */
 static uint64_t try_each_length(const struct good *g) {
     uint64_t tried = 0;
     for (size_t count = 0; count <= LONGEST_RECORD; count++) {

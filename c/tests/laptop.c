@@ -1,6 +1,6 @@
-/* The depot's laptop, and the program's main: it finds the disk, reads the fault list out, makes the mistakes that laptops and
-   cables make, and reads again. It sends what a stock Linux sends to a small disk. It judges what comes back by Bulk-Only
-   Transport alone, and prints what it saw; a breach ends it. While it waits, the firmware turns. */
+/* The depot's laptop, and the program's main: it finds the disk, reads out the fault list, makes the mistakes that laptops and
+   cables make, and reads again. It sends what a stock Linux sends to a small disk. It judges what comes back only by the rules
+   of Bulk-Only Transport, and prints what it saw; a broken rule ends it. While it waits, the firmware turns. */
 #include "firmware.h"
 #include "peripheral.h"
 
@@ -124,8 +124,8 @@ static uint32_t receive_status(const struct request *r) {
     return residue;
 }
 
-/* A whole command: wrapper, data, status. Returns how many bytes of data are the disk's: all but the residue, for what is
-   behind them is filler. */
+/* A whole command: wrapper, data, status. Returns how many bytes of data are the disk's: all except the residue, because what
+   comes after them is filler. */
 static uint32_t run(const struct request *r) {
     size_t got = 0;
     printf("%s: ", r->name);
@@ -171,7 +171,7 @@ static bool is_blank(const uint8_t *line) {
     return true;
 }
 
-/* Whoever orders by this list must find entries and blank lines in it and nothing else. */
+/* Those who order from this list must find only entries and blank lines in it. */
 static void require_line(const uint8_t *line) {
     for (int i = 0; i < LINE - 1; i++) require(line[i] >= ' ' && line[i] <= '~', "a byte in the list that is no text");
     require(line[LINE - 1] == '\n', "a line of the list that does not end");
@@ -252,8 +252,8 @@ static void broken_off(void) {
     run(&test_unit_ready);
 }
 
-/* A packet of the read waits in IN and a command in OUT, which the disk does not take within a read. The peripheral keeps both
-   through the reset. What answers the next command must be neither. */
+/* A packet of the read waits in IN, and in OUT waits a command, which the disk does not take within a read. The peripheral
+   keeps both through the reset. Neither of them may become part of the answer to the next command. */
 static void packets_left_behind(void) {
     bus_reset_keeps_packets();
     break_off();

@@ -36,7 +36,7 @@ static uint32_t unread(void) {
     return souk_number(record, SOUK_AT_WRITE_MARK) - souk_number(record, SOUK_AT_READ_MARK);
 }
 
-/* The whole buffer in one call, and bytes moved to its front that are more than 32,767. */
+/* The whole buffer in one call, and more than 32,767 bytes moved to its front. */
 static void counts(void) {
     start(LONG, 0x80);
     same("write_data of 65,536", souk_count(souk_write_data(record, sizeof record, io, sizeof io, source, IO)), IO);
@@ -59,7 +59,7 @@ static void packets(void) {
     same("a packet of 256", souk_answer(poll(source, 256, SOUK_ENDPOINT_READY, P)), SOUK_PACKET_REFUSED);
     same("a packet of 320", souk_answer(poll(source, 320, SOUK_ENDPOINT_READY, P)), SOUK_PACKET_REFUSED);
     same("a packet buffer of 256", souk_answer(poll(source, P, SOUK_ENDPOINT_READY, 256)), SOUK_DONE);
-    /* busy, and failing: nothing is handed over, whatever is lent */
+    /* the endpoint is busy, then it fails: it hands over nothing, whatever is lent */
     for (uint8_t out = SOUK_ENDPOINT_BUSY; out < SOUK_ENDPOINT_BUSY + 2; out++) {
         start(LONG, 0);
         poll(source, 20, out, P);

@@ -1,6 +1,6 @@
-/* Whether the numbers in souklavanh.h are the socket's: sizes, limits, offsets in the record, and the names of the enums. Each
-   is seen in what the calls do, all but state 2, which no call leaves behind. A difference is told with the name and both
-   numbers; it ends the program. */
+/* Tests whether the numbers in souklavanh.h are the socket's: sizes, limits, offsets in the record, and the names of the enums.
+   Each is compared with what the calls do, except state 2, which no call leaves behind. A difference is reported with the name
+   and both numbers, and ends the program. */
 #include "souklavanh.h"
 
 #include <stdio.h>
@@ -20,9 +20,9 @@ static void same(const char *name, uint64_t header, uint64_t socket) {
     exit(1);
 }
 
-/* A name of the header, and what a call gave where the name is due. */
+/* A name of the header, and the number that a call gave for it. */
 #define SAME(name, socket) same(#name, name, socket)
-/* A field of the record, and what it has to hold by now. */
+/* A field of the record, and what it has to hold now. */
 #define BYTE(at, due) same("the byte at " #at, record[at], due)
 #define NUMBER(at, due) same("the number at " #at, souk_number(record, at), due)
 
@@ -85,7 +85,7 @@ static uint32_t created_with(size_t length, uint32_t packet_size, uint8_t max_lu
     return souk_create(any, length, packet_size, max_lun, size);
 }
 
-/* The only length of a record that is taken. */
+/* No other length of a record is taken. */
 static uint64_t record_size(void) {
     size_t length = 0;
     while (length < 255 && created_with(length, P, 0, 64) == 10) length++;
@@ -105,7 +105,7 @@ static void sizes(void) {
     SAME(SOUK_INVALID_MAX_LUN, created_with(SOUK_RECORD_SIZE, 8, SOUK_LUN_LARGEST + 1, 64));
 }
 
-/* Over bytes of two kinds, so that one that is not written shows. */
+/* Over two kinds of bytes, so that a byte that is not written is noticed. */
 static void new_record(void) {
     uint8_t over_zeros[SOUK_RECORD_SIZE];
     memset(record, 0, sizeof record);
@@ -191,7 +191,7 @@ static void invalid_wrappers(void) {
     SAME(SOUK_EMPTY_BLOCK, souk_answer(souk_command_step(record, sizeof record, io, sizeof io, command, SOUK_COMMAND_NUMBERS)));
     SAME(SOUK_STALLS_CLEAR, souk_stalls(souk_reset(record, sizeof record, io, sizeof io)));
     SAME(SOUK_STALLS_KEEP, souk_stalls(idle(SOUK_ENDPOINT_READY)));
-    /* Behind a status: in one poll first 0 and then 1. */
+    /* After a status: in one poll first state 0 and then state 1. */
     offer_wrapper(0, 0);
     set_status(SOUK_PASSED, 0);
     idle(SOUK_ENDPOINT_READY);

@@ -2,7 +2,7 @@
 
 #include <string.h>
 
-/* What an interrupt handler and the hardware share with the main loop. A real one has them volatile. */
+/* What an interrupt handler and the hardware share with the main loop. In a real firmware these are volatile. */
 static bool was_reset;
 static bool reset_keeps_packets;
 static bool setup_waits;

@@ -10,7 +10,7 @@ use oracle::lines::{self, Detail, Run, Step};
 use souklavanh::Device;
 use usbd_storage::transport::bbb::peek::Figures;
 
-/// The lines, which are the same from both.
+/// Returns the lines, which are the same from both.
 pub fn file(events: &[Event], tally: &mut Tally) -> Checked<String> {
     let allocator = lines::allocator();
     let mut rust = Run::new(&allocator, Detail::Lines);
@@ -69,7 +69,7 @@ fn compare_shown(device: &Device, rust: &Figures) -> Checked {
     same("command shown", &shown, &due)
 }
 
-/// The record in the Rust's terms. Max LUN is none of its figures; that one stays is looked at behind every call.
+/// The record in the Rust's terms. Max LUN is not one of its figures; it is tested after every call that max LUN stays.
 fn figures_of(record: &[u8]) -> Figures {
     Figures {
         state: record[layout::STATE],

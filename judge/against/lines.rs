@@ -14,7 +14,7 @@ pub fn answer(answer: impl Fn(&str) -> Checked<String>) -> Checked {
     output.flush().map_err(|error| error.to_string())
 }
 
-/// The decoder that is told has to say the same as the plain one where extended addressing is off.
+/// The decoder that is told has to say the same as the plain one if extended addressing is off.
 pub fn decoded(line: &str, extended: bool) -> Checked<String> {
     let block = oracle::lines::from_hex(line);
     let told = decode_told(&block, extended);

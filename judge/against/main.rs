@@ -1,7 +1,7 @@
-//! The archive against the Rust, in one process: bench files go to both, and behind every event everything is compared.
+//! The archive against the Rust, in one process: bench files go to both, and after every event everything is compared.
 //! `judge/against/run` builds this program over the oracle's library and starts it.
 //!
-//!     vectors FOLDER          all good files of the folder, and their lines with those kept beside them
+//!     vectors FOLDER          all good files of the folder; their lines are compared with those kept next to them
 //!     random EVENTS [SEED]    files of the oracle's generator, 1,000 for each seed from SEED on (1 if none is given),
 //!                             until at least EVENTS events are compared
 //!     decode [--extended]     a decoded command for each line of hex digits on standard input, as `judge/oracle/run --decode`

@@ -5,7 +5,7 @@ use crate::bench::{Checked, require};
 use crate::compare;
 use oracle::generator::{self, Generator, Made};
 
-/// Whole seeds, until so many events are compared.
+/// Whole seeds, until this many events are compared.
 pub fn compare(events: &str, seed: &str) -> Checked {
     let number = |word: &str| {
         word.parse::<u64>()
@@ -33,7 +33,7 @@ fn compare_made(made: &Made, tally: &mut Tally) -> Checked {
     )
 }
 
-/// Keeps the file beside this program, for `judge/oracle/run --show`.
+/// Keeps the file next to this program, for `judge/oracle/run --show`.
 fn keep(file: &[u8]) -> String {
     let written = std::env::current_exe().and_then(|program| {
         let path = program.with_file_name("different.bot");
@@ -49,7 +49,7 @@ fn compare_seed(seed: u64, tally: &mut Tally) -> Checked {
     let mut generator = Generator::new(seed);
     for index in 0..generator::DEFAULT_COUNT {
         let made = generator.next_file();
-        // One that breaks a rule of the bench file has no events, and there is nothing to play.
+        // A file that breaks a rule of the bench file has no events, so there is nothing to play.
         if made.text == "14\n" {
             continue;
         }

@@ -1,4 +1,4 @@
-//! The good files of a folder, with the lines kept beside them.
+//! The good files of a folder, with the lines kept next to them.
 
 use crate::bench::Checked;
 use crate::bench::play::Tally;

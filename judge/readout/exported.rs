@@ -1,4 +1,4 @@
-//! The exported calls, straight: `ffi`'s functions are inlined and leave the call itself.
+//! The exported calls, made directly: `ffi`'s functions are inlined, so that only the call itself remains.
 
 use crate::story::{BUFFER, LARGEST_PACKET, Side};
 use souklavanh::RECORD_LENGTH;

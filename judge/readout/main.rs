@@ -1,7 +1,7 @@
 //! How long a block takes through the exported calls and through the Rust, in one process. `judge/readout/run` builds and
 //! starts this program; docs/READOUT.md says what is measured.
 //!
-//!     time BLOCKS ROUNDS               a line for each packet size and direction: ns a block of both, and their ratio
+//!     time BLOCKS ROUNDS               a line for each packet size and direction: ns per block of both, and their ratio
 //!     run SIDE DIRECTION P BLOCKS      one side alone, once, and nothing is printed: for counting instructions
 
 mod exported;
@@ -81,7 +81,7 @@ fn time(blocks: u32, rounds: usize) {
     }
 }
 
-/// Without the clock: both sides give the host and the firmware the same bytes and answers, all of them.
+/// Without the clock: tests that both sides give the host and the firmware the same bytes and answers, all of them.
 fn require_same_bytes(story: &Story) {
     let (mut exported, mut original) = (All::default(), All::default());
     by_exported(story, &mut exported);
@@ -89,7 +89,7 @@ fn require_same_bytes(story: &Story) {
     assert_eq!(exported, original, "the two sides part");
 }
 
-/// Nanoseconds a block. The sides take turns, and which of them is first does too.
+/// Nanoseconds per block. The sides take turns, and they also take turns in being first.
 fn medians(story: &Story, rounds: usize) -> (f64, f64) {
     let (mut exported, mut original) = (Vec::new(), Vec::new());
     for round in 0..rounds {

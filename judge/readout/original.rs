@@ -1,5 +1,5 @@
-//! The Rust of docs/src over endpoints that are a few cells. Its calls stand behind functions that are not inlined, as a
-//! library's would.
+//! The Rust of docs/src over endpoints that are a few cells. Its calls are made through functions that are not inlined, like
+//! the functions of a library.
 
 use crate::story::{BUFFER, LARGEST_PACKET, Side};
 use std::cell::{Cell, UnsafeCell};
@@ -37,7 +37,7 @@ impl UsbBus for Cells {
 
     #[inline(always)]
     fn write(&self, packet: &[u8]) -> Result<usize> {
-        // SAFETY: the cell is looked at between polls alone (`Original::packet`), and one thread has it.
+        // SAFETY: the cell is read only between polls (`Original::packet`), and only one thread has it.
         let to = unsafe { &mut *self.packet.get() };
         to[..packet.len()].copy_from_slice(packet);
         self.sent.set(packet.len());
@@ -105,7 +105,7 @@ fn poll(device: &mut Device) -> Polled {
     device.poll()
 }
 
-/// The answer's number, for the three that come up here; another one would make the sums of the two sides differ.
+/// The answer's number, for the three answers that occur here; any other would make the sums of the two sides differ.
 #[inline(always)]
 fn number(polled: Polled) -> u8 {
     match polled {

@@ -4,7 +4,7 @@
 use crate::watch::Watch;
 
 pub const BLOCK: usize = 512;
-/// Of the IO buffer.
+/// The length of the IO buffer.
 pub const BUFFER: usize = 512;
 pub const LARGEST_PACKET: usize = 64;
 const STATUS: usize = 13;
@@ -12,9 +12,9 @@ const WRAPPER: usize = 31;
 
 /// A device, as host and firmware see it.
 pub trait Side {
-    /// One poll, with a packet from the host or none, where IN takes one: the answer, and how much was sent.
+    /// One poll, with a packet from the host or without one, while IN would take a packet: the answer, and how much was sent.
     fn poll(&mut self, offered: Option<&[u8]>) -> (u8, usize);
-    /// What was sent stands in front.
+    /// What was sent is at the front.
     fn packet(&self) -> &[u8; LARGEST_PACKET];
     fn write_data(&mut self, source: &[u8]) -> usize;
     fn read_data(&mut self, destination: &mut [u8]) -> usize;
@@ -73,7 +73,7 @@ impl Story {
         host_takes(side, watch, STATUS);
     }
 
-    /// In packets of P, one a poll.
+    /// In packets of P, one in each poll.
     fn host_sends(&self, side: &mut impl Side, watch: &mut impl Watch, bytes: &[u8]) {
         for packet in bytes.chunks(self.packet_size) {
             let (answer, sent) = side.poll(Some(packet));
@@ -82,7 +82,7 @@ impl Story {
     }
 }
 
-/// Polls until so many bytes are out. Behind a status every poll sends something.
+/// Polls until this many bytes are out. After a status every poll sends something.
 fn host_takes(side: &mut impl Side, watch: &mut impl Watch, count: usize) {
     let mut taken = 0;
     while taken < count {

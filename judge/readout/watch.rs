@@ -1,4 +1,4 @@
-//! What is noted of a run.
+//! What is noted about a run.
 
 pub trait Watch {
     /// A poll's answer, and what it sent.
@@ -7,7 +7,7 @@ pub trait Watch {
     fn read(&mut self, bytes: &[u8]);
 }
 
-/// Little enough to be next to nothing on the clock, and enough that no call can be left out.
+/// It costs almost no time, but it needs the result of every call, so that no call can be left out.
 #[derive(Default)]
 pub struct Light {
     sum: u64,
@@ -24,7 +24,7 @@ impl Watch for Light {
     }
 }
 
-/// A sum over every byte and answer in its order.
+/// A sum over every byte and every answer, in order.
 #[derive(Default, PartialEq, Eq, Debug)]
 pub struct All {
     polls: u64,

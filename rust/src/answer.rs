@@ -1,9 +1,9 @@
-//! What a call answers where it is not done. The numbers are those of the archive.
+//! What a call answers if it was not done. The numbers are those of the archive.
 
 use crate::endpoints::EndpointError;
 use core::fmt;
 
-/// Why a call on a device was not done, or not wholly.
+/// Why a call on a device was not done, or was only done in part.
 ///
 /// ```
 /// use souklavanh::{Device, Error};
@@ -16,7 +16,7 @@ use core::fmt;
 #[derive(Clone, Copy, PartialEq, Eq, Debug)]
 pub enum Error {
     /// The IO buffer has no room for a packet, or not for all bytes of `try_write_data_all`. From a poll that waits for a
-    /// command: bytes of one that was broken off are in the way; [`Device::renew`](crate::Device::renew).
+    /// command: bytes of a command that was broken off are in the way; call [`Device::renew`](crate::Device::renew).
     IoBufferOverflow,
     /// Nothing can be read or written in this state. Nothing has changed.
     InvalidState,
@@ -26,14 +26,14 @@ pub enum Error {
     WouldBlock,
     /// An endpoint failed. What the poll did before stays.
     Endpoint(EndpointError),
-    /// The record is none, or its buffer is another one. Nothing has changed. The only way on is
-    /// [`Device::new`](crate::Device::new).
+    /// The bytes are not a good record, or the buffer is not the one of this record. Nothing has changed. Only
+    /// [`Device::new`](crate::Device::new) helps.
     Broken,
     /// An offered packet is longer than the packet size, or the packet buffer is shorter. Nothing has changed.
     PacketSize,
     /// No status can be set in this state. Nothing has changed.
     StatusRefused,
-    /// The command block is empty: there was no valid wrapper since the creation.
+    /// The command block is empty: no valid wrapper came since the creation.
     EmptyBlock,
 }
 
@@ -89,14 +89,14 @@ impl fmt::Display for Error {
 
 impl core::error::Error for Error {}
 
-/// Why there is no device. They are tested in this order.
+/// Why there is no device. The reasons are tested in this order.
 #[derive(Clone, Copy, PartialEq, Eq, Debug)]
 pub enum CreateError {
     /// Max LUN is above 15.
     InvalidMaxLun,
-    /// The buffer is shorter than 31 bytes, or than a packet.
+    /// The buffer is shorter than 31 bytes, or shorter than a packet.
     BufferTooSmall,
-    /// The packet size is none of 8, 16, 32 and 64.
+    /// The packet size is not 8, 16, 32 or 64.
     PacketSize,
     /// The buffer is longer than 65,536 bytes.
     BufferTooLarge,

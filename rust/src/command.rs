@@ -16,7 +16,7 @@ impl Command {
         Command { lun, bytes, length }
     }
 
-    /// At most 16 bytes; none where there was no valid wrapper since the creation.
+    /// At most 16 bytes; no bytes if no valid wrapper came since the creation.
     pub fn block(&self) -> &[u8] {
         &self.bytes[..usize::from(self.length)]
     }
@@ -150,7 +150,7 @@ fn fit<T: TryFrom<u64>>(number: u64) -> T {
     }
 }
 
-/// Decodes a command block. READ (16) and WRITE (16) are unknown to it, as to usbd-storage without extended addressing.
+/// Decodes a command block. READ (16) and WRITE (16) are unknown here, as they are in usbd-storage without extended addressing.
 ///
 /// ```
 /// use souklavanh::{EmptyBlock, ScsiCommand, decode};
@@ -165,7 +165,7 @@ pub fn decode(block: &[u8]) -> Result<ScsiCommand, EmptyBlock> {
     decoded(ffi::decode(block, &mut numbers), numbers)
 }
 
-/// The same, told whether extended addressing is on.
+/// The same, but you say whether extended addressing is on.
 ///
 /// ```
 /// use souklavanh::{ScsiCommand, decode_told};

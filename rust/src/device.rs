@@ -23,10 +23,10 @@ pub struct Device<'a> {
     io: &'a mut [u8],
 }
 
-/// What a control request came to.
+/// What a control request did.
 #[derive(Clone, Copy, PartialEq, Eq, Debug)]
 pub struct Control {
-    /// The byte that answers the request; none where it is not answered here.
+    /// The byte that answers the request; none if it is not answered here.
     pub answer: Option<u8>,
     pub stalls: Stalls,
 }
@@ -34,8 +34,8 @@ pub struct Control {
 impl<'a> Device<'a> {
     /// A device that waits for a command. The buffer's bytes stay as they are.
     ///
-    /// It is for power-up, and for a record that is broken. Behind a bus reset [`Device::renew`] does the same with the buffer
-    /// that the device has.
+    /// Call it at power-up, and if a record is broken. After a bus reset [`Device::renew`] does the same with the buffer that
+    /// the device already has.
     ///
     /// ```
     /// use souklavanh::{CreateError, Device};
@@ -50,14 +50,14 @@ impl<'a> Device<'a> {
         Ok(Device { record, io })
     }
 
-    /// The bus was reset, or the plug was pulled: a new device over the same buffer, with the same packet size and max LUN. It
-    /// waits for a command, and nothing of the one that was broken off is left. Both endpoints are to be unstalled.
+    /// The bus was reset, or the plug was pulled: makes a new device over the same buffer, with the same packet size and max
+    /// LUN. It waits for a command, and nothing of the broken-off command is left. Unstall both endpoints.
     ///
     /// Before this call the firmware empties both endpoints: [the crate's page](crate#a-bus-reset) says why.
     ///
-    /// A broken record is refused with [`Error::Broken`], and the device stays as it was: where one number of a record is wrong
-    /// its packet size and max LUN cannot be believed, and a device that speaks in packets of another size is worse than none.
-    /// The way on is [`Device::new`], with numbers from the firmware itself.
+    /// A broken record is refused with [`Error::Broken`], and the device stays as it was. If one number of a record is wrong,
+    /// its packet size and max LUN cannot be trusted, and a device that speaks in packets of another size is worse than none.
+    /// Call [`Device::new`] then, with numbers from the firmware itself.
     ///
     /// ```
     /// use souklavanh::{CommandStatus, Device, Endpoints, Stalls, State};
@@ -86,7 +86,7 @@ impl<'a> Device<'a> {
     /// assert_eq!(device.state(), Some(State::DataTransferToHost));
     /// ```
     pub fn renew(&mut self) -> Result<Stalls, Error> {
-        // It refuses a broken record, and its stalls are those of a new start.
+        // This refuses a broken record, and its stalls are those of a new start.
         let stalls = self.reset()?;
         let (packet_size, max_lun) = (self.record[PACKET_SIZE].into(), self.record[MAX_LUN]);
         self.record = new_record(packet_size, max_lun, self.io.len())
@@ -95,7 +95,7 @@ impl<'a> Device<'a> {
     }
 
     /// A device from the bytes of its record, as [`Device::record`] shows them, and its buffer as it was then.
-    /// Bytes that are no record are not refused here: every call answers [`Error::Broken`].
+    /// Bytes that are no record are not refused here: every later call answers [`Error::Broken`].
     ///
     /// ```
     /// use souklavanh::{Device, Error};
@@ -117,7 +117,7 @@ impl<'a> Device<'a> {
         self.io
     }
 
-    /// None where the record is none: one of [`Device::new`] always has a state.
+    /// None if the bytes are no record: a record from [`Device::new`] always has a state.
     pub fn state(&self) -> Option<State> {
         State::from_number(self.record[STATE])
     }
@@ -133,8 +133,8 @@ impl<'a> Device<'a> {
             .saturating_sub(self.number_at(READ_MARK))
     }
 
-    /// Goes on by one poll. The packet buffer has room for a packet; the bytes sent come to stand at its front, and
-    /// the rest of it stays.
+    /// Makes one poll. The packet buffer must have room for a packet; the bytes sent are put at its front, and the rest of it
+    /// stays.
     pub fn poll(&mut self, endpoints: Endpoints, packet: &mut [u8]) -> Poll {
         Poll::from_word(ffi::poll(
             &mut self.record,
@@ -144,32 +144,32 @@ impl<'a> Device<'a> {
         ))
     }
 
-    /// Ends the command: its status, and how many bytes the firmware dealt with. A later one replaces it.
+    /// Ends the command: its status, and how many bytes the firmware dealt with. A later status replaces it.
     pub fn set_status(&mut self, status: CommandStatus, processed: u32) -> Result<(), Error> {
         let answer = ffi::set_status(&mut self.record, self.io, status.number(), processed);
         Error::from_number(answer, 0)
     }
 
-    /// Takes bytes that the host has sent; how many.
+    /// Takes bytes that the host has sent, and returns how many.
     pub fn read_data(&mut self, destination: &mut [u8]) -> Result<usize, Error> {
         counted(ffi::read_data(&mut self.record, self.io, destination))
     }
 
-    /// Puts in bytes for the host, as many as there is room for and as the host still wants; how many.
+    /// Puts in bytes for the host, as many as there is room for and as the host still wants, and returns how many.
     pub fn write_data(&mut self, source: &[u8]) -> Result<usize, Error> {
         counted(ffi::write_data(&mut self.record, self.io, source))
     }
 
-    /// Puts in all of these bytes or none, whether the host wants so many or not.
+    /// Puts in all of these bytes or none, whether the host wants that many or not.
     pub fn try_write_data_all(&mut self, source: &[u8]) -> Result<(), Error> {
         counted(ffi::try_write_data_all(&mut self.record, self.io, source)).map(|_| ())
     }
 
-    /// Breaks the command off and waits for the next: no status, nothing left, both endpoints to be unstalled. What stands
-    /// unread in the IO buffer stays, and the next wrapper is read behind it.
+    /// Breaks off the command and waits for the next: no status, nothing left, both endpoints to be unstalled. Unread bytes
+    /// stay in the IO buffer, and the next wrapper is read in after them.
     ///
-    /// Not for a bus reset, nor for a plug that was pulled: use [`Device::renew`]. Behind unread bytes later wrappers are
-    /// invalid or taken late, or their polls answer [`Error::IoBufferOverflow`], and no further reset mends that. This call is
+    /// Not for a bus reset, nor for a plug that was pulled: use [`Device::renew`]. After unread bytes, later wrappers are
+    /// invalid or taken late, or their polls answer [`Error::IoBufferOverflow`], and no further reset cures that. This call is
     /// the reset of the Rust crate usbd-storage, for those who want exactly that.
     ///
     /// ```
@@ -191,7 +191,7 @@ impl<'a> Device<'a> {
     }
 
     /// A control request: bmRequestType and bRequest. Only the class's own two do anything: A1h with FEh answers max LUN, A1h
-    /// with FFh is as [`Device::reset`].
+    /// with FFh does the same as [`Device::reset`].
     ///
     /// ```
     /// use souklavanh::{Device, Stalls};
@@ -242,7 +242,7 @@ fn new_record(
     io_length: usize,
 ) -> Result<[u8; RECORD_LENGTH], CreateError> {
     let mut record = [0; RECORD_LENGTH];
-    // A longer buffer is too long all the same.
+    // A buffer longer than u32 can say is too long in any case.
     let size = u32::try_from(io_length).unwrap_or(u32::MAX);
     CreateError::from_number(ffi::create(&mut record, packet_size, max_lun, size))?;
     Ok(record)

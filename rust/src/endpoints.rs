@@ -1,9 +1,9 @@
-//! What a poll is told of the endpoints, and what it reports.
+//! What a poll is told about the endpoints, and what it reports.
 
 use crate::answer::Error;
 use crate::ffi;
 
-/// The number of an endpoint's own error: 2 to 255. 0 and 1 are no errors; they stand for doing its part and being busy.
+/// The number of an endpoint's error: 2 to 255. 0 and 1 are not errors: 0 is an endpoint that does its part, 1 a busy one.
 #[derive(Clone, Copy, PartialEq, Eq, Debug)]
 pub struct EndpointError(u8);
 
@@ -94,7 +94,7 @@ impl In {
     }
 }
 
-/// What is to be done to both endpoints, now and in this order.
+/// What you must do to both endpoints, now and in this order.
 #[derive(Clone, Copy, PartialEq, Eq, Debug)]
 #[repr(u8)]
 pub enum Stalls {
@@ -116,14 +116,14 @@ impl Stalls {
     }
 }
 
-/// What a poll did. All of it is to be done at the endpoints, also where the result is an error.
+/// What a poll did. Do all of it at the endpoints, even if the result is an error.
 #[must_use]
 #[derive(Clone, Copy, PartialEq, Eq, Debug)]
 pub struct Poll {
     pub result: Result<(), Error>,
     /// OUT packets taken, of those offered: 0, 1 or 2.
     pub taken: u8,
-    /// Bytes to be sent. They stand at the front of the packet buffer; 0 is no packet.
+    /// How many bytes to send. They are at the front of the packet buffer; 0 means no packet.
     pub sent: usize,
     pub stalls: Stalls,
 }

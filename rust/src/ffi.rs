@@ -1,7 +1,8 @@
-//! The archive's calls on numbers and byte slices, as C sees them, with slices put together again.
+//! The archive's calls on numbers and byte slices, as C sees them, but with each pointer and its length as one slice.
 //!
-//! Every function is the call itself, so a caller pays for nothing else. Nothing is interpreted here. The results are the archive's own numbers; [`Word`] takes a 64-bit one apart.
-//! Firmware has no need of this module. It is for tests, which lend records of any bytes and any length.
+//! Every function is only the call itself, so it costs nothing more. Nothing is interpreted here. The results are the archive's
+//! own numbers; [`Word`] takes a 64-bit result apart. Firmware does not need this module. It is for tests, which lend records of
+//! any bytes and any length.
 
 /// The six numbers of a decoded command: which one, then its fields.
 pub const COMMAND_NUMBERS: usize = 6;
@@ -25,7 +26,7 @@ impl Word {
         self.byte(2)
     }
 
-    /// OUT packets that a poll took; for control, command and command step 1 where there is something to tell.
+    /// OUT packets that a poll took; for control, command and command step: 1 if there is something to tell.
     pub fn flag(self) -> u8 {
         self.byte(3)
     }
@@ -141,8 +142,8 @@ mod archive {
 
 // SAFETY, for every call below: each pointer with its length comes from one Rust slice, so that many elements are there,
 // aligned and initialised, for as long as the call runs. What is written comes from `&mut`, so no other slice of the call
-// overlaps it. The archive keeps no pointer, and its proofs have it inside these bounds whatever the bytes are: a record
-// that is none is refused by its answer.
+// overlaps it. The archive keeps no pointer, and it is proved to stay inside these bounds whatever the bytes are: bytes that
+// are no record get an answer that refuses them.
 
 #[inline]
 pub fn create(record: &mut [u8], packet_size: u32, max_lun: u8, size: u32) -> u32 {

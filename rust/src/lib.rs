@@ -1,8 +1,8 @@
-//! A USB mass-storage Bulk-Only socket over an archive whose every call is proved against its contract.
+//! A USB mass-storage Bulk-Only socket over an archive. Every call of the archive is proved against its contract.
 //!
-//! A [`Device`] holds its record of 52 bytes and borrows the IO buffer. It knows no USB stack: the firmware tells each
+//! A [`Device`] holds its record of 52 bytes and borrows the IO buffer. It knows no USB stack. The firmware tells each
 //! [`Device::poll`] what its endpoints would answer ([`Endpoints`]), and does what the [`Poll`] reports: it takes that many
-//! OUT packets off the endpoint, sends the bytes at the front of the packet buffer, stalls or unstalls both endpoints.
+//! OUT packets off the endpoint, sends the bytes at the front of the packet buffer, and stalls or unstalls both endpoints.
 //!
 //! ```
 //! use souklavanh::{CommandStatus, Device, Endpoints, ScsiCommand, State};
@@ -32,14 +32,14 @@
 //!
 //! # A bus reset
 //!
-//! At a bus reset, and where the plug was pulled, the firmware starts afresh, in this order:
+//! After a bus reset, or if the plug was pulled, the firmware starts afresh, in this order:
 //!
-//! 1. It empties both endpoints. A packet that was handed to IN and not yet fetched must not go out behind the reset: the host
+//! 1. It empties both endpoints. A packet that was handed to IN and is not yet fetched must not go out after the reset: the host
 //!    would take it for the answer to its next command, and every status would come one command late. An OUT packet that came
-//!    before the reset must not be offered behind it. Not every peripheral does this by itself, and the firmware may hand one
-//!    more packet over before it sees the reset. A packet that comes behind the reset is the host's next command and stays.
-//! 2. It calls [`Device::renew`] and unstalls both endpoints, as that reports.
-//! 3. It forgets the command that it was at work on.
+//!    before the reset must not be offered after it. Not every peripheral does this by itself, and the firmware may hand over
+//!    one more packet before it sees the reset. A packet that comes after the reset is the host's next command and stays.
+//! 2. It calls [`Device::renew`] and unstalls both endpoints, as that call reports.
+//! 3. It forgets the command that it was working on.
 //!
 //! | call | is for |
 //! |---|---|
@@ -49,8 +49,8 @@
 //!
 //! # The build
 //!
-//! The build links the archive that the variable `SOUKLAVANH_ARCHIVE` names; `tools/archive` makes one. There is no
-//! dependency and no use of `std`. The archive itself needs `memset`.
+//! The build links the archive that the variable `SOUKLAVANH_ARCHIVE` names; `tools/archive` makes one. The package has no
+//! dependencies and does not use `std`. The archive itself needs `memset`.
 
 #![no_std]
 

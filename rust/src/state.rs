@@ -1,6 +1,6 @@
 //! The nine states of a device, and the status of a command.
 
-/// Where a device stands. The values are the record's numbers.
+/// The state of a device. The values are the record's numbers.
 #[derive(Clone, Copy, PartialEq, Eq, Debug)]
 #[repr(u8)]
 pub enum State {
@@ -20,7 +20,7 @@ impl State {
         self as u8
     }
 
-    /// None where there is no such state.
+    /// None if there is no such state.
     pub fn from_number(number: u8) -> Option<State> {
         Some(match number {
             0 => State::CommandTransfer,
@@ -37,7 +37,7 @@ impl State {
     }
 }
 
-/// How a command ended, as the host is told.
+/// How a command ended, as the status tells the host.
 #[derive(Clone, Copy, PartialEq, Eq, Debug)]
 #[repr(u8)]
 pub enum CommandStatus {

@@ -1,11 +1,11 @@
-//! The standard's verdict over a received message. The device goes by its own rules, which are looser.
+//! The standard's verdict on a received message. The device follows its own rules, which are less strict.
 
 use crate::ffi;
 
 #[derive(Clone, Copy, PartialEq, Eq, Debug)]
 #[repr(u8)]
 pub enum Verdict {
-    /// It has not 31 bytes, or not the signature.
+    /// It does not have 31 bytes, or not the signature.
     Invalid = 0,
     /// A wrapper, but its LUN is above max LUN or its block length is not 1 to 16.
     ValidOnly = 1,

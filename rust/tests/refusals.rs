@@ -1,5 +1,5 @@
-//! What no bench file can ask for and no device is needed for: creations, decoders and verdicts by the raw calls, with room
-//! of a wrong length. `bench/probes.rs` has the refusals of a device.
+//! Calls that no bench file can make and that need no device: creations, decoders and verdicts by the raw calls, with room of a
+//! wrong length. `bench/probes.rs` has the refusals of a device.
 
 use souklavanh::ffi::{self, COMMAND_NUMBERS};
 use souklavanh::{
@@ -11,7 +11,7 @@ const FILL: u8 = 0x5A;
 
 #[test]
 fn a_creation_is_refused_in_the_order_of_the_rules() {
-    // Packet size, max LUN, buffer; each case breaks a rule and all that come behind it, as far as that can be.
+    // Packet size, max LUN, buffer; each case breaks a rule and all rules after it, as far as that is possible.
     let cases = [
         ((24, 16, 0), 2),
         ((24, 255, 65_537), 2),

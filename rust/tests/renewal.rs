@@ -1,5 +1,5 @@
-//! A bus reset breaks a command off. Behind `renew` the next command gets its own data and its own status; behind `reset`,
-//! which keeps unread bytes, it gets neither.
+//! A bus reset breaks off a command. After `renew` the next command gets its own data and its own status; after `reset`, which
+//! keeps unread bytes, it gets neither.
 
 use souklavanh::{
     CommandStatus, Device, Endpoints, Error, In, Out, Poll, RECORD_LENGTH, ScsiCommand, Stalls,
@@ -45,7 +45,7 @@ fn answer_to_inquiry(tag: u32) -> Vec<u8> {
     bytes
 }
 
-/// A device with its firmware; the polls since its start, and what they sent.
+/// A device with its firmware, the polls since its start, and what they sent.
 struct Recorder<'a> {
     device: Device<'a>,
     packet_size: usize,
@@ -65,10 +65,10 @@ impl<'a> Recorder<'a> {
         }
     }
 
-    /// The data as it fits, and the status with its last byte.
+    /// Puts in as much data as fits, and sets the status when the last byte is in.
     fn serve(&mut self) {
         let device = &mut self.device;
-        // Behind an invalid wrapper an old command is shown.
+        // After an invalid wrapper an old command is shown.
         if device.state() != Some(State::DataTransferToHost) {
             return;
         }
@@ -102,7 +102,7 @@ impl<'a> Recorder<'a> {
         }
     }
 
-    /// The host fetches so many packets of a read, and then no more.
+    /// The host fetches this many packets of a read, and then no more.
     fn break_off(&mut self, tag: u32, packets: usize) {
         let busy = Endpoints {
             out: [Out::Busy, Out::Busy],
@@ -135,8 +135,8 @@ type StartAnew = fn(&mut Device) -> Result<Stalls, Error>;
 const RENEW: StartAnew = |device| device.renew();
 const RESET: StartAnew = |device| device.reset();
 
-/// The host fetches two packets of a read and resets the bus, then asks for the name. The poll that was offered this command,
-/// and what was sent behind the reset.
+/// The host fetches two packets of a read and resets the bus, then asks for the name. Returns the poll that was offered this
+/// command, and what was sent after the reset.
 fn story(buffer: &mut [u8], start_anew: StartAnew) -> (Poll, Vec<u8>) {
     let mut recorder = Recorder::new(64, 0, buffer);
     recorder.break_off(1, 2);
@@ -239,7 +239,7 @@ fn renew_is_a_new_device_within_a_write_and_behind_what_is_no_wrapper() {
 fn a_broken_record_is_not_renewed() {
     let mut buffer = [0x5A; 512];
     let good = *Device::new(64, 3, &mut buffer).unwrap().record();
-    // Packet size, max LUN, state, whether a status is present, a byte of the buffer's length, of the write mark.
+    // Packet size, max LUN, state, whether a status is present, a byte of the buffer's length, a byte of the write mark.
     for (at, value) in [(0, 24), (1, 16), (2, 9), (3, 2), (4, 1), (13, 3)] {
         let mut record = good;
         record[at] = value;
@@ -252,7 +252,7 @@ fn a_broken_record_is_not_renewed() {
     device = Device::from_bytes(good, &mut buffer[..511]);
     assert_eq!(device.renew(), Err(Error::Broken));
     assert_eq!(buffer, [0x5A; 512]);
-    // The way on.
+    // What helps then.
     device = Device::new(64, 3, &mut buffer).unwrap();
     assert_eq!(device.renew(), Ok(Stalls::Unstalled));
     assert_eq!(device.record(), &good);

@@ -1,4 +1,4 @@
-//! The good files of judge/vectors/, played through the archive: the lines have to be those kept beside them.
+//! The good files of judge/vectors/, played through the archive: the lines have to be those that are kept next to them.
 
 #[allow(dead_code)] // The program of judge/against/run uses the rest.
 mod bench;

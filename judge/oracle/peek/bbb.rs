@@ -1,14 +1,14 @@
-//! Shows what is private in bbb.rs. The build appends this module behind the unchanged text.
+//! Shows what is private in bbb.rs. The build appends this module after the unchanged text.
 
 use super::{BulkOnly, CSW_LEN, DataDirection, State};
 use crate::transport::CommandStatus;
 use core::borrow::BorrowMut;
 use usb_device::bus::UsbBus;
 
-/// `buffer` is private to the crate; the buffer alone is driven through this name.
+/// `buffer` is private to the crate; through this name the buffer is driven alone.
 pub use crate::buffer::Buffer;
 
-/// All of the record but the bytes of the IO buffer.
+/// All of the record except the bytes of the IO buffer.
 #[derive(Clone, Copy, PartialEq, Eq, Debug)]
 pub struct Figures {
     pub state: u8,
@@ -68,8 +68,8 @@ impl<Bus: UsbBus, Buf: BorrowMut<[u8]>> BulkOnly<'_, Bus, Buf> {
         self.buf.peek_bytes()
     }
 
-    /// The status for a wrapper of this tag and length, put in place as if it had been read: over
-    /// the wire a status comes only behind `length` bytes of data.
+    /// The status for a wrapper of this tag and length, which is put in place as if it had been read:
+    /// over the wire a status comes only after `length` bytes of data.
     pub fn peek_csw(
         &mut self,
         tag: u32,
@@ -86,7 +86,7 @@ impl<Bus: UsbBus, Buf: BorrowMut<[u8]>> BulkOnly<'_, Bus, Buf> {
     }
 }
 
-/// Document 01's numbers, not the order in which the enum stands.
+/// Document 01's numbers, which are not in the order of the enum.
 fn number_of(state: State) -> u8 {
     match state {
         State::CommandTransfer => 0,

@@ -1,4 +1,4 @@
-//! Shows what is private in buffer.rs. The build appends this module behind the unchanged text.
+//! Shows what is private in buffer.rs. The build appends this module after the unchanged text.
 
 use super::Buffer;
 use core::borrow::BorrowMut;

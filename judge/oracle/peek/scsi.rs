@@ -1,4 +1,4 @@
-//! Shows what is private in scsi.rs. The build appends this module behind the unchanged text.
+//! Shows what is private in scsi.rs. The build appends this module after the unchanged text.
 
 use super::{Scsi, ScsiCommand, parse_cb};
 use crate::transport::Transport;
@@ -8,8 +8,8 @@ impl<T: Transport> Scsi<T> {
         &self.transport
     }
 
-    /// For the calls that a firmware makes on the transport, and for a poll whose answer is seen:
-    /// `UsbClass::poll` drops it.
+    /// For the calls that a firmware makes on the transport, and for a poll whose answer is needed:
+    /// `UsbClass::poll` drops the answer.
     pub fn peek_transport_mut(&mut self) -> &mut T {
         &mut self.transport
     }

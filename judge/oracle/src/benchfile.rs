@@ -1,8 +1,8 @@
 //! Document 01's bench file: reading it under all of its rules, and writing one.
 //!
-//! The Rust knows nothing of this file; rule 14 stands here, in front of it.
+//! The Rust knows nothing of this file. Rule 14 is tested here, before the Rust runs.
 
-/// At most this many bytes, trailer included.
+/// A file has at most this many bytes, trailer included.
 pub const LONGEST: usize = 65_536;
 const TRAILER: usize = 12;
 const MAGIC: &[u8; 4] = b"BOT1";
@@ -143,7 +143,7 @@ pub fn encode(events: &[Event]) -> Vec<u8> {
     encode_raw(&raw)
 }
 
-/// Also for events that break a rule: only the trailer is sure to be right.
+/// Writes events that break a rule too: only the trailer is sure to be right.
 pub fn encode_raw(events: &[(u8, Vec<u8>)]) -> Vec<u8> {
     let mut bytes = Vec::new();
     let mut last = 0;

@@ -1,5 +1,5 @@
 //! `judge/oracle/buffer-ops`: buffer.rs alone under random operations, written down so that another
-//! program can replay them and compare. The two forms stand in judge/oracle/README.md.
+//! program can replay them and compare. judge/oracle/README.md has the two forms.
 
 use crate::lines::hex_or_dash;
 use crate::rng::Rng;
@@ -135,7 +135,7 @@ fn choose(buffer: &Buffer<Vec<u8>>, rng: &mut Rng) -> Operation {
     }
 }
 
-/// Around the room behind the write mark, the room once unread bytes are moved, and the whole.
+/// Amounts around the room after the write mark, the room once unread bytes are moved, and the whole.
 fn amount_near_a_limit(buffer: &Buffer<Vec<u8>>, rng: &mut Rng) -> usize {
     let length = buffer.peek_bytes().len();
     let (read, write) = buffer.peek_marks();
@@ -204,7 +204,7 @@ fn apply(buffer: &mut Buffer<Vec<u8>>, operation: &Operation) -> Shown {
             let before = buffer.available_read();
             buffer.fill_up_to(*value, *up_to);
             Shown {
-                // A move keeps the unread bytes, so what is unread more was filled.
+                // A move keeps the number of unread bytes, so any more unread bytes were filled.
                 count: buffer.available_read() - before,
                 ..Shown::default()
             }

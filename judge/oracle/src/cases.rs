@@ -15,7 +15,7 @@ pub struct Case {
 }
 
 pub fn all() -> Vec<Case> {
-    // Its number makes it the first of the folder.
+    // Its number makes it the first in the folder.
     let mut cases = vec![("000-listing".to_string(), listing().file())];
     for group in [
         creations(),
@@ -84,7 +84,7 @@ fn bad_signature() -> Wrapper {
     }
 }
 
-/// A status waits behind a wrapper without data and has been sent: state 3, nothing unread.
+/// After a wrapper without data, a status was set and has been sent: state 3, nothing unread.
 fn finished(packet_size: u16, buffer: u32) -> Script {
     create(packet_size, 0, buffer)
         .wrapper(ready(1))
@@ -501,7 +501,7 @@ fn endpoints() -> Vec<Named> {
     ]
 }
 
-/// All chains that start in a state, one behind the other.
+/// All chains that start in a state, one after the other.
 fn chains() -> Vec<Named> {
     let to_host = |device: Script| device.wrapper(reading(8)).write(&counted(8));
     let from_host = |device: Script| device.wrapper(writing(8)).packet(&counted(8));
@@ -599,8 +599,8 @@ fn chains() -> Vec<Named> {
     ]
 }
 
-/// In each state that rests, every call, every kind of control request and packets above P; then
-/// the class reset, and back again for the bus reset.
+/// In each state that a poll can end in: every call, every kind of control request and packets above
+/// P; then the class reset, and back again for the bus reset.
 fn sweeps() -> Vec<Named> {
     type Enter = fn(Script) -> Script;
     let states: [(u8, u16, u32, Enter); 8] = [
@@ -636,7 +636,7 @@ fn sweeps() -> Vec<Named> {
             .offers(InAnswer::Accepts, OutAnswer::Busy, long())
             .control(0xA1, 0xFF);
         let script = enter(script).reset();
-        // A status last: where it is accepted it changes what follows.
+        // The status comes last: if it is accepted, it changes what follows.
         let script = enter(script).status(2, 1).status(1, 2).command();
         (format!("state-{state}-every-call"), script)
     };
@@ -968,7 +968,7 @@ fn premises() -> Vec<Named> {
                 .status(0, 0)
                 .polls(2),
         ),
-        // nothing: what is glued is valid, and the end of the second wrapper is unread behind it.
+        // nothing: what is glued is valid, and the end of the second wrapper is unread after it.
         named(
             "premise-broken-off-wrapper-takes-16-bytes-of-the-next",
             create(32, 0, 64)
@@ -976,7 +976,7 @@ fn premises() -> Vec<Named> {
                 .wrapper(Wrapper::new(2, &counted(16)))
                 .status(0, 0),
         ),
-        // unfinished: the wrapper was whole two events before, and a reset came between.
+        // unfinished: the wrapper was whole two events earlier, and a reset came in between.
         named(
             "premise-data-kept-by-a-reset-is-parsed-as-a-wrapper",
             create(32, 0, 64)
@@ -1021,7 +1021,7 @@ fn premises() -> Vec<Named> {
             "premise-a1-ff-before-the-status-gives-it-the-next-tag",
             interrupted(|script| script.control(0xA1, 0xFF)),
         ),
-        // same-command: the status of the next one.
+        // same-command: it is the status of the next command.
         named(
             "premise-status-of-the-next-command-is-another",
             create(32, 0, 64)
@@ -1031,7 +1031,7 @@ fn premises() -> Vec<Named> {
                 .wrapper(ready(2))
                 .status(1, 0),
         ),
-        // no-reset behind the status. An empty packet makes a poll in state 0 a served one.
+        // no-reset after the status. An empty packet makes a poll in state 0 a served one.
         named(
             "premise-reset-behind-the-status-drops-it",
             waiting()

@@ -1,13 +1,14 @@
 //! The chains of handlers that one poll can go through.
 //!
-//! What happens between two handlers is not seen from outside. It need not be: the state before and
-//! the state behind a poll fix the chain. 5 behind 0 or 3 comes through 2, for a wrapper leaves 4 or
-//! 7 only in a later poll (L is then above 0). 3 behind 4 or 7 comes through 5, for 6 and 8 are
-//! entered with bytes left and so cannot go on to 3 at once. Whoever enters 3 finds 13 bytes unread
-//! and goes no further. The stalls are tested against the chain beside it.
+//! What happens between two handlers cannot be seen from outside. This does no harm: the state before
+//! and the state after a poll fix the chain. 5 after 0 or 3 comes through 2: if a wrapper leads to 4
+//! or 7, the device leaves that state only in a later poll (L is then above 0). 3 after 4 or 7 comes
+//! through 5, because 6 and 8 are entered with bytes left and so cannot go on to 3 at once. A handler
+//! that enters 3 finds 13 bytes unread and goes no further. The stalls are also tested against the
+//! chain.
 
-/// Every chain with the answers that it can end in, by document 01 and the rulings. 2-5 and 2-5-3
-/// are missing: no run rests in 2.
+/// Every chain with the answers that it can end with, by document 01 and the rulings. 2-5 and 2-5-3
+/// are missing: no run stops in 2.
 pub const ALL: &[(&str, &[u8])] = &[
     ("0", &[0, 1, 6, 7]),
     ("0-1", &[0]),

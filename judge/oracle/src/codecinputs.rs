@@ -13,7 +13,7 @@ const LONG: [usize; 8] = [17, 18, 24, 31, 32, 64, 255, 256];
 const EDGES: [u32; 8] = [0, 1, 255, 256, 65_535, 65_536, 1 << 31, u32::MAX];
 
 const STATUSES: usize = 110_000;
-/// Of so many statuses one has any byte, each in turn; the others have one of the three good ones.
+/// One in this many statuses has any byte, each value in turn; the others have one of the three good ones.
 const ANY_BYTE_EVERY: usize = 10;
 
 pub fn write(seed: u64, folder: &str) -> io::Result<()> {
@@ -38,7 +38,7 @@ fn blocks(rng: &mut Rng) -> Vec<Vec<u8>> {
             blocks.extend((0..4).map(|fill| block(rng, opcode, length, fill)));
         }
     }
-    // Most opcodes are unknown, so the others come once more.
+    // Most opcodes are unknown, so the known ones come once more.
     for fill in 0..20_000 {
         let opcode = known_opcode(rng);
         let length = rng.between(4, 16);
@@ -47,7 +47,7 @@ fn blocks(rng: &mut Rng) -> Vec<Vec<u8>> {
     blocks
 }
 
-/// Behind the opcode the first two fills are all 00 and all FF.
+/// After the opcode the first two fills are all 00 and all FF.
 fn block(rng: &mut Rng, opcode: u8, length: usize, fill: usize) -> Vec<u8> {
     let mut block = vec![opcode];
     block.resize_with(length, || {
@@ -76,7 +76,7 @@ fn messages(rng: &mut Rng) -> Vec<Vec<u8>> {
             }
         }
     }
-    // The signature: every wrong value of each byte, so also each bit of it flipped.
+    // The signature: every wrong value of each byte, so each of its bits is also flipped alone.
     for at in 0..4 {
         for change in 1..=255 {
             for _ in 0..4 {
@@ -102,7 +102,7 @@ fn messages(rng: &mut Rng) -> Vec<Vec<u8>> {
     messages
 }
 
-/// A valid one, with any bits where none count.
+/// A valid message, with any bits in the places that do not count.
 fn wrapper(rng: &mut Rng) -> Wrapper {
     Wrapper {
         length: number(rng),

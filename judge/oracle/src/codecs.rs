@@ -1,4 +1,4 @@
-//! The wrapper and the status alone: one message or one set of figures a line, one answer a line.
+//! The wrapper and the status alone: one message or one set of figures in each line, one answer in each line.
 
 use crate::benchfile::{Event, InAnswer, Offers, OutAnswer};
 use crate::device::{Device, command_status};

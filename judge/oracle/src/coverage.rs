@@ -1,4 +1,4 @@
-//! What a set of bench files has reached, against the whole list of what can be reached.
+//! What a set of bench files has reached, compared with the whole list of what can be reached.
 
 use crate::reachable;
 use std::collections::BTreeMap;
@@ -9,7 +9,7 @@ pub enum Section {
     Triple,
     Answer,
     Chain,
-    /// Busy and failing endpoints at every step: a chain with each answer that it can end in.
+    /// Busy and failing endpoints at every step: a chain with each answer that it can end with.
     ChainAnswer,
     /// P and buffer.
     Creation,
@@ -17,7 +17,7 @@ pub enum Section {
     Length,
     /// How a wrapper came.
     Wrapper,
-    /// Packets offered, by what asked for them.
+    /// Packets offered, sorted by what asked for them.
     Packet,
     /// Packets sent.
     Sent,
@@ -49,7 +49,7 @@ const SECTIONS: [(Section, &str); 13] = [
     (Section::Pair, "opcodes with block length"),
 ];
 
-/// Not more lines of missing things than this.
+/// At most this many lines of missing things are shown.
 const LONGEST_MISSING: usize = 40;
 
 pub type Key = (Section, String);
@@ -76,7 +76,7 @@ impl Coverage {
         }
     }
 
-    /// What another set of files has reached, on top.
+    /// Adds what another set of files has reached.
     pub fn merge(&mut self, other: &Coverage) {
         for (key, count) in &other.reached {
             *self.reached.entry(key.clone()).or_insert(0) += count;
@@ -101,7 +101,7 @@ impl Coverage {
         )
     }
 
-    /// Whether nothing is missing that every fair set of files must reach.
+    /// Whether everything is there that every fair set of files must reach.
     pub fn has_chains_and_answers(&self) -> bool {
         let whole = |section| {
             let (reached, all) = self.figures(section);
@@ -117,7 +117,7 @@ impl Coverage {
             .collect()
     }
 
-    /// One line for each section; everything with its count where `list` is set; what is missing.
+    /// One line for each section; if `list` is set, everything with its count; what is missing.
     pub fn report(&self, list: bool) -> String {
         let mut text = String::new();
         for (section, title) in SECTIONS {

@@ -1,4 +1,4 @@
-//! A decoded command in words, and the decoder mode: one block a line, one command a line.
+//! A decoded command in words, and the decoder mode: one block in each line, one command in each line.
 
 use crate::lines::from_hex;
 use crate::panics;
@@ -54,7 +54,7 @@ pub fn text(command: &ScsiCommand) -> String {
         ScsiCommand::ReadFormatCapacities { alloc_len } => {
             format!("ReadFormatCapacities allocation {alloc_len}")
         }
-        // The enum is open to later commands; the pinned text has none.
+        // The enum may get more commands in later versions; the pinned text has no more.
         _ => panic!("LOUD: a command without words"),
     }
 }
@@ -70,7 +70,7 @@ fn page_control_number(control: PageControl) -> u8 {
 
 pub fn answer(line: &str) -> String {
     let block = from_hex(line);
-    // Rule 13: where the Rust panics over an empty block.
+    // Rule 13: here the Rust panics because of an empty block.
     let command = panics::catch(panics::EMPTY_BLOCK, || peek_parse_cb(&block));
     command.map_or("13".to_string(), |command| text(&command))
 }

@@ -1,5 +1,5 @@
 //! The mission's third demand, read from runs: from a bench file and the lines that a program printed for it. No device
-//! runs here, and neither the Rust nor the formal statement is asked.
+//! runs here, and neither the Rust nor the formal statement is used.
 //!
 //! "Take a valid wrapper of exactly 31 bytes with nothing unread before it, declaring L bytes. No reset follows, the
 //! firmware puts in at most L bytes, and only these calls alter record or buffer. When its status is accepted with R data
@@ -8,13 +8,13 @@
 //! this. From wrapper to that byte the host gets, for a read, the firmware's bytes and then 0xFF up to L, otherwise no
 //! data; then one status with that tag and the residue of the last accepted status."
 //!
-//! A story is a wrapper with a status that is accepted for it and what follows. It is read up to the served poll that
-//! makes the number full, or to the first event before it that breaks a premise, or to the end of the file. It is judged
-//! behind each event, for what has happened by then is a story too. That only these calls alter record or buffer holds in
-//! every bench file.
+//! A story is a wrapper with a status that is accepted for it, and what follows. It is read up to the served poll that
+//! completes the number, or to the first event before it that breaks a premise, or to the end of the file. It is judged
+//! after each event, because what has happened up to then is a story too. In every bench file it is true that only these
+//! calls alter record or buffer.
 //!
-//! What the words take for granted is judged too: what is left is L less the data that moved, a poll sends one packet at
-//! most, an unserved poll moves nothing, and one whose endpoints all do their part is served.
+//! What the words take for granted is judged too: what is left is L less the data that moved, a poll sends at most one
+//! packet, an unserved poll moves nothing, and a poll whose endpoints all do their part is served.
 
 use crate::benchfile::{Event, InAnswer, Offers, OutAnswer};
 use crate::lines::hex_or_dash;
@@ -25,24 +25,24 @@ use std::ops::Range;
 const WRAPPER: usize = 31;
 const STATUS: usize = 13;
 const FILLER: u8 = 0xFF;
-/// Where a status is accepted; so long it is the same command's.
+/// The states in which a status is accepted; while one of them lasts, it is the same command's.
 const TAKES_STATUS: [u8; 4] = [2, 4, 5, 7];
-/// "A served poll is one not refused with 10 or 11 in which each endpoint asked does its part": 6 is a busy one, 7 one
+/// "A served poll is one not refused with 10 or 11 in which each endpoint asked does its part": 6 is a busy endpoint, 7 one
 /// that fails.
 const UNSERVED: [u8; 4] = [6, 7, 10, 11];
 
-/// What is supposed of a story. That its wrapper is valid is not here: behind another no status is accepted.
+/// The premises of a story. A valid wrapper is not among them: after any other no status is accepted.
 #[derive(Clone, Copy, PartialEq, Eq, Debug)]
 pub enum Premise {
-    /// It is taken for a wrapper: in state 0, or in 3, from which a poll goes on to 0.
+    /// The message is taken for a wrapper: in state 0, or in 3, from which a poll goes on to 0.
     Waits,
     /// "with nothing unread before it"
     NothingUnread,
     /// "of exactly 31 bytes"
     Exactly31,
-    /// "its status": up to there no reset follows, and no other command.
+    /// "its status": until then no reset follows, and no other command.
     SameCommand,
-    /// "No reset follows", behind the status
+    /// "No reset follows", after the status
     NoReset,
     /// "the last accepted status"
     LastStatus,
@@ -64,14 +64,14 @@ pub enum Direction {
 pub struct Message {
     pub first: usize,
     pub last: usize,
-    /// Packets that brought it; empty ones bring nothing.
+    /// Packets that brought it; empty packets bring nothing.
     pub packets: usize,
     /// A reset came between them. It keeps the bytes that came before it, so the wrapper is whole.
     pub reset: bool,
     bytes: Vec<u8>,
 }
 
-/// Why a story is read no further.
+/// Why the reading of a story stops.
 #[derive(Clone, Copy, PartialEq, Eq, Debug)]
 pub enum End {
     Exactly,
@@ -92,13 +92,13 @@ pub struct Story {
     pub status: usize,
     /// R
     pub left: u32,
-    /// Served polls that are due behind the status.
+    /// Served polls that are due after the status.
     pub number: usize,
     pub served: usize,
     pub unserved: usize,
     /// A status was accepted before the last one.
     pub replaced: bool,
-    /// Bytes that the firmware put in, and those of them behind the status.
+    /// Bytes that the firmware put in, and how many of them after the status.
     pub put: usize,
     pub put_behind: usize,
     /// The last event that belongs to it.
@@ -106,7 +106,7 @@ pub struct Story {
     pub end: End,
 }
 
-/// A story that meets the premises and not the conclusion.
+/// A story that meets the premises but not the conclusion.
 pub struct False {
     pub story: Story,
     pub what: String,
@@ -114,22 +114,22 @@ pub struct False {
     pub seen: String,
 }
 
-/// What a run has.
+/// What was found in a run.
 #[derive(Default)]
 pub struct Reading {
     pub events: usize,
     pub stories: Vec<Story>,
-    /// All statuses that were accepted, and those that no story has since more than L bytes were put in.
+    /// All statuses that were accepted, and those that belong to no story because more than L bytes were put in.
     pub accepted: usize,
     pub above: usize,
 }
 
-/// Every story of the run, or the first that is false.
+/// Every story of the run, or the first story that is false.
 pub fn read(run: &Printed) -> Result<Reading, Box<False>> {
     Reader { without: None }.read(run)
 }
 
-/// The same if one premise is not supposed.
+/// The same without one of the premises.
 pub fn read_without(premise: Premise, run: &Printed) -> Result<Reading, Box<False>> {
     let without = Some(premise);
     Reader { without }.read(run)
@@ -240,7 +240,7 @@ impl Reader {
         Ok(telling.story)
     }
 
-    /// Whether the event breaks a premise, and so belongs to no story of this status.
+    /// Whether the event breaks a premise, and therefore belongs to no story of this status.
     fn cut(&self, telling: &Telling, step: &Step) -> Option<End> {
         let put = telling.account.put.len() + step.put().len();
         let few = put <= telling.story.message.length();
@@ -304,7 +304,7 @@ impl<'a> Account<'a> {
         for step in &run.steps[message.first..=message.last] {
             account.add(step);
         }
-        // The wrapper's own packets are no data; one behind them in the same poll is.
+        // The wrapper's own packets are not data; a packet after them in the same poll is.
         account.came = run.steps[message.last]
             .taken()
             .skip(1)
@@ -331,7 +331,7 @@ impl<'a> Account<'a> {
     }
 }
 
-/// A story behind its status, as far as it was read.
+/// A story after its status, as far as it was read.
 struct Telling<'a> {
     run: &'a Printed,
     account: Account<'a>,
@@ -387,7 +387,7 @@ impl<'a> Telling<'a> {
         })
     }
 
-    /// One event more.
+    /// Reads one more event.
     fn add(&mut self, at: usize, step: &Step) -> Result<(), Box<False>> {
         // What is put in changes what was due before it.
         let judged = match step.put() {
@@ -411,7 +411,7 @@ impl<'a> Telling<'a> {
             return Ok(());
         }
         self.story.unserved += 1;
-        // Else the number might never be full.
+        // Otherwise the number might never be reached.
         if all_do_their_part(offers, self.run.packet_size) {
             let what = "the answer to a poll whose endpoints all do their part";
             let due = "not 6, 7, 10 or 11".to_string();
@@ -484,7 +484,7 @@ impl<'a> Telling<'a> {
         Err(self.is_false("the bytes that one poll sends", due, seen.to_string()))
     }
 
-    /// How many data bytes the host is to get: L. More only where the reader does not suppose that they are at most L.
+    /// How many data bytes the host must get: L. More only if the reader leaves out the premise that they are at most L.
     fn data(&self) -> usize {
         match self.story.message.direction() {
             Direction::ToHost => self.story.message.length().max(self.story.put),
@@ -492,7 +492,7 @@ impl<'a> Telling<'a> {
         }
     }
 
-    /// A byte that the host is to get: the firmware's, then the filler, then the status.
+    /// A byte that the host must get: the firmware's, then the filler, then the status.
     fn due(&self, at: usize) -> Option<u8> {
         match at.checked_sub(self.data()) {
             Some(behind) => self.status.get(behind).copied(),

@@ -1,6 +1,6 @@
 //! Faults on purpose for the reader of demand 3: the lines of a run are altered before they are read. Each fault must be
-//! noticed wherever it is made. And without one of its premises the reader must find the demand false, in the bench files
-//! that were made to show it.
+//! noticed wherever it is made. Also, without one of its premises the reader must find the demand false, in the bench files
+//! that were made to show this.
 
 use crate::benchfile::Event;
 use crate::demand::{self, Direction, End, False, Premise, Story, accepted};
@@ -13,7 +13,7 @@ use std::process::ExitCode;
 /// Lines that take the place of others, by event.
 type Altered = BTreeMap<usize, Line>;
 
-/// The places that a story has for a fault, each to be altered alone.
+/// The places that a story has for a fault; each is altered alone.
 type Fault = fn(&Tale) -> Vec<Altered>;
 
 /// Name, the stories in which it is made, and the fault.
@@ -46,7 +46,7 @@ fn cut_off(story: &Story) -> bool {
     !ended(story)
 }
 
-/// Files that break a premise: without it they are false.
+/// Files that break a premise: without that premise they are false.
 const BROKEN: &[(&str, Premise)] = &[
     ("premise-wrapper-sent-as-data-is-no-command", Premise::Waits),
     (
@@ -91,7 +91,7 @@ const BROKEN: &[(&str, Premise)] = &[
     ("premise-two-writes-above-l-lose-a-byte", Premise::AtMostL),
 ];
 
-/// Files that break a premise, and no status is accepted in them: nothing is promised of them with it or without it.
+/// Files that break a premise and in which no status is accepted: with or without the premise, nothing is promised for them.
 const WITHOUT_STATUS: &[&str] = &[
     "premise-wrapper-behind-an-invalid-one-is-not-taken",
     "premise-byte-before-the-wrapper-makes-it-invalid",
@@ -99,7 +99,7 @@ const WITHOUT_STATUS: &[&str] = &[
     "premise-wrong-block-length-takes-no-status",
 ];
 
-/// A file with its name, which tells what it was made for.
+/// A file with its name, which says what it was made for.
 struct Named {
     name: String,
     run: Printed,
@@ -148,7 +148,7 @@ fn faults_noticed(runs: &mut [Named]) -> bool {
     !noticed.contains(&0)
 }
 
-/// All faults in one story, each alone; the name of the first that is not noticed.
+/// Makes all faults in one story, each alone; the name of the first that is not noticed.
 fn make_all(run: &mut Printed, story: &Story, noticed: &mut [usize]) -> Result<(), &'static str> {
     for ((fault, fits, make), count) in FAULTS.iter().zip(noticed) {
         if !fits(story) {
@@ -164,7 +164,7 @@ fn make_all(run: &mut Printed, story: &Story, noticed: &mut [usize]) -> Result<(
     Ok(())
 }
 
-/// Whether the story is false with these lines. The run is then as before.
+/// Whether the story is false with these lines. Afterwards the run is as before.
 fn is_noticed(run: &mut Printed, story: &Story, mut altered: Altered) -> bool {
     exchange(run, &mut altered);
     let reading = demand::read(run);
@@ -253,7 +253,7 @@ impl Tale<'_> {
             .collect()
     }
 
-    /// Event and place in its line of each byte that the host gets.
+    /// For each byte that the host gets: the event, and the place in its line.
     fn places(&self) -> Vec<(usize, usize)> {
         let of_poll = |at: usize| {
             let count = self.run.steps[at].sent().len();
@@ -262,7 +262,7 @@ impl Tale<'_> {
         self.sending().into_iter().flat_map(of_poll).collect()
     }
 
-    /// These bytes in place of those that the host gets, from one of them on.
+    /// Puts these bytes in place of those that the host gets, from one of them on.
     fn rewritten(&self, from: usize, bytes: &[u8]) -> Altered {
         let mut altered = Altered::new();
         for ((at, place), byte) in self.places()[from..].iter().zip(bytes) {
@@ -278,7 +278,7 @@ impl Tale<'_> {
         self.rewritten(at, &[byte ^ 1])
     }
 
-    /// The bytes of one poll behind those of another, which is earlier or later, or nowhere.
+    /// Puts the bytes of one poll after those of another, earlier or later poll, or nowhere.
     fn moved(&self, from: usize, to: Option<usize>) -> Altered {
         let mut source = self.line(from);
         let bytes = std::mem::take(&mut source.bytes);
@@ -302,7 +302,7 @@ impl Tale<'_> {
             .collect()
     }
 
-    /// Nothing where the residue is this one already.
+    /// Nothing if this is the residue already.
     fn with_residue(&self, residue: u32) -> Vec<Altered> {
         let at = self.data() + 8;
         let altered = self.rewritten(at, &residue.to_le_bytes());
@@ -322,7 +322,7 @@ impl Tale<'_> {
     }
 }
 
-/// The first and the last, which may be one.
+/// The first and the last, which may be the same.
 fn ends<T: Clone>(of: &[T]) -> Vec<T> {
     match of {
         [first, .., last] => vec![first.clone(), last.clone()],
@@ -352,7 +352,7 @@ fn any_byte(tale: &Tale) -> Vec<Altered> {
         .collect()
 }
 
-/// Where no served poll follows it does not go out at all.
+/// If no served poll follows, it does not go out at all.
 fn later(tale: &Tale) -> Vec<Altered> {
     let mut behind = tale.story.last + 1..tale.run.steps.len();
     let next = behind.find(|at| tale.is_served(at));
@@ -368,7 +368,7 @@ fn earlier(tale: &Tale) -> Vec<Altered> {
         .collect()
 }
 
-/// The next packet to go out goes out in it.
+/// The packet that would go out next goes out in this poll.
 fn sent_unserved(tale: &Tale) -> Vec<Altered> {
     let sending = tale.sending();
     let next = |at: usize| sending.iter().find(|sending| **sending > at);
@@ -413,7 +413,7 @@ fn residue_before(tale: &Tale) -> Vec<Altered> {
     }
 }
 
-/// Behind the status, where the number counts: the first two, and the last two.
+/// After the status, where the number counts: the first two, and the last two.
 fn two_packets(tale: &Tale) -> Vec<Altered> {
     let mut polls = tale.sending();
     polls.retain(|at| *at > tale.story.status);

@@ -1,5 +1,5 @@
 //! `judge/demand`: random files through a program under test, and every story of demand 3 in its lines. It ends at the
-//! first that is false, and shows it.
+//! first story that is false, and shows it.
 
 use crate::demand::{self, False, Reading};
 use crate::demandtally::Tally;
@@ -11,11 +11,11 @@ use std::io;
 use std::ops::Range;
 use std::process::ExitCode;
 
-/// Of a longer story only its two ends are shown.
+/// If a story is longer, only its two ends are shown.
 const SHOWN_WHOLE: usize = 60;
 const SHOWN_WIDTH: usize = 160;
 
-/// Random files of at least so many events, from this seed on.
+/// Random files of at least this many events, from this seed on.
 pub fn random(events: u64, seed: u64, folder: &str, words: &[&str]) -> io::Result<ExitCode> {
     std::fs::create_dir_all(folder)?;
     let tested = Tested { words, folder };
@@ -69,7 +69,7 @@ fn finish(tally: &Tally, files: usize) {
     );
 }
 
-/// Bench files, each with its lines beside it.
+/// Bench files, each with its lines next to it.
 pub fn files(paths: &[&str], list: bool) -> io::Result<ExitCode> {
     let mut tally = Tally::default();
     for path in paths {
@@ -97,7 +97,7 @@ pub fn beside(path: &str) -> io::Result<(Vec<u8>, String)> {
     Ok((std::fs::read(path)?, text))
 }
 
-/// None where a story is false, or where the text is no bench output for the file; it says so then.
+/// None if a story is false, or if the text is not the output of `bench` for the file; it then says so.
 fn read(file: &[u8], text: &str, path: &str) -> Option<Reading> {
     let run = match Printed::new(file, text) {
         Ok(Some(run)) => run,

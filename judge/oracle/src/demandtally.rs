@@ -5,7 +5,7 @@ use std::fmt::Write;
 
 type Kind = fn(&Story) -> bool;
 
-/// Kinds that a run of random files is to have. The first has all.
+/// Kinds that a run of random files should have. The first kind is all stories.
 const KINDS: &[(&str, Kind)] = &[
     ("stories", |_| true),
     ("reads", |story| directed(story, Direction::ToHost)),
@@ -43,7 +43,7 @@ const KINDS: &[(&str, Kind)] = &[
     ("P 64", |story| story.packet_size == 64),
 ];
 
-/// Why stories are cut off before the number is full.
+/// Why stories are cut off before the number is reached.
 const CUTS: &[(&str, End)] = &[
     ("a reset", End::Reset),
     ("a new status", End::NewStatus),
@@ -62,7 +62,7 @@ pub struct Tally {
     pub stories: usize,
     accepted: usize,
     above: usize,
-    /// Of each kind those that ended with exactly the number, and those that were cut off.
+    /// For each kind: the stories that ended with exactly the number, and those that were cut off.
     kinds: [[usize; 2]; KINDS.len()],
     cuts: [usize; CUTS.len()],
     most: usize,

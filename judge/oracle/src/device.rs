@@ -1,7 +1,7 @@
 //! The Rust device, driven by one bench event at a time.
 //!
-//! Rules of document 01 that the Rust lacks stand here in front of it, each under a comment
-//! `Rule N`. Everything else is the Rust's own answer.
+//! Rules of document 01 that the Rust lacks are tested here before the Rust is called, each under a
+//! comment `Rule N`. Everything else is the Rust's own answer.
 
 use crate::benchfile::{Event, Offers, OutAnswer};
 use crate::endpoints::{ScriptedBus, Seen};
@@ -26,7 +26,7 @@ pub struct Device<'a> {
 /// What one event showed, in the terms of a `bench` line.
 pub struct Outcome {
     pub answer: u8,
-    /// The endpoint's error number, with answer 7 only.
+    /// The endpoint's error number; only with answer 7.
     pub carried: Option<u8>,
     pub count: usize,
     pub stalls: &'static str,
@@ -80,7 +80,7 @@ pub fn command_status(byte: u8) -> Option<CommandStatus> {
 }
 
 impl<'a> Device<'a> {
-    /// The device, or the answer that refuses it. 2 and 5 are the Rust's; 8 and 9 come behind them,
+    /// The device, or the answer that refuses it. 2 and 5 are the Rust's; 8 and 9 come after them,
     /// in the order of document 01.
     pub fn create(
         allocator: &'a UsbBusAllocator<ScriptedBus>,
@@ -88,11 +88,11 @@ impl<'a> Device<'a> {
         max_lun: u8,
         buffer: u32,
     ) -> Result<Device<'a>, u8> {
-        // A longer buffer is refused all the same, so there is no need to allocate it.
+        // A longer buffer is refused in any case, so it need not be allocated.
         let allocated = buffer.min(LARGEST_BUFFER + 1) as usize;
         let scsi =
             Scsi::new(allocator, packet_size, max_lun, vec![0; allocated]).map_err(number_of)?;
-        // Rule 8: a packet size outside of the domain.
+        // Rule 8: a packet size outside the domain.
         if !matches!(packet_size, 8 | 16 | 32 | 64) {
             return Err(8);
         }
@@ -161,7 +161,7 @@ impl<'a> Device<'a> {
             command_status(status).expect("the file's rules let no other status byte through");
         let before = self.figures();
         self.bus.begin_call();
-        // Rule 12: where the Rust panics.
+        // Rule 12: here the Rust panics.
         let accepted = panics::catch(panics::SET_STATUS, || {
             self.transport().set_status(status, figure)
         });
@@ -220,8 +220,8 @@ impl<'a> Device<'a> {
     fn control(&mut self, bm_request_type: u8, request: u8) -> Outcome {
         let mut answer = Vec::new();
         self.bus.begin_call();
-        // `usb_device` calls `control_in` for requests from device to host alone (bit 7); the Rust
-        // has no `control_out`. Type and recipient are tested by the Rust.
+        // `usb_device` calls `control_in` only for requests from device to host (bit 7); the Rust
+        // has no `control_out`. The Rust itself tests type and recipient.
         if bm_request_type & 0x80 != 0 {
             let request = Request::new(bm_request_type, request);
             self.scsi.control_in(ControlIn::new(request, &mut answer));
@@ -233,8 +233,8 @@ impl<'a> Device<'a> {
         }
     }
 
-    /// Offer and decode. The callback's error keeps the Rust from polling behind it, which is an
-    /// event of its own (ruling 14).
+    /// Offer and decode. The callback's error keeps the Rust from polling after it: that poll is a
+    /// separate event (ruling 14).
     fn command(&mut self) -> Outcome {
         let shown = self.scsi.peek_transport().get_command().map(|command| {
             let mut bytes = vec![command.lun];
@@ -244,7 +244,7 @@ impl<'a> Device<'a> {
         let before = self.figures();
         let mut offered = None;
         self.bus.begin_call();
-        // Rule 13: where the Rust panics over an empty block.
+        // Rule 13: here the Rust panics because of an empty block.
         let result = panics::catch(panics::EMPTY_BLOCK, || {
             self.scsi.poll_command(|command| {
                 offered = Some((command.lun, command.kind));

@@ -1,8 +1,8 @@
 //! `judge/diff`: random files through a program under test and through the Rust, all lines compared.
 //! At the first difference the file is made smaller as long as the two still differ.
 //!
-//! The program is `benches`: it reads files, each behind 4 bytes of length, and prints for each a line
-//! `==` and then the lines of `bench`. So a process is started once for a thousand files.
+//! The program is `benches`: it reads files, with 4 bytes of length before each, and prints for each a
+//! line `==` and then the lines of `bench`. So one process is enough for a thousand files.
 
 use crate::benchfile::{self, Event};
 use crate::coverage::Coverage;
@@ -14,14 +14,14 @@ use std::process::{Command, ExitCode, Stdio};
 
 const BETWEEN: &str = "==\n";
 
-/// The program under test, and the folder where files for it may lie.
+/// The program under test, and the folder for its files.
 pub struct Tested<'a> {
     pub words: &'a [&'a str],
     pub folder: &'a str,
 }
 
 impl Tested<'_> {
-    /// The text for each file. A program that ends early has the rest empty, a failing one says so in its last text.
+    /// The text for each file. If the program ends early the other texts are empty; if it fails, its last text says so.
     pub fn texts(&self, files: &[Vec<u8>]) -> io::Result<Vec<String>> {
         let input = format!("{}/input", self.folder);
         std::fs::write(&input, stream(files))?;
@@ -40,7 +40,7 @@ impl Tested<'_> {
         Ok(texts)
     }
 
-    /// The first of the files for which program and Rust differ, and the program's text for it.
+    /// The first file for which program and Rust differ, and the program's text for it.
     fn first_different(&self, files: &[Vec<u8>]) -> io::Result<Option<(usize, String)>> {
         let texts = self.texts(files)?;
         let differs = |(file, text): (&Vec<u8>, &String)| due(file) != *text;
@@ -87,7 +87,7 @@ fn events_run(made: &Made) -> u64 {
     made.text.lines().count() as u64
 }
 
-/// Which file has other lines than those of its making.
+/// Which file has other lines than those that were made with it.
 fn different(tested: &Tested, made: &[Made]) -> io::Result<Option<usize>> {
     let files: Vec<Vec<u8>> = made.iter().map(|made| made.file.clone()).collect();
     let texts = tested.texts(&files)?;
@@ -108,7 +108,7 @@ fn stream(files: &[Vec<u8>]) -> Vec<u8> {
     bytes
 }
 
-/// What stands behind each line `==`. One text at least: what stands before the first such line is part of it.
+/// What follows each line `==`. There is at least one text: what comes before the first such line is part of it.
 fn split(printed: &str) -> Vec<String> {
     let mut texts: Vec<String> = Vec::new();
     for line in printed.split_inclusive('\n') {
@@ -174,7 +174,7 @@ fn show_line(whose: &str, text: &str, line: usize) {
     println!("{whose} {}", text.lines().nth(line).unwrap_or("(no line)"));
 }
 
-/// Drops events behind the line that differs, then halves, quarters and so on down to single events, as long as the two
+/// Drops the events after the line that differs, then halves, quarters and so on down to single events, as long as the two
 /// still differ. All files of a round go through one process.
 fn smaller(
     tested: &Tested,

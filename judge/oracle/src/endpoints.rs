@@ -11,7 +11,7 @@ pub struct ScriptedBus {
     event: RefCell<Traffic>,
 }
 
-/// One event: what the endpoints would answer (only a poll has that), and what happened.
+/// One event: what the endpoints would answer (only for a poll), and what happened.
 #[derive(Default)]
 struct Traffic {
     packet_size: usize,
@@ -20,7 +20,7 @@ struct Traffic {
     taken: usize,
     writes: usize,
     sent: Vec<u8>,
-    /// Endpoint and whether it was stalled (or else unstalled), in the order of the calls.
+    /// The endpoint and whether it was stalled (otherwise it was unstalled), in the order of the calls.
     stalls: Vec<(&'static str, bool)>,
 }
 
@@ -95,7 +95,7 @@ impl UsbBus for ScriptedBus {
             packet.len() <= traffic.packet_size,
             "LOUD: an IN write longer than P"
         );
-        // A line shows no bytes and an empty packet alike, so an empty packet must not happen.
+        // A line shows an empty packet in the same way as no packet, so there must be no empty packet.
         assert!(!packet.is_empty(), "LOUD: an empty IN write");
         match offers.in_answer {
             InAnswer::Accepts => {
@@ -112,7 +112,7 @@ impl UsbBus for ScriptedBus {
     }
 }
 
-/// The letters of a line. Both endpoints must have met the same; a line cannot show anything else.
+/// The letters of a line. The same must have happened to both endpoints; a line cannot show anything else.
 fn stalls_of_both(stalls: &[(&'static str, bool)]) -> &'static str {
     let of = |endpoint| -> Vec<bool> {
         stalls

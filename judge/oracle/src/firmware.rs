@@ -10,9 +10,9 @@ use usbd_storage::transport::bbb::peek::Figures;
 /// Chooses a file's next event. Polls come with what the host offers.
 pub struct Firmware {
     temper: Temper,
-    /// A wrapper has just been parsed: the command is likely to be looked at.
+    /// A wrapper has just been parsed: the firmware will probably look at the command.
     fresh: bool,
-    /// Polls in a row that found no room for a packet; nothing but the file's end cures that.
+    /// Polls in a row that found no room for a packet; only the end of the file helps then.
     full: usize,
 }
 
@@ -59,7 +59,7 @@ impl Firmware {
         }
         Some(match now.state {
             1 if rng.percent(50) => again(rng),
-            // All is over: with a status set now, the next poll goes on to send it.
+            // All data is through: with a status set now, the next poll goes on to send it.
             4 | 7 if now.left == 0 && now.status.is_none() && rng.percent(50) => {
                 status(rng, figure_for(now))
             }
@@ -67,7 +67,7 @@ impl Firmware {
             5 if now.status.is_none() && rng.percent(70) => status(rng, figure_for(now)),
             5 if rng.percent(10) => status(rng, figure_for(now)),
             7 if rng.percent(35) => self.during_out(now, rng),
-            // More than the file has room for: nobody waits for its end.
+            // There is more data than the file has room for: do not wait for its end.
             6 | 8 if now.left as usize > 20 * now.packet_size && rng.percent(30) => again(rng),
             _ => host.poll(now, &self.temper, rng, unshown),
         })
@@ -161,7 +161,7 @@ fn again(rng: &mut Rng) -> Event {
     }
 }
 
-/// Around L, which the residue is taken from.
+/// Numbers around L, since the residue is L less the figure.
 fn figure_for(now: &Figures) -> impl Fn(&mut Rng) -> u32 {
     let length = now.length;
     move |rng| match rng.below(5) {

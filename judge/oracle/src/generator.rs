@@ -1,5 +1,5 @@
-//! Random bench files. The Rust device runs while its next event is chosen, so that the choice can
-//! look at the state, the marks and the count left, and go where few random events would.
+//! Random bench files. The Rust device runs while its next event is chosen. So the choice can look at
+//! the state, the marks and the count left, and reach what few random events would reach.
 //!
 //! A file depends on the seed and on the files before it, not on how many are asked for.
 
@@ -17,13 +17,13 @@ use std::io::{self, Write};
 
 pub const DEFAULT_COUNT: usize = 1_000;
 
-/// Every so many files one that breaks a rule of the bench file, one with a refused creation, and a
-/// tour: nothing goes wrong and command follows command, for the sake of the opcodes.
+/// How often there is a file that breaks a rule of the bench file, one with a refused creation, and a
+/// tour. In a tour nothing goes wrong and command follows command, to reach many opcodes.
 const DAMAGED_EVERY: usize = 8;
 const REFUSED_EVERY: usize = 25;
 const TOUR_EVERY: usize = 3;
 
-/// Room for the trailer and some.
+/// Room for the trailer and a little more.
 const LONGEST_FILE: usize = benchfile::LONGEST - 16;
 
 pub struct Generator {
@@ -162,7 +162,7 @@ impl Generator {
             });
             made.events.push(event);
             let Some(device) = run.device() else {
-                // Refused. Events behind it are judged with the file and not run.
+                // Refused. Later events are judged with the file and not run.
                 made.events.push(self.stray());
                 break;
             };
@@ -189,7 +189,7 @@ impl Generator {
     }
 }
 
-/// `judge/oracle/gen`: makes the files, writes them where a folder is given, and tells what they reached.
+/// `judge/oracle/gen`: makes the files, writes them if a folder is given, and tells what they reached.
 pub fn command(seed: u64, count: usize, folder: Option<&str>, list: bool) -> io::Result<Coverage> {
     let mut generator = Generator::new(seed);
     let mut events = 0;

@@ -1,5 +1,5 @@
-//! The host of a random file: wrappers, whole or in pieces or glued, data, and the endpoints'
-//! moods.
+//! The host of a random file: wrappers (whole, in pieces or glued), data, and what the endpoints
+//! answer.
 
 use crate::benchfile::{Event, InAnswer, Offers, OutAnswer};
 use crate::lines::Step;
@@ -13,12 +13,12 @@ use usbd_storage::transport::bbb::peek::Figures;
 pub struct Host {
     /// Packets of the stream in which wrappers come; they wait until the device takes them.
     waiting: VecDeque<Vec<u8>>,
-    /// How many packets of the last offer were from there.
+    /// How many packets of the last offer came from that stream.
     offered: usize,
 }
 
 impl Host {
-    /// Packets that were taken are gone.
+    /// Drops the packets that were taken.
     pub fn saw(&mut self, step: &Step) {
         let taken = match step.event {
             Event::Poll(_) => step.outcome.count.min(self.offered),
@@ -39,7 +39,7 @@ impl Host {
         if wants_wrapper && self.waiting.is_empty() {
             self.refill(now, temper, rng, unshown);
         }
-        // Behind a glued wrapper the rest of the stream may be what the device takes for data.
+        // After a glued wrapper the device may take the rest of the stream for data.
         let from_stream = wants_wrapper || rng.percent(50);
         let waiting = self.waiting.iter().filter(|_| from_stream);
         let mut packets: Vec<Vec<u8>> = waiting.take(2).cloned().collect();
@@ -56,14 +56,14 @@ impl Host {
         let unread = now.unread();
         let mut stream = Vec::new();
         if now.state == 0 && unread > 0 && rng.percent(70) {
-            // Bytes left over would shift every wrapper to come: fill them up to one, a bad one.
+            // Remaining bytes would shift every later wrapper: fill them up to one wrapper, a bad one.
             stream.extend(rng.bytes(31 - unread % 31));
         } else {
             let glued = rng.percent(temper.glued);
             let mut first = wrapper(now, temper, rng, unshown);
             if glued && rng.percent(75) {
-                // So short an answer that the bytes behind the wrapper go out at once, or data that
-                // come before the wrapper's poll has ended.
+                // An answer so short that the bytes after the wrapper go out at once, or data that
+                // comes before the wrapper's poll has ended.
                 let flags = rng.pick(&[0x80, 0x00]);
                 first[8..13].copy_from_slice(&[rng.between(1, 7) as u8, 0, 0, 0, flags]);
             }

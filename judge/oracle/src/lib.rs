@@ -1,5 +1,5 @@
-//! The oracle: the Rust of docs/src, unchanged, behind document 01's bench file. `main.rs` has the commands over it;
-//! a test that runs beside the Rust in one process uses the modules.
+//! The oracle: the Rust of docs/src, unchanged, driven by document 01's bench file. `main.rs` has the commands over it;
+//! a test that runs in one process with the Rust uses the modules.
 
 pub mod benchfile;
 pub mod bufferops;

@@ -8,15 +8,15 @@ use std::fmt::Write;
 use usb_device::bus::UsbBusAllocator;
 use usbd_storage::transport::bbb::peek::Figures;
 
-/// What stands behind each line.
+/// What comes after each line.
 #[derive(Clone, Copy, PartialEq, Eq)]
 pub enum Detail {
     Lines,
-    /// Also everything that a line hides.
+    /// Everything that a line hides, too.
     Show,
 }
 
-/// One event with the record around it; none before the creation and behind a refused one.
+/// One event with the record before and after it; none before the creation, and none after a refused one.
 pub struct Step<'a> {
     pub event: &'a Event,
     pub before: Option<Figures>,
@@ -54,7 +54,7 @@ impl<'a> Run<'a> {
         self.device.as_ref()
     }
 
-    /// Runs one event, adds its line, and lets `watch` see it. False where the run ends: a refused
+    /// Runs one event, adds its line, and lets `watch` see it. False if the run ends: a refused
     /// creation.
     pub fn step(&mut self, event: &Event, watch: &mut dyn FnMut(Step)) -> bool {
         let before = self.device.as_ref().map(Device::figures);

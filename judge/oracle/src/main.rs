@@ -73,7 +73,7 @@ fn run(file: Option<&&str>, detail: Detail) -> io::Result<()> {
     io::stdout().lock().write_all(text.as_bytes())
 }
 
-/// The same for many files in one process, each behind a line with its name.
+/// The same for many files in one process; a line with its name comes before each.
 fn run_each(files: &[&str], detail: Detail) -> io::Result<()> {
     let mut output = io::BufWriter::new(io::stdout().lock());
     for path in files {

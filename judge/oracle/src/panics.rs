@@ -1,4 +1,4 @@
-//! Two panics of the Rust are answers of document 01. They are caught here, and no other one is.
+//! Two panics of the Rust are answers of document 01. Only these two are caught, and they are caught here.
 
 use std::cell::Cell;
 use std::panic::{AssertUnwindSafe, PanicHookInfo, catch_unwind, resume_unwind};
@@ -27,7 +27,7 @@ thread_local! {
     static CAME: Cell<bool> = const { Cell::new(false) };
 }
 
-/// Keeps a panic silent exactly where it is the one that was expected.
+/// Keeps a panic silent only if it is the expected one.
 pub fn install() {
     let loud = std::panic::take_hook();
     std::panic::set_hook(Box::new(move |info| {
@@ -39,7 +39,7 @@ pub fn install() {
     }));
 }
 
-/// The call's result, or none where the call panicked exactly as expected. Any other panic goes on.
+/// The call's result, or none if the call panicked exactly as expected. Any other panic goes on.
 pub fn catch<T>(expected: AnswerPanic, call: impl FnOnce() -> T) -> Option<T> {
     EXPECTED.set(Some(expected));
     CAME.set(false);

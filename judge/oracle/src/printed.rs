@@ -26,8 +26,8 @@ pub struct Printed {
 }
 
 impl Printed {
-    /// None where no device was made: a file that is refused or empty, and a refused creation. What is wrong where the
-    /// text is no bench output for the file.
+    /// None if no device was made: the file is refused or empty, or the creation is refused. An error that says what is wrong
+    /// if the text is not the output of `bench` for the file.
     pub fn new(file: &[u8], text: &str) -> Result<Option<Printed>, String> {
         let Ok(events) = benchfile::parse(file) else {
             return match text {
@@ -56,7 +56,7 @@ impl Printed {
 }
 
 impl Step {
-    /// The OUT packets that a poll took, by the count of its line.
+    /// The OUT packets that a poll took, as the count of its line says.
     pub fn taken(&self) -> impl Iterator<Item = &[u8]> {
         let offered = match &self.event {
             Event::Poll(offers) => &offers.out[..],
@@ -79,7 +79,7 @@ impl Step {
         }
     }
 
-    /// The bytes that the firmware put in, by the count of the line.
+    /// The bytes that the firmware put in, as the count of the line says.
     pub fn put(&self) -> &[u8] {
         match &self.event {
             Event::WriteData(source) | Event::TryWriteDataAll(source) => {

@@ -1,13 +1,13 @@
 //! The whole list of what bench files can reach.
 //!
-//! It is written down from document 01 and the rulings, not gathered from runs. A run that reaches
-//! something outside of it panics: either the list or the reading of 01 is wrong.
+//! It is written down from document 01 and the rulings, not collected from runs. A run that reaches
+//! something outside the list panics: either the list or our reading of 01 is wrong.
 
 use crate::chains;
 use crate::coverage::{Key, Section};
 use crate::damage;
 
-/// State 2 never rests between two events.
+/// The device is never in state 2 between two events.
 const RESTING: [u8; 8] = [0, 1, 3, 4, 5, 6, 7, 8];
 pub const PACKET_SIZES: [usize; 4] = [8, 16, 32, 64];
 pub const BUFFERS: [u32; 7] = [31, 32, 63, 64, 65, 512, 65_536];
@@ -130,13 +130,13 @@ pub fn all() -> Vec<Key> {
 }
 
 /// Every answer that an event can have in a state, by the table of answers of document 01 and the
-/// chains of the rulings. No state stands for a creation, no kind for a refused file.
+/// chains of the rulings. A creation has `None` as its state, and a refused file also as its kind.
 fn triples() -> Vec<(Option<u8>, Option<u8>, Vec<u8>)> {
     let mut triples = vec![(None, None, vec![14]), (None, Some(0), vec![0, 2, 5, 8, 9])];
     for state in RESTING {
         let polls = match state {
             1 => vec![0, 11],
-            // Both reach 4 and 7 behind a wrapper; 1 behind 3 comes from the second packet.
+            // Both reach 4 and 7 after a wrapper; 1 after 3 comes from the second packet.
             0 | 3 => vec![0, 1, 4, 6, 7, 11],
             4 => vec![0, 4, 6, 7, 11],
             5 | 6 => vec![0, 6, 7, 11],

@@ -178,7 +178,7 @@ fn keys_of_wrapper(
     let unread = before.unread();
     let mut way = |what: &str| keys.push((Section::Wrapper, format!("P {packet_size} {what}")));
     if after.state == 1 {
-        // Nothing has touched the buffer behind the parsing.
+        // Nothing has touched the buffer since the parsing.
         let wrapper = &step.io[after.read_mark - 31..after.read_mark];
         if !wrapper.starts_with(b"USBC") {
             way("wrong signature");

@@ -1,4 +1,4 @@
-//! A small random source of our own (splitmix64), so that a seed gives the same files everywhere.
+//! A small random source (splitmix64), written here so that a seed gives the same files everywhere.
 
 pub struct Rng {
     state: u64,
@@ -17,7 +17,7 @@ impl Rng {
         mixed ^ (mixed >> 31)
     }
 
-    /// 0 to `limit` - 1. The bias for limits that are no power of two does not matter here.
+    /// 0 to `limit` - 1. The bias for limits that are not a power of two does not matter here.
     pub fn below(&mut self, limit: usize) -> usize {
         (self.next() % limit as u64) as usize
     }

@@ -8,7 +8,7 @@ use crate::wrapper::Wrapper;
 pub struct Script {
     packet_size: usize,
     pub events: Vec<Event>,
-    /// Filled up to this many bytes.
+    /// The file is filled up to this many bytes.
     length: Option<usize>,
 }
 
@@ -69,7 +69,7 @@ impl Script {
         self.offers(InAnswer::Accepts, first, OutAnswer::Busy)
     }
 
-    /// In packets of P, one a poll.
+    /// In packets of P, one in each poll.
     pub fn wrapper(self, wrapper: Wrapper) -> Script {
         let packet_size = self.packet_size;
         let bytes = wrapper.bytes();

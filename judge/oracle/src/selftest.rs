@@ -1,5 +1,5 @@
 //! Faults on purpose. Each must end the program with a message and a nonzero exit; checks/oracle runs
-//! them all, so that a driver that has gone deaf is noticed.
+//! them all, so that it is noticed if the oracle no longer sees faults.
 
 use crate::benchfile::{InAnswer, Offers, OutAnswer};
 use crate::endpoints::ScriptedBus;
@@ -38,7 +38,7 @@ const FAULTS: &[(&str, Fault)] = &[
     ("a foreign panic", |_| {
         panics::catch(panics::SET_STATUS, || panic!("a foreign panic"));
     }),
-    // A panic that is an answer elsewhere, and not of this call.
+    // A panic that is an answer of another call, but not of this one.
     ("cb.is_empty()", |_| {
         panics::catch(panics::SET_STATUS, || peek_parse_cb(&[]));
     }),
@@ -48,7 +48,7 @@ pub fn names() -> impl Iterator<Item = &'static str> {
     FAULTS.iter().map(|(name, _)| *name)
 }
 
-/// Runs the fault of that name inside of a poll; returns only if nobody noticed.
+/// Runs the fault of that name inside a poll; returns only if nothing noticed it.
 pub fn run(name: &str) {
     let (_, fault) = FAULTS
         .iter()

@@ -1,5 +1,5 @@
-//! `--show`: everything that a line hides, in lines of their own behind it, each indented by two
-//! spaces and starting with one fixed word.
+//! `--show`: everything that a line hides, in separate lines after it. Each is indented by two spaces
+//! and starts with one fixed word.
 
 use crate::benchfile::{Event, InAnswer, OutAnswer};
 use crate::decode;
@@ -7,7 +7,7 @@ use crate::lines::{Step, hex, hex_or_dash};
 use std::fmt::Write;
 use usbd_storage::transport::bbb::peek::Figures;
 
-/// A longer buffer is shown up to its write mark only.
+/// A longer buffer is shown only up to its write mark.
 const SHOWN_WHOLE: usize = 512;
 
 pub fn step(text: &mut String, step: &Step) {

@@ -1,4 +1,4 @@
-//! `judge/oracle/vectors`: the whole of judge/vectors/ but its README, the same bytes each time.
+//! `judge/oracle/vectors`: all of judge/vectors/ except its README, the same bytes each time.
 
 use crate::benchfile;
 use crate::cases;
@@ -70,9 +70,9 @@ fn by_hand(coverage: &mut Coverage) -> Vec<Vector> {
     cases::all().into_iter().map(vector).collect()
 }
 
-/// Random files for what the files made by hand miss, always the one that reaches most of it, cut
-/// behind the last event that helps. Left out are the pairs of P and buffer, which take a file each,
-/// and the opcodes with each block length, which are thousands of events.
+/// Random files for what the files made by hand miss: always the file that reaches most of it, cut
+/// after the last event that helps. Two things are left out: the pairs of P and buffer, which need a
+/// file each, and the opcodes with each block length, which are thousands of events.
 fn picked(coverage: &mut Coverage) -> Vec<Vector> {
     let mut generator = Generator::new(SEED);
     let made = (0..DEFAULT_COUNT).map(|_| generator.next_file());
@@ -112,7 +112,7 @@ fn picked(coverage: &mut Coverage) -> Vec<Vector> {
     }
 }
 
-/// Those of the keys that are wanted and not yet reached, each once.
+/// The keys that are wanted and not yet reached, each once.
 fn missed<'a>(coverage: &Coverage, keys: impl Iterator<Item = &'a Key>) -> BTreeSet<Key> {
     let wanted = |section| !matches!(section, Section::Pair | Section::Creation);
     keys.filter(|key| wanted(key.0) && coverage.misses(key))

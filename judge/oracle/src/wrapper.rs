@@ -12,7 +12,7 @@ pub struct Wrapper {
 }
 
 impl Wrapper {
-    /// A good wrapper for the block, without data; bytes behind the block are 0.
+    /// A good wrapper for the block, without data; bytes after the block are 0.
     pub fn new(tag: u32, block: &[u8]) -> Wrapper {
         let mut whole = [0; 16];
         whole[..block.len()].copy_from_slice(block);

@@ -26,7 +26,7 @@ pub fn try_from_primitive(item: TokenStream) -> TokenStream {
     .expect("the derived code is Rust")
 }
 
-/// The name stands behind the word `enum`; a variant is a name in front of `=`.
+/// The name comes after the word `enum`; a variant is a name before `=`.
 fn name_and_variants(item: TokenStream) -> (String, Vec<String>) {
     let mut tokens = item.into_iter();
     tokens

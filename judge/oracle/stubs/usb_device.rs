@@ -1,7 +1,7 @@
 //! The part of the crate `usb_device` that docs/src names, and nothing more.
 //!
-//! Endpoints hand every call on to the bus, which is the bench's own script (judge/oracle/src/endpoints.rs).
-//! Descriptors are outside of the port: the places that would write one fail loudly.
+//! Endpoints pass every call on to the bus, which is a script of the bench (judge/oracle/src/endpoints.rs).
+//! Descriptors are not part of the port: the places that would write one fail loudly.
 
 pub use error::{Result, UsbError};
 
@@ -142,7 +142,7 @@ pub mod control {
     }
 
     impl Request {
-        /// As the real crate takes bmRequestType apart; bit 7, the direction, is the caller's.
+        /// Takes bmRequestType apart as the real crate does; the caller looks at bit 7, the direction.
         pub fn new(bm_request_type: u8, request: u8) -> Request {
             Request {
                 request_type: match (bm_request_type >> 5) & 0b11 {

@@ -1,4 +1,4 @@
-//! Events as raw calls on guarded memory, with everything looked at that is owed behind a call.
+//! Events as raw calls on guarded memory. After each call everything that it promises is tested.
 
 use super::layout::{self, number};
 use super::lent::Lent;
@@ -14,16 +14,16 @@ pub struct Guarded {
     pub io: Lent,
     packet_size: u8,
     max_lun: u8,
-    /// What record and IO buffer were before the call.
+    /// What the record and the IO buffer were before the call.
     record_before: Vec<u8>,
     io_before: Vec<u8>,
-    /// What packet buffer and destination hold before a call; another value each time.
+    /// What the packet buffer and the destination hold before a call; another value each time.
     fill: u8,
     /// Calls so far, for packet buffers that are longer than needed.
     calls: usize,
 }
 
-/// The creation's answer, and the device where it is 0.
+/// The creation's answer, and the device if the answer is 0.
 pub fn create(packet_size: u16, max_lun: u8, buffer: u32) -> Checked<(u8, Option<Guarded>)> {
     // No byte of a new record has this value.
     let fill = 0xEE;
@@ -70,7 +70,7 @@ impl Guarded {
     }
 
     pub fn apply(&mut self, event: &Event) -> Checked<Outcome> {
-        // All values in turn, and no two next to each other.
+        // All values in turn; a value and the next one are never neighbouring numbers.
         self.fill = self.fill.wrapping_add(89);
         self.calls += 1;
         let status_before = layout::status_bytes(self.record.all()).to_vec();
@@ -138,8 +138,8 @@ impl Guarded {
             !is_refusal(word.answer()) || word.0 == u64::from(word.answer()),
             "a refused poll did something",
         )?;
-        // All is written in front of the write mark. Where a wrapper's last packet is followed by data in the same
-        // poll, the mark may have gone back in between, from the end of that packet.
+        // All is written before the write mark. If data follows a wrapper's last packet in the same poll, the mark may
+        // have gone back in between, from the end of that packet.
         let first_end = number(&self.record_before, layout::WRITE) as usize + one.len();
         self.require_owed(word.answer(), first_end.max(self.write_mark()))?;
         Ok(Outcome {
@@ -219,7 +219,7 @@ impl Guarded {
         })
     }
 
-    /// Offer and decode. What is offered is what the record has: the LUN and so many bytes of the block.
+    /// Offer and decode. What is offered is what the record has: the LUN, and as many bytes of the block as it says.
     fn command_step(&mut self) -> Checked<Outcome> {
         let value = u64::from_ne_bytes([self.fill; 8]);
         let mut numbers = Lent::filled(COMMAND_NUMBERS, value);
@@ -249,7 +249,7 @@ impl Guarded {
         Ok(outcome)
     }
 
-    /// A command is shown in every state but 0. The bench file has no event for this, so it is looked at behind every
+    /// A command is shown in every state but 0. The bench file has no event for this, so it is tested after every
     /// event.
     fn require_shown(&self) -> Checked {
         let record = self.record.all();
@@ -273,8 +273,8 @@ impl Guarded {
         )
     }
 
-    /// Record and IO buffer, and the bytes around them. Of the IO buffer the call may have written the first `written`
-    /// bytes.
+    /// Tests record and IO buffer, and the bytes around them. The call may have written the first `written` bytes of the
+    /// IO buffer.
     fn require_owed(&mut self, answer: u8, written: usize) -> Checked {
         if is_refusal(answer) {
             self.require_same_record("a refusal changed the record")?;
@@ -329,7 +329,7 @@ fn is_kept(lent: &Lent, bytes: &[u8]) -> bool {
     lent.all() == bytes && lent.guards_stand()
 }
 
-/// The kind is one of a command, and numbers behind its fields are 0.
+/// The kind is the number of a command, and the numbers after its fields are 0.
 fn require_command(numbers: &[u64]) -> Checked {
     // By kind, from Unknown to ReadFormatCapacities.
     const FIELDS: [usize; 11] = [1, 3, 0, 2, 5, 5, 0, 1, 2, 2, 1];
@@ -343,7 +343,7 @@ fn require_command(numbers: &[u64]) -> Checked {
     )
 }
 
-/// Whether all bits outside of the mask are 0.
+/// Whether all bits outside the mask are 0.
 fn only(word: Word, mask: u64) -> bool {
     word.0 & !mask == 0
 }
@@ -369,7 +369,7 @@ fn stalls(word: Word) -> Checked<&'static str> {
     }))
 }
 
-/// The answer's number and the packet lent with it. An endpoint that does not do its part hands nothing over, whatever is lent.
+/// The answer's number and the packet lent with it. An endpoint that does not do its part hands over nothing, whatever is lent.
 fn out_parts(out: &OutAnswer) -> (u8, &[u8]) {
     match out {
         OutAnswer::Packet(packet) => (0, packet),

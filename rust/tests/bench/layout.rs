@@ -1,4 +1,4 @@
-//! Where each field stands in a record. The wrapper has its own four places; these are written down a second time.
+//! Where each field stands in a record. The safe wrapper has four of these places too; they are written down here a second time.
 
 pub const RECORD: usize = 52;
 pub const BLOCK_BYTES: usize = 16;
@@ -25,7 +25,7 @@ pub fn number(record: &[u8], at: usize) -> u32 {
     u32::from_le_bytes(bytes)
 }
 
-/// The block, as long as it is.
+/// The block, with its own length.
 pub fn block(record: &[u8]) -> &[u8] {
     &record[BLOCK..BLOCK + usize::from(record[BLOCK_LENGTH])]
 }

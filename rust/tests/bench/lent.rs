@@ -10,7 +10,7 @@ pub struct Lent<T = u8> {
 }
 
 impl<T: Copy + PartialEq> Lent<T> {
-    /// So many elements; they and the guards have this value.
+    /// This many elements; they and the guards have this value.
     pub fn filled(length: usize, value: T) -> Lent<T> {
         Lent {
             all: vec![value; length + 2 * GUARD],
@@ -25,7 +25,7 @@ impl<T: Copy + PartialEq> Lent<T> {
     }
 
     pub fn all(&self) -> &[T] {
-        // The compiler may take it that a call keeps to the slice that it got; here it must not.
+        // The compiler may assume that a call keeps to the slice that it got; here it must not assume that.
         let all = black_box(&self.all[..]);
         &all[GUARD..all.len() - GUARD]
     }

@@ -1,18 +1,18 @@
 //! Bench files played through the archive by two devices at once: one by the raw calls, with guards around everything
-//! that is lent ([`guarded`]), one by the safe wrapper ([`wrapped`]). Behind every event they have to agree in all bytes.
+//! that is lent ([`guarded`]), one by the safe wrapper ([`wrapped`]). After every event they have to agree in all bytes.
 //!
-//! What is looked at beside the lines of a bench file:
-//!   - bytes of the packet buffer behind those sent, and of a destination behind those read, are as they were;
+//! What is tested besides the lines of a bench file:
+//!   - bytes of the packet buffer after those sent, and of a destination after those read, are as they were;
 //!   - so are sources, offered packets, and the bytes around everything that was lent;
-//!   - no call changes the IO buffer behind what it can have written, and one that only reads it changes nothing in it;
+//!   - no call changes the IO buffer after what it can have written, and a call that only reads it changes nothing in it;
 //!   - packet size, IO buffer length and max LUN in the record stay those of the creation, residue and status byte those of
 //!     the last status;
 //!   - a refusal with 3, 10, 11 or 12 leaves record, IO buffer, packet buffer and destination as they were;
-//!   - what a result does not name is 0 in it.
+//!   - a part that a result does not give is 0.
 //!
 //! Every few hundred events [`probes`] makes, on copies, calls that no bench file can make.
 //!
-//! The crate that has this module also has `benchfile`, the oracle's.
+//! The crate that has this module also has the oracle's `benchfile`.
 
 pub mod guarded;
 pub mod layout;
@@ -24,7 +24,7 @@ pub mod replica;
 pub mod rules;
 pub mod wrapped;
 
-/// What is wrong, in words; whoever plays the file adds where.
+/// What is wrong, in words; the caller that plays the file adds where.
 pub type Checked<T = ()> = Result<T, String>;
 
 pub fn require(holds: bool, otherwise: &str) -> Checked {

@@ -6,7 +6,7 @@ use std::fmt::Write;
 #[derive(Clone, PartialEq, Eq, Debug)]
 pub struct Outcome {
     pub answer: u8,
-    /// The endpoint's error number, with answer 7 only.
+    /// The endpoint's error number; only with answer 7.
     pub carried: Option<u8>,
     pub count: usize,
     pub stalls: &'static str,
@@ -27,7 +27,7 @@ impl Outcome {
         }
     }
 
-    /// The line, for the figures behind the event.
+    /// The line, for the figures after the event.
     pub fn line(&self, index: usize, state: u8, left: u32, unread: u32) -> String {
         let Outcome {
             answer,

@@ -10,19 +10,19 @@ use souklavanh::{Device, State};
 /// Events from one round of probes to the next.
 const PROBE_EVERY: usize = 397;
 
-/// No device can have more; a longer buffer need not be there to be refused.
+/// No device can have more; a longer buffer is refused and need not be allocated for that.
 const LONGEST_BUFFER: u32 = 65_536;
 
-/// What was played so far.
+/// What has been played so far.
 #[derive(Default)]
 pub struct Tally {
     pub files: usize,
     pub events: usize,
-    /// Calls that were refused as they have to be.
+    /// Calls that were refused, as they must be.
     pub probes: usize,
 }
 
-/// An event that was played, and the device behind it; none behind a refused creation.
+/// An event that was played, and the device after it; none after a refused creation.
 pub struct Seen<'s> {
     pub event: &'s Event,
     pub outcome: &'s Outcome,
@@ -46,7 +46,7 @@ pub fn play(
     Ok(telling.text)
 }
 
-/// The event that is played, the lines so far, and who sees the events.
+/// The event that is being played, the lines so far, and the function that sees the events.
 struct Telling<'t> {
     index: usize,
     text: String,
@@ -92,7 +92,7 @@ fn play_all(events: &[Event], tally: &mut Tally, telling: &mut Telling) -> Check
     Ok(())
 }
 
-/// Both devices, over a buffer that is made for the wrapper's, or the answer that refuses them.
+/// Both devices, with a buffer that is made for the safe wrapper's device, or the answer that refuses them.
 fn create<'a>(
     creation: &Event,
     io: &'a mut Vec<u8>,
@@ -119,7 +119,7 @@ fn create<'a>(
 fn step(device: &mut Device, guarded: &mut Guarded, event: &Event) -> Checked<Outcome> {
     let raw = guarded.apply(event)?;
     let outcome = wrapped::apply(device, guarded.packet_size(), event)?;
-    // The raw call's numbers of a command are looked at where it is made.
+    // The numbers of a command from the raw call are tested where that call is made.
     let seen = Outcome {
         command: None,
         ..outcome.clone()
@@ -132,7 +132,7 @@ fn step(device: &mut Device, guarded: &mut Guarded, event: &Event) -> Checked<Ou
     Ok(outcome)
 }
 
-/// Both devices are the same in all bytes, and the wrapper tells of its record what stands there.
+/// Both devices are the same in all bytes, and the safe wrapper says of its record what stands there.
 fn require_same(device: &Device, guarded: &Guarded) -> Checked {
     let record = guarded.record.all();
     require(

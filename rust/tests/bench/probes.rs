@@ -1,6 +1,6 @@
-//! Calls that have to be refused and that no bench file can make, on copies of a device: every call with a record that is
-//! broken by each of document 01's rules, a poll with too short a packet buffer or too long a packet, a status byte above
-//! 2, and room of another length than a command has.
+//! Calls that have to be refused and that no bench file can make, on copies of a device: every call with a record that
+//! breaks one of document 01's rules, for each rule; a poll with a packet buffer that is too short or a packet that is too
+//! long; a status byte above 2; and room that does not have the length of a command.
 
 use super::guarded::Guarded;
 use super::layout;
@@ -12,8 +12,8 @@ use souklavanh::{CommandStatus, Device, Endpoints, Error};
 
 type Call = (&'static str, fn(&mut Replica) -> u64);
 
-/// Every call, with arguments that a whole record would not refuse. The last three have a reason of their own, or none at
-/// all, to do nothing: 10 comes before it.
+/// Every call, with arguments that are good for a whole record. Only the last three would be refused for another reason, or
+/// would do nothing: 10 comes first.
 const CALLS: &[Call] = &[
     ("poll", |replica| replica.poll(PACKET_BUFFER, 8, 8)),
     ("set_status", |replica| replica.set_status(1)),
@@ -34,7 +34,7 @@ const CALLS: &[Call] = &[
     ("control 21 FF", |replica| replica.control(0x21, 0xFF)),
 ];
 
-/// A call that is refused by its arguments, for a packet size, with its answer.
+/// A call that is refused because of its arguments, for a packet size, with its answer.
 type Refused = (&'static str, u64, fn(&mut Replica, usize) -> u64);
 
 const ON_WHOLE: &[Refused] = &[
@@ -59,7 +59,7 @@ const ON_WHOLE: &[Refused] = &[
     ("seven numbers", 10, |replica, _| replica.command_step(7)),
 ];
 
-/// Makes all of them; how many calls were refused as they have to be.
+/// Makes all of them, and returns how many calls were refused, as they must be.
 pub fn refusals(device: &Guarded) -> Checked<usize> {
     let mut made = of_whole_record(device)?;
     for rule in RULES {
@@ -92,7 +92,7 @@ fn of_broken_record(device: &Guarded, rule: &Rule) -> Checked<usize> {
     Ok(CALLS.len())
 }
 
-/// The same by the safe wrapper: it answers `Broken` to every call and changes nothing.
+/// The same through the safe wrapper: it answers `Broken` to every call and changes nothing.
 fn of_broken_wrapped(replica: &mut Replica, rule: &Rule) -> Checked {
     let record: [u8; layout::RECORD] = replica.record[..layout::RECORD]
         .try_into()

@@ -1,4 +1,4 @@
-//! Copies of a device, to be spoilt.
+//! Copies of a device, which tests may spoil.
 
 use super::guarded::Guarded;
 use super::layout::{self, number};
@@ -10,7 +10,7 @@ pub const PACKET_BUFFER: usize = 64;
 /// Bytes that are written, and room for bytes that are read.
 pub const ROOM: usize = 24;
 
-/// A copy of a device, with everything else that a call can be lent: guards stand behind each part, and it says how much of
+/// A copy of a device, with everything else that can be lent to a call. Guards stand after each part, and it says how much of
 /// record and IO buffer is lent.
 #[derive(Clone, PartialEq)]
 pub struct Replica {
@@ -22,7 +22,7 @@ pub struct Replica {
     pub destination: Vec<u8>,
     block: Vec<u8>,
     numbers: Vec<u64>,
-    /// Offered packets and written bytes; other values than all else has.
+    /// Offered packets and written bytes; their values occur nowhere else.
     pub source: Vec<u8>,
 }
 

@@ -1,4 +1,4 @@
-//! "Broken means": each rule as values that are set in a whole record, if possible so that no other rule is broken with it.
+//! "Broken means": each rule as values that are set in a whole record, if possible without breaking another rule.
 
 use super::layout::{
     BLOCK_LENGTH, DIRECTION, LENGTH, LUN, MAX_LUN, PACKET, PRESENT, READ, STATE, STATUS, WRITE,
@@ -8,7 +8,7 @@ pub struct Rule {
     pub name: &'static str,
     /// Field and value; a field of four bytes is set as a whole.
     pub set: &'static [(usize, u32)],
-    /// So many bytes are lent more than the record then says: of the IO buffer, and of the record itself.
+    /// How many more bytes are lent than the record then says: of the IO buffer, and of the record itself.
     pub more_io: isize,
     pub more_record: isize,
 }

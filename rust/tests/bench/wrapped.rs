@@ -129,7 +129,7 @@ fn control(device: &mut Device, bm_request_type: u8, request: u8) -> Outcome {
     })
 }
 
-/// Offer and decode. The decoders for themselves have to say the same of the block that is shown.
+/// Offer and decode. The decoders, called alone, have to say the same about the block that is shown.
 fn command(device: &Device) -> Checked<Outcome> {
     let offer = match device.command_step() {
         Err(error) => return Ok(failed(error)),
