@@ -131,7 +131,7 @@ pub reads : (body : List ℕ) (d : Device) (io lent : List ℕ) (r : Moved) {n :
 unfolding readActs readInto
 reads body d io lent r {n} hn h ha = rw (ha, ← hn) (ap (readInto io lent n) h)
 
--- ---- what is put in front of the lent bytes: a control answer, or LUN and block
+-- ---- what is put at the front of the lent bytes: a control answer, or LUN and block
 
 module _ (lent : List ℕ) (x : Reply) where
   pub shows-nothing : x ≡ reply.Nothing → front 0 lent ≡ inFront (replied x) lent
@@ -142,7 +142,7 @@ module _ (lent : List ℕ) (x : Reply) where
   unfolding inFront
   shows-lun {n} e h = rw e (ap (front 1) (rw overlay-nothing at (overlay-stored lent 0 [] n (omega arith))))
 
--- One byte is put in front, and others after it.
+-- One byte is put at the front, and others after it.
 behind : (l : List ℕ) (v : ℕ) (ys : List ℕ) → 1 ≤ length l → overlay (set l 0 v) 1 ys ≡ overlay l 0 (v ∷ ys)
 unfolding overlay
 behind [] v ys h = absurd (omega arith)

@@ -98,7 +98,7 @@ readActs body d io lent = readInto io lent (get room body) (readCall d io (take 
 
 -- ---- 6 reset, 7 control: "control answer"
 
--- The bytes `bytes` are put in front of the lent bytes `lent`, and the line shows all of them.
+-- The bytes `bytes` are written over the front of the lent bytes `lent`, and the line shows all of them.
 unfoldable pub inFront : List ℕ → List ℕ → Front
 inFront bytes lent = front (length bytes) (overlay lent 0 bytes)
 
@@ -121,8 +121,9 @@ controlActs body d io lent = handled io lent (controlCall d io (requestOf body))
 
 -- ---- 8 command step: "LUN then block"; "nothing offered gives 0 and `-`, an empty block 13 and `-`"
 
--- The LUN of a command that is offered, and the block in the wrapper `w`, are put in front of the lent bytes `lent`. All 16 bytes of the
--- block are put there; the line shows as many of them as the block length says. Where nothing is offered, nothing is put there or shown.
+-- The LUN of a command that is offered, and the block in the wrapper `w`, are written over the front of the lent bytes `lent`. All 16
+-- bytes of the block are written; the line shows the LUN and as many of them as the block length says. Where nothing is offered, nothing
+-- is written or shown.
 unfoldable pub commandInFront : Wrapper → List Offered → List ℕ → Front
 commandInFront w [] lent = front 0 lent
 commandInFront w (o ∷ os) lent = front (1 + w .blocklength) (overlay lent 0 (o .lun ∷ w .block))

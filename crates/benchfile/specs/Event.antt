@@ -21,7 +21,7 @@ bodyOf e = drop 3 e
 
 -- ---- the fields of a body, by the kind of the event
 
--- "0 create (P 2, max LUN 1, buffer 4)"
+-- "0 create (P 2, max LUN 1, buffer 4)": these are the fields of a creation.
 abbrev pub packetSize : Field
 packetSize = littleEndian 0 2
 
@@ -31,7 +31,7 @@ maxLun = oneByte 2
 abbrev pub bufferSize : Field
 bufferSize = littleEndian 3 4
 
--- "1 poll (IN answer, two OUT answers, two packet lengths, 1 byte each, then the packets)"
+-- "1 poll (IN answer, two OUT answers, two packet lengths, 1 byte each, then the packets)": these are the fields of a poll.
 abbrev pub inAnswer : Field
 inAnswer = oneByte 0
 
@@ -55,18 +55,18 @@ firstPacket body = take (get firstLength body) (drop 5 body)
 unfoldable pub secondPacket : List ℕ → List ℕ
 secondPacket body = drop (5 + get firstLength body) body
 
--- "2 status (byte 0 to 2, figure 4)"
+-- "2 status (byte 0 to 2, figure 4)": these are the fields of a status.
 abbrev pub statusByte : Field
 statusByte = oneByte 0
 
 abbrev pub figure : Field
 figure = littleEndian 1 4
 
--- "5 `read_data` (room 2)"
+-- "5 `read_data` (room 2)": this is the field of a read.
 abbrev pub room : Field
 room = littleEndian 0 2
 
--- "7 control (bmRequestType, request)"
+-- "7 control (bmRequestType, request)": these are the fields of a control request.
 abbrev pub requestType : Field
 requestType = oneByte 0
 
@@ -104,7 +104,7 @@ isLong kind n =
     (cond (eqb kind 8) (eqb n 0)
     false))))))
 
--- Whether an event of the kind `kind` may have the body `body`. No other kinds than 0 to 8 exist.
+-- Whether an event of the kind `kind` may have the body `body`. There are no other kinds than 0 to 8.
 unfoldable pub suits : ℕ → List ℕ → Bool
 suits kind body = cond (eqb kind 1) (isPoll body) (cond (eqb kind 2) (isStatus body) (isLong kind (length body)))
 

@@ -18,7 +18,7 @@ unfoldable pub areEvents : Bool → List (List ℕ) → Bool
 areEvents first [] = true
 areEvents first (e ∷ es) = isEvent first e && areEvents false es
 
--- "offset of the last event (0 if none)"
+-- "offset of the last event (0 if none)": where the last of the events stands if they follow each other.
 unfoldable pub lastOffset : List (List ℕ) → ℕ
 lastOffset [] = 0
 lastOffset (e ∷ []) = 0

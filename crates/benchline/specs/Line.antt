@@ -45,7 +45,7 @@ numbers l =
     ++ number (l .unread)
     ++ number (l .count)
 
--- "stalls (`-`, `S`, `U`, `US`)"
+-- "stalls (`-`, `S`, `U`, `US`)": the text for what is asked of both endpoints.
 abbrev pub stallsText : Stalls → List ℕ
 stallsText Kept = dash ∷ []
 stallsText Stalled = 0x53 ∷ []
@@ -57,7 +57,7 @@ unfoldable pub hex : List ℕ → List ℕ
 hex [] = []
 hex (b ∷ bs) = digit (b / 16) ∷ digit (b % 16) ∷ hex bs
 
--- "bytes in lower-case hex .. or `-`"
+-- "bytes in lower-case hex .. or `-`": the text for a list of bytes; `-` is that of an empty one.
 unfoldable pub bytesText : List ℕ → List ℕ
 bytesText [] = dash ∷ []
 bytesText (b ∷ bs) = hex (b ∷ bs)

@@ -108,8 +108,8 @@ pub record Running : Type 0 where
 abbrev pub runningOf : Run → List ℕ → List ℕ → List ℕ → Running
 runningOf run io lent text = record { run = run; io = io; lent = lent; text = text }
 
--- What the event with the index `index` leaves where its call left and told `a`: its line is put in front of the text buffer `text`. The
--- next event stands at the offset `next`.
+-- What the event with the index `index` leaves where its call left and told `a`: its line is written over the front of the text buffer
+-- `text`. The next event stands at the offset `next`.
 unfoldable pub wentOn : ℕ → ℕ → Acting → List ℕ → Running
 wentOn index next a text = runningOf
     (record { device = a .device; at = next; index = index + 1; line = length (toldLine index a); going = true })
@@ -117,7 +117,7 @@ wentOn index next a text = runningOf
     (a .lent)
     (overlay text 0 (toldLine index a))
 
--- What the event with the head `e` leaves. It stands in `events` where the run `run` has come to, and its call is given the device of
+-- What the event with the head `e` leaves. It stands in `events` at the offset of the run `run`, and its call is given the device of
 -- `run`, the IO buffer `io` and the lent bytes `lent`.
 unfoldable pub eventBy : Run → Head → List ℕ → List ℕ → List ℕ → List ℕ → Running
 eventBy run e events io lent text =

@@ -1,5 +1,5 @@
--- What each way through a call owes (`ways`): the call by value was made on the device that the bytes hold, and the marks were stored,
--- which alone it changes. Assumes nothing.
+-- What each way through a call owes (`ways`): the call by value was made on the device that the bytes hold, and the marks, the only part
+-- that it changes, were stored. Assumes nothing.
 use mathlib.Core.Path.{_≡_, refl, sym, ap, _∙_, subst}
 use mathlib.Core.Bool.{Bool, true, false, not, cond}
 use mathlib.Core.List.{List}

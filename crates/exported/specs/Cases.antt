@@ -34,7 +34,7 @@ bytes state present read write left residue status =
 abbrev in-state : ℕ → List ℕ
 in-state state = bytes state 0 1 4 2 0 0
 
--- The IO buffer of the cases: its bytes 1 to 3 are the unread ones.
+-- The IO buffer of the cases. With the marks of `in-state`, the bytes 2, 3 and 4 are unread.
 abbrev io : List ℕ
 io = 1 ∷ 2 ∷ 3 ∷ 4 ∷ replicate 27 5
 
@@ -55,7 +55,7 @@ unfoldable pub table : List Case
 table =
     -- Each part of a result has its place.
     case (word 7 5 2 1 3) 0x0000000301020507
-    -- Creation with 64, 0 and 64 makes a record, of 52 bytes only. 01's refusals come before that of the length, and the bytes stay.
+    -- Creation with 64, 0 and 64 makes a record, of 52 bytes only. 01's refusals come before the one for the length, and the bytes stay.
     ∷ case (createOn (replicate 52 9) (fixed 64 0 64)) (leaves 0 (64 ∷ 0 ∷ 0 ∷ 0 ∷ 64 ∷ replicate 47 0))
     ∷ case (createOn (replicate 51 9) (fixed 64 0 64)) (leaves 10 (replicate 51 9))
     ∷ case (createOn (replicate 52 9) (fixed 8 16 0)) (leaves 2 (replicate 52 9))

@@ -1,3 +1,3 @@
--- What a reader of the exported calls may look at beside the definitions that their contracts cite.
+-- The contracts of the exported calls cite the definitions of the crates below; here are cases of them.
 --     Cases    cases of the calls, computed
 pub mod Cases

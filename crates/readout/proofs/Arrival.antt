@@ -37,7 +37,7 @@ module _ (p : ℕ) (m : List ℕ) (s : Socket) (a : Arriving p m s) where
   -- ---- polls
 
   module _ (g : Given) where
-    -- Where a poll that comes to `o` leaves the device.
+    -- Where a poll whose outcome is `o` leaves the device.
     record Shown (o : Polling) : Type 0 where
       state : waitsIn (o .device .state) ≡ true
       none-in-3 : o .device .state ≡ StatusTransfer → m ++ firstOf (packetsOf g o) ≡ []

@@ -70,8 +70,8 @@ owing x = ceiling (x .device .left .0) (P x) + ceiling 13 (P x)
 abbrev pub laterBytes : ℕ → Given → Polling → List ℕ
 laterBytes n g o = flatten (drop n (packetsOf g o))
 
--- Where a poll leads that comes to `o`. Before its rule, `k` packets were taken, P was `p`, the status was `st`, `left` bytes were left,
--- and `n` served polls were due.
+-- Where a poll leads whose outcome is `o`. Before its rule, `k` packets were taken, P was `p`, the status was `st`, `left` bytes were
+-- left, and `n` served polls were due.
 pub record Leads (w : Wrapper) (got put : List ℕ) (g : Given) (k p : ℕ) (st : Status) (left n : ℕ) (o : Polling) : Type 0 where
   pub wrapper : o .device .wrapper ≡ w
   pub status : o .device .status ≡ st

@@ -150,11 +150,11 @@ pub record Supposed (t : Story) : Type 0 where
   -- "a valid wrapper of exactly 31 bytes": it is whole with its last packet, and not before.
   pub unfinished : length (arrivedIn (t .arrival) (t .start)) < 31
   pub valid : Valid (message t)
-  -- "No reset follows"; "its status is accepted".
+  -- "No reset follows", and "its status is accepted": `Earlier` and `Later` say what is supposed of the events before and after it.
   pub earlier : Throughout Earlier (t .before) (parsed t)
   pub accepted : accepts (status (t .given)) (reached t) ≡ true
   pub later : Throughout Later (t .after) (told t)
-  -- "the firmware puts in at most L bytes"
+  -- "the firmware puts in at most L bytes": in the whole story.
   pub few : length (firmware t) ≤ L t
 
 -- ---- what is promised
