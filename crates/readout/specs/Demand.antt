@@ -81,8 +81,8 @@ L t = wrapper t .length
 abbrev pub P : Story → ℕ
 P t = t .start .device .fixed .packetsize
 
--- "When its status is accepted with R data bytes left": R is what the record has as left when the last accepted status of the story `t`
--- arrives.
+-- "When its status is accepted with R data bytes left": R is how many bytes are left, by the record, right before the last accepted
+-- status of the story `t`.
 abbrev pub R : Story → ℕ
 R t = reached t .device .left .0
 
