@@ -40,18 +40,18 @@ use Rattle.benchact.specs.declared.Acted.{Acted}
 use Rattle.benchact.specs.Act.{Acting, front, turnOf, polled, pollActs, statusOf, stated, statusActs, written, writeActs, writeAllActs, readInto, readActs, inFront, handled, resetActs, requestOf, controlActs, commandInFront, stepped, commandActs, actBy}
 use Rattle.benchact.specs.Inner.Act.{actingOf, polledBy, statedBy, movedBy, handledBy}
 
--- ---- what the kind says of the n bytes
+-- ---- what the kind says of the body
 
 module _ (body : List ℕ) (h : isPoll body ≡ true) where
   pub poll-long : 5 ≤ length body
   unfolding isPoll
   poll-long = leb-true _ _ (and-left _ _ h)
 
-  -- the first packet's length stands in them
+  -- The length of the first packet stands in the body.
   pub poll-counts : 3 < length body
   poll-counts = omega (arith, poll-long)
 
-  -- and the packet ends in them
+  -- The first packet ends in the body.
   pub poll-ends : {n : ℕ} → n ≡ get firstLength body → 5 + n ≤ length body
   unfolding isPoll
   poll-ends e =
@@ -100,7 +100,7 @@ pub requests : (body : List ℕ) {a b : ℕ} → a ≡ get requestType body → 
 unfolding requestOf
 requests body ha hb = rw (ha, hb)
 
--- the elements from index k up to the last one
+-- The elements from the index `k` up to the last one.
 to-end : (k : ℕ) (l : List ℕ) → take (length l - k) (drop k l) ≡ drop k l
 to-end k l = take-all (length l - k) (drop k l) (omega (arith, length-drop k l))
 
@@ -131,7 +131,7 @@ pub reads : (body : List ℕ) (d : Device) (io lent : List ℕ) (r : Moved) {n :
 unfolding readActs readInto
 reads body d io lent r {n} hn h ha = rw (ha, ← hn) (ap (readInto io lent n) h)
 
--- ---- what is put in front of the lent bytes: a control answer, or LUN and block
+-- ---- what is put at the front of the lent bytes: a control answer, or LUN and block
 
 module _ (lent : List ℕ) (x : Reply) where
   pub shows-nothing : x ≡ reply.Nothing → front 0 lent ≡ inFront (replied x) lent
@@ -142,13 +142,13 @@ module _ (lent : List ℕ) (x : Reply) where
   unfolding inFront
   shows-lun {n} e h = rw e (ap (front 1) (rw overlay-nothing at (overlay-stored lent 0 [] n (omega arith))))
 
--- a byte, and others behind it
+-- One byte is put at the front, and others after it.
 behind : (l : List ℕ) (v : ℕ) (ys : List ℕ) → 1 ≤ length l → overlay (set l 0 v) 1 ys ≡ overlay l 0 (v ∷ ys)
 unfolding overlay
 behind [] v ys h = absurd (omega arith)
 behind (x ∷ xs) v ys h = rw (one-add, zero-add)
 
--- what is as long as a list after a store is as long as the list
+-- A store keeps the length of a list.
 pub length-stored : (l : List ℕ) (v : ℕ) {n : ℕ} → n ≡ length (set l 0 v) → n ≡ length l
 length-stored l v h = h ∙ length-set l 0 v
 

@@ -1,5 +1,5 @@
 -- proofs.Laws         what each way through a function owes
--- proofs.Unique       the contract of `act` has no second answer
+-- proofs.Unique       no second answer satisfies the contract of `act`
 -- proofs.Computing    what cases compute with
 pub mod Laws
 pub mod Unique

@@ -1,5 +1,5 @@
--- No second answer satisfies the promise of `act`, and no second content of IO buffer and lent bytes. `Post` is the contract itself, as
--- the check reads it. Assumes nothing.
+-- No second answer satisfies the promise of `act`, and neither does a second content of the IO buffer or of the lent bytes. `Post` is the
+-- contract itself, as the check reads it. Assumes nothing.
 use mathlib.Core.Path.{_≡_, sym, ap, _∙_}
 use mathlib.Core.List.{List}
 use Prim.Native.Nat.{ℕ}
@@ -12,7 +12,7 @@ use Rattle.benchact.specs.Inner.Act.{actingOf}
 use Rattle.benchact.proofs.act.Kinds as act-kinds
 use Rattle.benchact.proofs.act.Reads as act
 
--- 01's number tells the answer, and so what is told of a call tells what it returned
+-- 01's number tells the answer, so what a call tells determines what it returned.
 abbrev unacted : Acting → Acted
 unacted o = record { device = o .device; answer = named (o .answer); count = o .count; stalls = o .stalls; shown = o .shown }
 

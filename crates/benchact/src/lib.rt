@@ -1,5 +1,6 @@
-// The call that an event stands for. `lent` is lent to each of them: the packet buffer of a poll, the destination of a read, and
-// where LUN and block, or the answer to a control request, are put. Its first bytes are those of the line.
+// The call that an event stands for. The bytes `lent` are lent to each call: they are the packet buffer of a poll and the destination of
+// a read, and LUN and block, or the answer to a control request, are put there. A line shows the first of them. `body` are the bytes of
+// the event after its first three.
 use answers::Answer;
 use answers::Stalls;
 use bbb::Turn;
@@ -23,7 +24,8 @@ ghost use Rattle.benchfile.specs.Event.{isPoll, suits};
 ghost use Rattle.benchact.specs.Act.{front, turnOf, pollActs, statusOf, readActs, inFront, resetActs, requestOf, controlActs, commandInFront, commandActs, actBy};
 ghost use Rattle.benchact.specs.Inner.Act.{actingOf, polledBy, statedBy, movedBy, handledBy};
 
-// What a call left and told: the record, the answer, the line's count, what was asked of the endpoints, and how many bytes are shown.
+// What a call left and told: the record, the answer, the count of the line, what was asked of the endpoints, and how many of the lent
+// bytes the line shows.
 pub struct Acted {
     pub device: Device,
     pub answer: Answer,
@@ -34,6 +36,7 @@ pub struct Acted {
 
 // ---- 1 poll
 
+// The answers of the endpoints in a poll's body.
 fn turn_of(body: &[u8]) -> Turn
     requires { ⌜ 5 ≤ length (now body) ⌝ }
     ensures { λ r. ⌜ r ≡ turnOf (now (body .entry)) ⌝ }
@@ -45,6 +48,7 @@ fn turn_of(body: &[u8]) -> Turn
     }
 }
 
+// What is told of a poll: the line counts the packets taken and shows the bytes sent.
 fn polled(r: bbb::Polled) -> Acted
     ensures { λ a. ⌜ a ≡ polledBy r ⌝ }
 {
@@ -61,7 +65,7 @@ fn polled(r: bbb::Polled) -> Acted
     }
 }
 
-// The second packet stands right behind the first.
+// Makes the poll. In its body the second packet stands right after the first.
 fn poll(device: Device, io: &mut [u8], lent: &mut [u8], body: &[u8]) -> Acted
     requires { ⌜ isPoll (now body) ≡ true ⌝ }
     ensures { λ r. ⌜ actingOf r (now (io .exit)) (now (lent .exit)) ≡ pollActs (now (body .entry)) device (now (io .entry)) (now (lent .entry)) ⌝ }
@@ -73,6 +77,7 @@ fn poll(device: Device, io: &mut [u8], lent: &mut [u8], body: &[u8]) -> Acted
 
 // ---- 2 status
 
+// The status byte and the figure in a status's body.
 fn status_of(body: &[u8]) -> FirmwareStatus
     requires { ⌜ length (now body) ≡ 5 ⌝ }
     ensures { λ r. ⌜ r ≡ statusOf (now (body .entry)) ⌝ }
@@ -83,6 +88,7 @@ fn status_of(body: &[u8]) -> FirmwareStatus
     }
 }
 
+// What is told of a status: the line shows no bytes.
 fn stated(r: calls::Stated) -> Acted
     ensures { λ a. ⌜ a ≡ statedBy r ⌝ }
 {
@@ -99,7 +105,7 @@ fn stated(r: calls::Stated) -> Acted
 
 // ---- 3 write_data, 4 try_write_data_all, 5 read_data
 
-// Bytes were written or read, and so many are shown.
+// What is told of a read or a write: the line counts the bytes moved, and shows `shown` of them.
 fn moved(r: calls::Moved, shown: usize) -> Acted
     ensures { λ a. ⌜ a ≡ movedBy r shown ⌝ }
 {
@@ -115,7 +121,7 @@ fn moved(r: calls::Moved, shown: usize) -> Acted
     }
 }
 
-// A room is a number of two bytes, so the lent bytes have it.
+// Makes the read. Its room is a number of two bytes, so the lent bytes are long enough for it.
 fn read_data(device: Device, io: &[u8], lent: &mut [u8], body: &[u8]) -> Acted
     requires { ⌜ (length (now body) ≡ 2) × (65535 ≤ length (now lent)) ⌝ }
     ensures { λ r. ⌜ actingOf r (now (io .entry)) (now (lent .exit)) ≡ readActs (now (body .entry)) device (now (io .entry)) (now (lent .entry)) ⌝ }
@@ -128,7 +134,7 @@ fn read_data(device: Device, io: &[u8], lent: &mut [u8], body: &[u8]) -> Acted
 
 // ---- 6 reset, 7 control
 
-// The answer goes to the front of `lent`; says how many bytes it has.
+// Puts the answer to a control request at the front of `lent`, and returns how many bytes it has.
 fn put_reply(reply: Reply, lent: &mut [u8]) -> usize
     requires { ⌜ 1 ≤ length (now lent) ⌝ }
     ensures { λ r. ⌜ front r (now (lent .exit)) ≡ inFront (replied reply) (now (lent .entry)) ⌝ }
@@ -142,6 +148,7 @@ fn put_reply(reply: Reply, lent: &mut [u8]) -> usize
     }
 }
 
+// What is told of a reset or a control request: the line shows `shown` bytes.
 fn handled(r: calls::Handled, shown: usize) -> Acted
     ensures { λ a. ⌜ a ≡ handledBy r shown ⌝ }
 {
@@ -158,6 +165,7 @@ fn handled(r: calls::Handled, shown: usize) -> Acted
     }
 }
 
+// Makes the reset.
 fn reset(device: Device, io: &[u8], lent: &mut [u8]) -> Acted
     requires { ⌜ 1 ≤ length (now lent) ⌝ }
     ensures { λ r. ⌜ actingOf r (now (io .entry)) (now (lent .exit)) ≡ resetActs device (now (io .entry)) (now (lent .entry)) ⌝ }
@@ -169,6 +177,7 @@ fn reset(device: Device, io: &[u8], lent: &mut [u8]) -> Acted
     handled(r, shown)
 }
 
+// The control request in its body.
 fn request_of(body: &[u8]) -> Request
     requires { ⌜ length (now body) ≡ 2 ⌝ }
     ensures { λ r. ⌜ r ≡ requestOf (now (body .entry)) ⌝ }
@@ -179,6 +188,7 @@ fn request_of(body: &[u8]) -> Request
     }
 }
 
+// Makes the control request.
 fn control(device: Device, io: &[u8], lent: &mut [u8], body: &[u8]) -> Acted
     requires { ⌜ (length (now body) ≡ 2) × (1 ≤ length (now lent)) ⌝ }
     ensures { λ r. ⌜ actingOf r (now (io .entry)) (now (lent .exit)) ≡ controlActs (now (body .entry)) device (now (io .entry)) (now (lent .entry)) ⌝ }
@@ -192,7 +202,8 @@ fn control(device: Device, io: &[u8], lent: &mut [u8], body: &[u8]) -> Acted
 
 // ---- 8 command step
 
-// LUN and block go to the front of `lent`; says how many bytes are shown. Of the block all 16 bytes go there.
+// Puts LUN and block at the front of `lent`, and returns how many bytes are shown. All 16 bytes of the block are put there; the line
+// shows the LUN and as many of them as the block length says.
 fn put_command(offer: Offer, w: Wrapper, lent: &mut [u8]) -> usize
     requires { ⌜ 17 ≤ length (now lent) ⌝ }
     ensures { λ r. ⌜ front r (now (lent .exit)) ≡ commandInFront w (offers offer) (now (lent .entry)) ⌝ }
@@ -208,6 +219,7 @@ fn put_command(offer: Offer, w: Wrapper, lent: &mut [u8]) -> usize
     }
 }
 
+// Makes the command step.
 fn command(device: Device, io: &[u8], lent: &mut [u8]) -> Acted
     requires { ⌜ 17 ≤ length (now lent) ⌝ }
     ensures { λ r. ⌜ actingOf r (now (io .entry)) (now (lent .exit)) ≡ commandActs device (now (io .entry)) (now (lent .entry)) ⌝ }
@@ -228,7 +240,7 @@ fn command(device: Device, io: &[u8], lent: &mut [u8]) -> Acted
 
 // ---- the event
 
-// The call of an event behind the first one: kinds 1 to 7, else 8.
+// Makes the call of any event after the first one: of kinds 1 to 7, and else of kind 8.
 pub fn act(kind: u8, body: &[u8], device: Device, io: &mut [u8], lent: &mut [u8]) -> Acted
     requires { ⌜ (suits kind (now body) ≡ true) × (65535 ≤ length (now lent)) ⌝ }
     ensures { λ r. ⌜ actingOf r (now (io .exit)) (now (lent .exit)) ≡ actBy kind (now (body .entry)) device (now (io .entry)) (now (lent .entry)) ⌝ }

@@ -1,14 +1,15 @@
-// benches: bench for many files in one process. On standard input each file stands behind 4 bytes, its length, little-endian; on
-// standard output its lines stand behind a line `==`.
+// benches does what bench does for many files in one process. On standard input 4 bytes stand before each file: its length,
+// little-endian. On standard output a line `==` stands before the lines of each file.
 use libc::STDIN_FILENO;
 use libc::STDOUT_FILENO;
 ghost use mathlib.Core.Path.{_≡_};
 ghost use lib.ListN.{length};
 
-// One byte more than a good file can have, as for bench.
+// The most bytes that are read of a file: one more than a good file can have, as in bench.
 const MOST: usize = 65537;
 
-// The next file, and whether there was one. A length above MOST, or an input that ends within a file, is the end too.
+// Reads the next file into `file`, prints its lines, and returns whether there was one. A length above `MOST`, or an input that ends
+// within a file, counts as the end too.
 fn next(file: &mut [u8]) -> bool
     requires { ⌜ length (now file) ≡ 65537 ⌝ }
 {
@@ -28,7 +29,8 @@ fn next(file: &mut [u8]) -> bool
     true
 }
 
-// A proved loop has to end, and nothing says that the input does: the turns are counted down from a number that no run uses up.
+// Goes through all files. A proved loop has to end, and nothing says that the input does. So the turns are counted down from a number
+// that no run uses up.
 fn each(file: &mut [u8])
     requires { ⌜ length (now file) ≡ 65537 ⌝ }
 {
@@ -38,6 +40,7 @@ fn each(file: &mut [u8])
     }
 }
 
+// Reads each file into the same array.
 fn main() {
     let mut file = [0u8; 65537];
     each(&mut file);

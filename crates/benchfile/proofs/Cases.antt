@@ -1,4 +1,4 @@
--- Each case of specs/Cases.antt holds: antt computes it; and two files are good, so the definition can be met. Assumes nothing.
+-- Each case of specs/Cases.antt holds: antt computes it. Two files are good, so the definition can be met. Assumes nothing.
 use mathlib.Core.Path.{refl}
 use mathlib.Core.List.{[], _++_}
 use lib.Dec.{lit≤}

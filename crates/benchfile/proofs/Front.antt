@@ -1,5 +1,5 @@
 -- What stands at the front of some bytes: what each way through `event::front` and `event::event_at` owes (`fronts`), and how `headOf`
--- goes with `isEvent`. Assumes nothing.
+-- and `isEvent` belong together. Assumes nothing.
 use mathlib.Core.Path.{_≡_, refl, sym, ap, _∙_}
 use mathlib.Core.Bool.{Bool, true, false, not, cond, _&&_}
 use mathlib.Core.List.{List, _++_}
@@ -20,7 +20,7 @@ use Rattle.benchfile.specs.Event.{kindByte, lengthField, bodyOf, isLong,
 -- ---- an event
 
 module _ (first : Bool) (e : List ℕ) (h : isEvent first e ≡ true) where
-  -- its length is the one that it says
+  -- The length of an event is the one that it says.
   pub event-long : length e ≡ 3 + get lengthField e
   unfolding isEvent
   event-long = eqb-true _ _ (and-left _ _ h)
@@ -30,7 +30,7 @@ module _ (first : Bool) (e : List ℕ) (h : isEvent first e ≡ true) where
   event-suits =
       and-right (mayStand first (get kindByte e)) _ (and-right (eqb (length e) (3 + get lengthField e)) _ h)
 
-  -- what stands at the front of bytes that begin with an event is that event
+  -- Where bytes begin with an event, that event stands at their front.
   pub front-event : (ys : List ℕ) → frontOf (e ++ ys) ≡ e
   unfolding frontOf
   front-event ys =
@@ -84,7 +84,7 @@ module _ (first : Bool) (xs : List ℕ) where
           front-suited e = rw (front-there, ← hb, not-false b q, ← hs, e, hk, hn)
 
 module _ (xs : List ℕ) (at : ℕ) where
-  -- behind the end nothing stands
+  -- After the end nothing stands.
   pub front-behind : length xs < at → {r : Head} → r ≡ nothing → r ≡ eventAt xs at
   unfolding eventAt
   front-behind h = front-short (eqb at 0) (drop at xs) (rw (drop-of-length-le xs {i = at} (omega arith)) (lit< tt))
@@ -110,7 +110,7 @@ module _ (first : Bool) (xs : List ℕ) (w : headOf first xs .whole ≡ true) wh
   unfolding headOf
   whole-numbers = rw whole-event
 
-  -- it is not cut off
+  -- The event is not cut off.
   pub whole-long : length (frontOf xs) ≡ 3 + get lengthField xs
   unfolding frontOf
   whole-long =
@@ -134,11 +134,11 @@ module _ (xs : List ℕ) (at : ℕ) (w : eventAt xs at .whole ≡ true) where
   unfolding eventAt
   numbers = whole-numbers (eqb at 0) (drop at xs) there
 
-  -- all of it is there
+  -- All of the event is there.
   pub whole-fits : at + 3 + eventAt xs at .length ≤ length xs
   whole-fits = omega (arith, ap (λ (x : Head). x .length) numbers, whole-within (eqb at 0) (drop at xs) there, length-drop at xs)
 
-  -- its bytes are as its kind asks
+  -- Its body is as its kind asks.
   pub whole-suits : suits (eventAt xs at .kind) (take (eventAt xs at .length) (drop (at + 3) xs)) ≡ true
   unfolding frontOf bodyOf
   whole-suits =
@@ -148,7 +148,7 @@ module _ (xs : List ℕ) (at : ℕ) (w : eventAt xs at .whole ≡ true) where
       same-kind : get kindByte (take (3 + get lengthField (drop at xs)) (drop at xs)) ≡ get kindByte (drop at xs)
       same-kind = get-front kindByte (3 + get lengthField (drop at xs)) (drop at xs) (omega arith) (whole-within (eqb at 0) (drop at xs) there)
 
--- the first event is a creation, with 7 bytes behind its first three
+-- The first event is a creation, and its body has 7 bytes.
 seven : (kind : ℕ) (body : List ℕ) → kind ≡ 0 → suits kind body ≡ true → length body ≡ 7
 unfolding suits isLong
 seven kind body e h = eqb-true (length body) 7 (sym (ap (λ (k : ℕ). suits k body) e) ∙ h)

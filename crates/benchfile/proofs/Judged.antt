@@ -1,4 +1,4 @@
--- The verdict: what the ways through `magic`, `closes` and `good` owe (`judges`). Assumes nothing.
+-- The verdict: what each way through `magic`, `closes` and `good` owes (`judges`). Assumes nothing.
 use mathlib.Core.Path.{_≡_, sym, ap, _∙_}
 use mathlib.Core.Bool.{Bool, true, false, not}
 use mathlib.Core.List.{List, _++_}
@@ -36,7 +36,7 @@ module _ (m : List ℕ) {a : ℕ} (ha : a ≡ get (oneByte 0) m) where
       unfolding isMagic
       magic-3 ec hd = rw (← ha, eq-eqb _ _ ea, ← hb, eq-eqb _ _ eb, ← hc, eq-eqb _ _ ec, ← hd)
 
--- the test and the four bytes, both ways
+-- The test and the four bytes say the same, in both directions.
 magic-tested : (m : List ℕ) → m ≡ magic → isMagic m ≡ true
 unfolding isMagic get bytesAt ordered counted
 magic-tested m e = rw e
@@ -102,7 +102,7 @@ module _ (file : List ℕ) where
       trailed : take (length file - (length file - 12)) (drop (length file - 12) file) ≡ drop (length file - 12) file
       trailed = take-all (length file - (length file - 12)) (drop (length file - 12) file) (omega (arith, length-drop (length file - 12) file))
 
--- a good file's events stand in front of its trailer
+-- The events of a good file stand before its trailer.
 module _ (file : List ℕ) (events : List (List ℕ)) (g : Good file events) where
   seam : length (joined events) ≡ length file - 12
   seam = omega (arith, ap length (g .parts), length-append (joined events) (g .trailer), g .closes .twelve)

@@ -4,7 +4,7 @@
 -- proofs.Walked       the walk from event to event
 -- proofs.Judged       the trailer and the verdict
 -- proofs.Yields       a good file's events are read at their offsets, and are its only ones
--- proofs.Unique       no contract has a second answer
+-- proofs.Unique       no second answer satisfies a contract
 -- proofs.Computing    what cases compute with
 -- proofs.Cases        the cases of specs/Cases.antt hold
 pub mod Rules

@@ -1,4 +1,4 @@
--- Lists of events: what one more at the end changes. Assumes nothing.
+-- Laws of lists of events: what one more event at the end changes. Assumes nothing.
 use mathlib.Core.Path.{_≡_, refl, sym}
 use mathlib.Core.Bool.{Bool, true, false}
 use mathlib.Core.List.{List, [], _∷_, _++_, append-nil, append-assoc}
@@ -13,7 +13,7 @@ use Rattle.benchfile.specs.Event.{isEvent}
 use Rattle.benchfile.specs.File.{joined, areEvents, lastOffset}
 use Rattle.benchfile.proofs.Front.{event-long}
 
--- whether what stands behind these events is the file's first
+-- Whether an event that follows these events is the first one of the file.
 unfoldable pub isFirst : Bool → List (List ℕ) → Bool
 isFirst first [] = first
 isFirst first (e ∷ es) = false
@@ -39,7 +39,7 @@ last-snoc [] e = refl
 last-snoc (x ∷ []) e = rw (append-nil x) (add-zero (length x))
 last-snoc (x ∷ y ∷ es) e = rw (last-snoc (y ∷ es) e, length-append x (y ++ joined es))
 
--- an event has bytes, so the first one stands at 0 and no other does
+-- An event has bytes, so the first one stands at 0 and no other does.
 pub first-at-0 : (es : List (List ℕ)) → areEvents true es ≡ true → isFirst true es ≡ eqb (length (joined es)) 0
 unfolding areEvents isFirst joined
 first-at-0 [] h = refl
@@ -48,14 +48,14 @@ first-at-0 (x ∷ es) h =
 
 -- ---- events that bytes are made of
 
--- none, where there are no bytes
+-- Where there are no bytes there are no events.
 pub none-joined : (first : Bool) (es : List (List ℕ)) → areEvents first es ≡ true → length (joined es) ≡ 0 → es ≡ []
 unfolding areEvents joined
 none-joined first [] h q = refl
 none-joined first (x ∷ es) h q =
     absurd (omega (arith, q, length-append x (joined es), event-long first x (and-left (isEvent first x) (areEvents false es) h)))
 
--- otherwise there is one in front
+-- Otherwise there is an event at the front.
 pub record Leads (first : Bool) (es : List (List ℕ)) : Type 0 where
   pub event : List ℕ
   pub others : List (List ℕ)

@@ -10,7 +10,7 @@ use Rattle.benchfile.proofs.good.Reads as good
 use Rattle.benchfile.proofs.event.event_at.Kinds as event-at-kinds
 use Rattle.benchfile.proofs.event.event_at.Reads as event-at
 
--- a file has one verdict
+-- A file has only one verdict.
 pub judged-once : (file : List ℕ) (x y : Bool) → Judges x file → Judges y file → x ≡ y
 judged-once file true y p q = let g = p .accepted refl in sym (q .accepts (g .0) (g .1))
 judged-once file false true p q = let g = q .accepted refl in p .accepts (g .0) (g .1)

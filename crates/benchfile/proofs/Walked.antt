@@ -1,4 +1,4 @@
--- The walk from event to event: what is known after each turn of it, and what its ways out owe (`walks`). Assumes nothing.
+-- The walk from event to event: what is known after each turn of it, and what each of its ways out owes (`walks`). Assumes nothing.
 use mathlib.Core.Path.{_≡_, refl, sym, ap, _∙_}
 use mathlib.Core.Bool.{true, false, not}
 use mathlib.Core.List.{List, [], _∷_, _++_, append-nil, append-assoc}
@@ -17,14 +17,14 @@ use Rattle.benchfile.specs.Inner.Walk.{Fills, Tallies}
 use Rattle.benchfile.proofs.Front.{front-event, head-event, whole-event, whole-numbers, whole-long, whole-within}
 use Rattle.benchfile.proofs.Lists.{joined-snoc, are-snoc, last-snoc, first-at-0, none-joined, Leads, leads}
 
--- events, and more of them behind, where the first of these stands at an offset
+-- The events `all` are `events` and then others, and the first of these others stands at the offset `at` of `xs`.
 pub record Behind (xs : List ℕ) (at : ℕ) (events all : List (List ℕ)) : Type 0 where
   pub rest : List (List ℕ)
   pub split : all ≡ events ++ rest
   pub bytes : drop at xs ≡ joined rest
   pub are : areEvents (eqb at 0) rest ≡ true
 
--- The walk over xs has come to an offset: what it has read are events, so many, and all that fill xs begin with them.
+-- The walk over `xs` has come to the offset `at`: it has read `count` events, and any events that fill `xs` begin with these.
 pub record Walked (xs : List ℕ) (at count last : ℕ) : Type 0 where
   pub events : List (List ℕ)
   pub within : at ≤ length xs
@@ -49,7 +49,7 @@ begins xs = record {
 }
 
 module _ (xs : List ℕ) (at : ℕ) {count last : ℕ} (w : Walked xs at count last) where
-  -- where some events fill xs, one of them stands at the offset
+  -- Where some events fill `xs`, one of them stands at the offset.
   standing : at < length xs → (all : List (List ℕ)) → (f : Fills all xs) → Leads (eqb at 0) (w .behind all f .rest)
   standing h all f =
       let b = w .behind all f in
@@ -62,7 +62,7 @@ module _ (xs : List ℕ) (at : ℕ) {count last : ℕ} (w : Walked xs at count l
   goes-count h = omega (arith, w .few)
 
   module _ (h : at < length xs) {head : Head} (e : head ≡ eventAt xs at) where
-    -- the event at the offset is one more
+    -- The event at the offset is one more.
     module _ (q : not (head .whole) ≡ false) where
       there : headOf (eqb at 0) (drop at xs) .whole ≡ true
       unfolding eventAt
@@ -124,7 +124,7 @@ module _ (xs : List ℕ) (at : ℕ) {count last : ℕ} (w : Walked xs at count l
         behind = go-behind;
       }
 
-    -- What stands at the offset is no event, so no events fill xs.
+    -- What stands at the offset is no event, so no events fill `xs`.
     pub breaks : not (head .whole) ≡ true → Tallies (record { filled = false; count = 0; last = 0 }) xs
     unfolding eventAt joined
     breaks q = record {
@@ -139,7 +139,7 @@ module _ (xs : List ℕ) (at : ℕ) {count last : ℕ} (w : Walked xs at count l
           absurd (clash (sym there ∙ not-true (head .whole) q));
     }
 
-  -- The walk is at the end: what it has read fills xs, and nothing else does.
+  -- The walk is at the end: what it has read fills `xs`, and nothing else does.
   pub ends : length xs ≤ at → Tallies (record { filled = true; count = count; last = last }) xs
   ends h = record {
     found = λ t. (w .events, record { bytes = sym (take-all at xs h) ∙ w .bytes; are = w .are }, rw (w .counts, w .lasts));

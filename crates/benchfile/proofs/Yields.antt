@@ -1,4 +1,4 @@
--- A good file yields its events: each is read at its offset (`yields`), and no other list of events is the file's (`events-once`).
+-- A good file yields its events: each is read at its offset (`yields`), and no other list of events is that of the file (`events-once`).
 -- Assumes nothing.
 use mathlib.Core.Path.{_≡_, refl, sym, ap, _∙_}
 use mathlib.Core.Bool.{Bool, true, false}
@@ -21,7 +21,7 @@ unfolding joined
 joined-append [] fs = refl
 joined-append (e ∷ es) fs = rw (joined-append es fs) (sym (append-assoc e (joined es) (joined fs)))
 
--- the events in front of one are events, and so is that one
+-- The events before an event are events, and so is that one.
 are-before : (first : Bool) (before after : List (List ℕ)) → areEvents first (before ++ after) ≡ true → areEvents first before ≡ true
 unfolding areEvents
 are-before first [] after h = refl
@@ -63,7 +63,7 @@ module _ (before : List (List ℕ)) (e : List ℕ) (after : List (List ℕ)) (ar
     next = omega (arith, body-long, event-long (eqb offset 0) e is);
   }
 
--- "yields": whichever event of a good file is asked for, it stands at its offset
+-- "yields": whichever event of a good file is asked for, it stands at its offset.
 pub yields : (file : List ℕ) (events before : List (List ℕ)) (e : List ℕ) (after : List (List ℕ)) → Good file events → events ≡ before ++ e ∷ after → ReadAt (joined events) (length (joined before)) e
 yields file events before e after g q = rw q (read-there before e after (rw (← q) (g .are)))
 

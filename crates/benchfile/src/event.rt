@@ -1,17 +1,18 @@
-// One event: a kind byte, 2 bytes length n, n bytes; and what document 01 asks of each kind.
+// One event, which is a kind byte, 2 bytes length n and n bytes (its body), and what document 01 asks of each kind.
 use fields::byte;
 use fields::le16;
 ghost use mathlib.Core.Path.{_≡_};
 ghost use Rattle.benchfile.specs.Event.{agrees, isPoll, isStatus, isLong, suits, mayStand, nothing, headOf, eventAt};
 
-// What stands at an offset: whether it is a whole event that the rules allow, its kind, and how many bytes it has behind its
-// first three. Where it is none, the numbers are 0.
+// What stands at an offset: whether it is a whole event that the rules allow, its kind, and the length of its body. Where no event
+// stands, the numbers are 0.
 pub struct Head {
     pub whole: bool,
     pub kind: u8,
     pub length: usize,
 }
 
+// This is said where no event stands.
 fn none() -> Head
     ensures { λ r. ⌜ r ≡ nothing ⌝ }
 {
@@ -22,7 +23,7 @@ fn none() -> Head
     }
 }
 
-// A packet's length is 0 unless its endpoint's answer is 0.
+// The length of a packet is 0 unless its endpoint's answer is 0.
 fn agree(answer: u8, length: u8) -> bool
     ensures { λ r. ⌜ r ≡ agrees answer length ⌝ }
 {
@@ -32,7 +33,7 @@ fn agree(answer: u8, length: u8) -> bool
     length == 0
 }
 
-// The bytes of a poll: three answers, two packet lengths, the packets.
+// The body of a poll is three answers, two packet lengths and the packets.
 fn poll_fits(body: &[u8]) -> bool
     ensures { λ r. ⌜ r ≡ isPoll (now (body .entry)) ⌝ }
 {
@@ -50,7 +51,7 @@ fn poll_fits(body: &[u8]) -> bool
     false
 }
 
-// The bytes of a status: 0 to 2, then its figure.
+// The body of a status is a status byte from 0 to 2 and a figure.
 fn status_fits(body: &[u8]) -> bool
     ensures { λ r. ⌜ r ≡ isStatus (now (body .entry)) ⌝ }
 {
@@ -60,7 +61,7 @@ fn status_fits(body: &[u8]) -> bool
     byte(body, 0) <= 2
 }
 
-// Whether the kinds that go by their length alone have n bytes.
+// Whether `n` is a length for the kind `kind`, one of those that go by their length alone.
 fn long(kind: u8, n: usize) -> bool
     ensures { λ r. ⌜ r ≡ isLong kind n ⌝ }
 {
@@ -88,7 +89,7 @@ fn long(kind: u8, n: usize) -> bool
     false
 }
 
-// Whether an event of this kind may have these bytes.
+// Whether an event of the kind `kind` may have the body `body`.
 fn suit(kind: u8, body: &[u8]) -> bool
     ensures { λ r. ⌜ r ≡ suits kind (now (body .entry)) ⌝ }
 {
@@ -111,7 +112,7 @@ fn may_stand(first: bool, kind: u8) -> bool
     kind != 0
 }
 
-// What stands at the front of these bytes.
+// What stands at the front of the bytes `rest`; `first` says whether they begin the file.
 fn front(first: bool, rest: &[u8]) -> Head
     ensures { λ r. ⌜ r ≡ headOf first (now (rest .entry)) ⌝ }
 {
@@ -137,7 +138,7 @@ fn front(first: bool, rest: &[u8]) -> Head
     none()
 }
 
-// What stands at an offset of the events.
+// What stands at the offset `at` of the events.
 pub fn event_at(events: &[u8], at: usize) -> Head
     ensures { λ r. ⌜ r ≡ eventAt (now (events .entry)) at ⌝ }
 {

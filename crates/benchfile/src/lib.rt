@@ -10,18 +10,20 @@ ghost use lib.ListN.{length};
 ghost use Rattle.benchfile.specs.File.{Judges};
 ghost use Rattle.benchfile.specs.Inner.Walk.{Tallies, isMagic, agreesWith};
 
+// The most bytes that a good file has.
 const LONGEST: usize = 65536;
 
+// How many bytes stand after the events: event count, offset of the last event, `BOT1`.
 pub const TRAILER: usize = 12;
 
-// Whether events fill the bytes; how many there are, and the offset of the last one.
+// What a walk over the events found: whether events fill the bytes, how many there are, and the offset of the last one.
 struct Tally {
     filled: bool,
     count: usize,
     last: usize,
 }
 
-// From event to event, up to the end or to what is none.
+// Goes from event to event, up to the end of `events` or to something that is no event.
 fn walk(events: &[u8]) -> Tally
     ensures { λ r. ⌜ Tallies r (now (events .entry)) ⌝ }
 {
@@ -48,6 +50,7 @@ fn walk(events: &[u8]) -> Tally
     }
 }
 
+// Whether the four bytes `m` are `BOT1`.
 fn magic(m: &[u8]) -> bool
     requires { ⌜ length (now m) ≡ 4 ⌝ }
     ensures { λ r. ⌜ r ≡ isMagic (now (m .entry)) ⌝ }
@@ -64,7 +67,7 @@ fn magic(m: &[u8]) -> bool
     byte(m, 3) == b'1'
 }
 
-// Whether the trailer has event count, offset of the last event, and `BOT1`.
+// Whether `trailer` has the event count and the offset of the last event, as in `t`, and `BOT1`.
 fn closes(t: Tally, trailer: &[u8]) -> bool
     requires { ⌜ length (now trailer) ≡ 12 ⌝ }
     ensures { λ r. ⌜ r ≡ agreesWith t (now (trailer .entry)) ⌝ }
@@ -81,7 +84,7 @@ fn closes(t: Tally, trailer: &[u8]) -> bool
     magic(&trailer[8..])
 }
 
-// Whether this is a good bench file.
+// Whether `file` is a good bench file.
 pub fn good(file: &[u8]) -> bool
     ensures { λ r. ⌜ Judges r (now (file .entry)) ⌝ }
 {

@@ -1,8 +1,8 @@
--- Laws of decimal text, for every number below 10^20, as a 64-bit number is.
+-- Laws of decimal text, for every number below 10^20, as every number of 64 bits is.
 --     one-digit, more-digits    the text by the number of its digits
---     decimal-value             its digits, read back, count the number
---     no-leading-zero           it begins with `0` where the number is 0 alone
---     some-digit, few-digits    it has a digit, and at most 20
+--     decimal-value             its digits, read back, give the number
+--     no-leading-zero           it begins with `0` only where the number is 0
+--     some-digit, few-digits    it has at least one digit, and at most 20
 -- Assumes nothing.
 use mathlib.Core.Path.{_≡_, refl, sym, ap, _∙_}
 use mathlib.Core.List.{List, [], _∷_, _++_}
@@ -17,7 +17,7 @@ use Rattle.benchline.specs.Line.{digit, decimalUpTo, decimal}
 
 -- ---- one digit, or more
 
--- what follows of a number below 10, and of one that is not, follows
+-- What follows both for a number below 10 and for any other follows for every number.
 by-size : {A : Type 0} (n : ℕ) → (n < 10 → A) → (10 ≤ n → A) → A
 by-size {A} n p q = of-picked (λ (_ : ℕ). A) (ltb n 10) {s = 0} {t = 0} (λ e. p (ltb-true n 10 e)) (λ e. q (ltb-false n 10 e))
 
@@ -32,7 +32,7 @@ more most n h = rw (le-ltb n 10 h, lt-ltb (n % 10) 10 (mod-lt n (zero-lt-suc 9))
 tenth : (most n : ℕ) → n < 10 ^ suc most → n / 10 < 10 ^ most
 tenth most n h = div-lt-iff-lt-mul (zero-lt-suc 9) .1 (rw pow-suc at h)
 
--- one digit more allowed than a number has changes nothing
+-- To allow one digit more than a number has changes nothing.
 steady : (most n : ℕ) → n < 10 ^ suc most → decimalUpTo (suc (suc most)) n ≡ decimalUpTo (suc most) n
 steady zero n h = one 1 n h ∙ sym (one 0 n h)
 steady (suc most) n h =
@@ -51,9 +51,9 @@ pub more-digits : (n : ℕ) → n < 10 ^ 20 → 10 ≤ n → decimal n ≡ decim
 unfolding decimal
 more-digits n h l = more 19 n l ∙ ap (λ (t : List ℕ). t ++ ((0x30 + n % 10) ∷ [])) (sym (steady 18 (n / 10) (tenth 19 n h)))
 
--- ---- what the digits count
+-- ---- what number the digits give
 
--- the number n, and decimal digits read on behind it
+-- The number that results where decimal digits are read on after the number `n`.
 unfoldable pub readOn : ℕ → List ℕ → ℕ
 readOn n [] = n
 readOn n (c ∷ cs) = readOn (10 * n + (c - 0x30)) cs
@@ -79,7 +79,7 @@ pub decimal-value : (n : ℕ) → n < 10 ^ 20 → readOn 0 (decimal n) ≡ n
 unfolding decimal
 decimal-value n h = value 20 n h
 
--- ---- how many digits there are, and the first
+-- ---- how many digits there are, and which is the first
 
 some : (most n : ℕ) → 0 < length (decimalUpTo (suc most) n)
 some most n =

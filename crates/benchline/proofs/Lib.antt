@@ -1,8 +1,8 @@
--- Laws that no one function owns, for the proofs here and for those of the crates above.
---     Decimal      decimal text: its digits count the number, and the first is no 0
---     Text         texts put one behind the other, how long each is, and that a line fits
+-- Laws that belong to no single function, for the proofs here and for those of the crates above.
+--     Decimal      decimal text: its digits give the number, and the first is no 0
+--     Text         texts put one after the other, how long each is, and that a line fits
 --     Ways         what each way through a function owes
---     Unique       the contract of `put_line` has no second answer
+--     Unique       no second answer satisfies the contract of `put_line`
 --     Computing    what cases compute with
 --     Cases        the cases of specs/Cases.antt hold
 pub mod Decimal

@@ -1,9 +1,9 @@
--- Laws of texts that are put one behind the other, and of how long they are.
---     then-put, then-store, store    a text or one byte right behind a text; one byte alone
---     fits-behind                    what has room behind a text keeps it
+-- Laws of texts that are put one after the other, and of how long they are.
+--     then-put, then-store, store    a text or one byte right after a text; one byte alone
+--     fits-behind                    what has room after a text keeps it
 --     length-more .. length-line     the length of each text, from those of its parts
 --     some-stalls                    the text of stalls is never empty
---     line-fits                      no line is longer than the room that `roomFor` asks
+--     line-fits                      no line is longer than the room that `roomFor` asks for
 -- Assumes nothing.
 use mathlib.Core.Path.{_≡_, refl, sym, ap, _∙_}
 use mathlib.Core.List.{List, [], _∷_, _++_, append-assoc}
@@ -20,7 +20,7 @@ use Rattle.benchline.specs.Line.{space, decimal, number, numbers, stalls
 use Rattle.benchline.specs.Inner.Line.{numbersLength, roomFor, Puts}
 use Rattle.benchline.proofs.Decimal.{more-digits, few-digits}
 
--- what is laid right behind xs makes xs longer
+-- What is put right after `xs` makes `xs` longer.
 behind : (d : List ℕ) (at : ℕ) (xs ys : List ℕ) → at ≤ length d → overlay (overlay d at xs) (at + length xs) ys ≡ overlay d at (xs ++ ys)
 unfolding overlay
 behind d at xs ys h =
@@ -32,7 +32,7 @@ behind d at xs ys h =
     ∙ ap (λ (l : List ℕ). l ++ drop (k + length ys) d) (append-assoc (take at d) xs ys)
     ∙ ap (λ (n : ℕ). take at d ++ (xs ++ ys) ++ drop n d) (sym e)
 
--- one text behind the other
+-- One text is put after the other.
 pub then-put : {at e f : ℕ} {xs ys d m t : List ℕ} → at ≤ length d → Puts at xs d m e → Puts e ys m t f → Puts at (xs ++ ys) d t f
 then-put {at} {e} {f} {xs} {ys} {d} h p q =
     record {
@@ -40,11 +40,11 @@ then-put {at} {e} {f} {xs} {ys} {d} h p q =
       text = q .text ∙ rw (p .ends, p .text) (behind d at xs ys h);
     }
 
--- the buffer stays as long as it is, so what has room behind a text still has it when the text was put
+-- The buffer keeps its length, so what has room after a text still has it when the text has been put.
 pub fits-behind : {at e : ℕ} {xs d m : List ℕ} (k : ℕ) → Puts at xs d m e → at + (length xs + k) ≤ length d → e + k ≤ length m
 fits-behind {at} {e} {xs} {d} k p h = rw (p .text) (omega (arith, p .ends, length-overlay d at xs (omega arith)))
 
--- a store right behind a text, and a store alone
+-- One byte is stored right after a text, or alone.
 pub then-store : {at e : ℕ} {xs d m : List ℕ} (v : ℕ) → at + length xs < length d → Puts at xs d m e → Puts at (xs ++ (v ∷ [])) d (set m e v) (e + 1)
 then-store {at} {e} {xs} {d} v h p =
     record {
@@ -101,7 +101,7 @@ unfolding bytesText
 short-bytes [] = omega arith
 short-bytes (b ∷ bs) = omega (arith, length-hex (b ∷ bs))
 
--- a line fits where there is room for one with so many bytes
+-- A line fits where there is room for one with as many bytes.
 pub line-fits : (l : Line) (bs : List ℕ) → length (lineOf l bs) ≤ roomFor (length bs)
 unfolding roomFor
 line-fits l bs =

@@ -1,5 +1,5 @@
--- No second answer satisfies the promise: what the `ensures` of `put_line` says is true of one length alone, and of one content of the
--- buffer at exit. `Post` is the contract itself, as the check reads it. Assumes nothing.
+-- No second answer satisfies the promise: what the `ensures` of `put_line` says is true of only one length, and of only one content of
+-- the buffer at exit. `Post` is the contract itself, as the check reads it. Assumes nothing.
 use mathlib.Core.Path.{_≡_, sym, _∙_}
 use mathlib.Core.List.{List}
 use Prim.Native.Nat.{ℕ}

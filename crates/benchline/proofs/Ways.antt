@@ -1,5 +1,5 @@
--- One law for each way through a function of src/: from the tests on the way and what its callees ensure, what it owes.
--- Assumes nothing.
+-- One law for each way through a function of src/: what it owes follows from the tests on the way and from what the called functions
+-- ensure. Assumes nothing.
 use mathlib.Core.Path.{_≡_, refl, sym, ap, _∙_}
 use mathlib.Core.List.{List, [], _∷_}
 use Prim.Native.Nat.{ℕ, zero, suc, _+_, _*_, _^_, _/_, _%_, _≤_, _<_, zero-le}
@@ -17,7 +17,7 @@ use Rattle.benchline.proofs.Text.{then-put, fits-behind, then-store, st
 
 -- ---- numbers
 
--- a 64-bit number is below 10^20
+-- A number of 64 bits is below 10^20.
 pub below : (n : ℕ) → n < 2 ^ 64 → n < 10 ^ 20
 below n h = omega arith
 
@@ -48,7 +48,7 @@ module _ (d : List ℕ) (at n : ℕ) (h : at + length (number n) ≤ length d) w
   unfolding number
   number-ends p = then-store 0x20 (omega (arith, length-number n)) p
 
--- six numbers, one behind the other
+-- Six numbers are put one after the other.
 pub numbers-end : (l : Line) (d : List ℕ) {m₁ m₂ m₃ m₄ m₅ m : List ℕ} {e₁ e₂ e₃ e₄ e₅ e : ℕ}
     → Puts 0 (number (l .index)) d m₁ e₁ → Puts e₁ (number (l .answer)) m₁ m₂ e₂ → Puts e₂ (number (l .state)) m₂ m₃ e₃
     → Puts e₃ (number (l .left)) m₃ m₄ e₄ → Puts e₄ (number (l .unread)) m₄ m₅ e₅ → Puts e₅ (number (l .count)) m₅ m e → Puts 0 (numbers l) d m e
@@ -57,7 +57,7 @@ numbers-end l d p q r s t u = then-put zero-le (then-put zero-le (then-put zero-
 
 -- ---- stalls
 
--- there is room for what is stored
+-- There is room for what is stored.
 pub stalls-first : (d : List ℕ) (at : ℕ) (s : Stalls) → at + length (stallsText s) ≤ length d → at < length d
 stalls-first d at s h = omega (arith, some-stalls s)
 
@@ -92,7 +92,7 @@ pub high-digit : (n : ℕ) → 10 ≤ n → 87 + n ≡ digit n
 unfolding digit
 high-digit n h = rw (le-ltb n 10 h)
 
--- the two digits of a byte
+-- The two digits of a byte.
 high-at : (bs : List ℕ) (i : ℕ) → i < length bs → getD (hex bs) (2 * i) 0 ≡ digit (getD bs i 0 / 16)
 unfolding hex
 high-at [] i h = omega arith
@@ -109,7 +109,7 @@ low-at (b ∷ bs) (suc i) h =
     let two : 2 * suc i + 1 ≡ suc (suc (2 * i + 1)) = omega arith in
     ap (λ (k : ℕ). getD (hex (b ∷ bs)) k 0) two ∙ low-at bs i (omega arith)
 
--- a turn puts two digits
+-- One turn puts two digits.
 pub hex-turn : (d : List ℕ) (at : ℕ) (bs : List ℕ) (i : ℕ) (l : List ℕ) {u v : ℕ} → at + length (hex bs) ≤ length d → i < length bs
     → Laid d at (hex bs) (2 * i) l → u ≡ digit (getD bs i 0 / 16) → v ≡ digit (getD bs i 0 % 16)
     → Laid d at (hex bs) (2 * (i + 1)) (set (set l (at + 2 * i) u) (at + 2 * i + 1) v)

@@ -1,13 +1,14 @@
--- Cases that pin down what the words of `Line` mean, with two of 01's own lines: one table. proofs/Cases.antt has the statement that each holds.
--- Assumes nothing.
+-- Cases that pin down what the words of `Line` mean, with two of 01's own lines. proofs/Cases.antt has the statement that each case
+-- holds. Assumes nothing: these are definitions.
 use mathlib.Core.List.{List, [], _∷_}
 use Rattle.fields.specs.Case.{Case, case}
 use Rattle.answers.specs.declared.Stalls.the-variants.{Kept, Unstalled}
 use Rattle.benchline.specs.Line.{decimal, hex, bytesText, lineOf}
 
+-- The cases, in one table.
 unfoldable pub table : List Case
 table =
-    -- one digit, two, and the greatest numbers of 32 and of 64 bits
+    -- One digit, two digits, and the greatest numbers of 32 and of 64 bits.
     case (decimal 0) (0x30 ∷ [])
     ∷ case (decimal 9) (0x39 ∷ [])
     ∷ case (decimal 10) (0x31 ∷ 0x30 ∷ [])
@@ -15,7 +16,7 @@ table =
     ∷ case
     (decimal 18446744073709551615)
     (0x31 ∷ 0x38 ∷ 0x34 ∷ 0x34 ∷ 0x36 ∷ 0x37 ∷ 0x34 ∷ 0x34 ∷ 0x30 ∷ 0x37 ∷ 0x33 ∷ 0x37 ∷ 0x30 ∷ 0x39 ∷ 0x35 ∷ 0x35 ∷ 0x31 ∷ 0x36 ∷ 0x31 ∷ 0x35 ∷ [])
-    -- bytes, `000fff`, and none
+    -- Three bytes give `000fff`, and no byte gives `-`.
     ∷ case (hex (0x00 ∷ 0x0F ∷ 0xFF ∷ [])) (0x30 ∷ 0x30 ∷ 0x30 ∷ 0x66 ∷ 0x66 ∷ 0x66 ∷ [])
     ∷ case (bytesText []) (0x2D ∷ [])
     -- `3 0 3 0 0 0 - 55534253010000000000000000`

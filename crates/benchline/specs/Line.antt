@@ -1,5 +1,5 @@
--- Document 01 on the lines of `bench`: "Fields per event, decimal: index, answer, state, left, unread, count .., stalls (`-`, `S`, `U`, `US`),
--- bytes in lower-case hex .. or `-`." Assumes nothing: these are definitions.
+-- Document 01 on the lines of `bench`: "Fields per event, decimal: index, answer, state, left, unread, count .., stalls (`-`, `S`, `U`,
+-- `US`), bytes in lower-case hex .. or `-`." Assumes nothing: these are definitions.
 use Prim.Native.Nat.{ℕ, zero, suc, _+_, _/_, _%_}
 use mathlib.Core.Bool.{cond}
 use mathlib.Core.List.{List, [], _∷_, _++_}
@@ -8,7 +8,7 @@ use Rattle.answers.specs.declared.Stalls.{Stalls}
 use Rattle.answers.specs.declared.Stalls.the-variants.{Kept, Stalled, Unstalled, UnstalledStalled}
 use Rattle.benchline.specs.declared.Line.{Line}
 
--- text is ASCII: a space, `-`, the end of a line
+-- Text is ASCII: a space, `-`, and the end of a line.
 abbrev pub space : ℕ
 space = 0x20
 
@@ -18,23 +18,24 @@ dash = 0x2D
 abbrev pub newline : ℕ
 newline = 0x0A
 
--- a digit below 16: `0` to `9`, then `a` to `f`
+-- The digit for `n`, which is below 16: `0` to `9`, then `a` to `f`.
 unfoldable pub digit : ℕ → ℕ
 digit n = cond (ltb n 10) (0x30 + n) (0x57 + n)
 
--- n in decimal, with at most so many digits; a 64-bit number has at most 20
+-- The number `n` in decimal, with at most as many digits as the first argument says.
 unfoldable pub decimalUpTo : ℕ → ℕ → List ℕ
 decimalUpTo zero n = []
 decimalUpTo (suc most) n = cond (ltb n 10) (digit n ∷ []) (decimalUpTo most (n / 10) ++ (digit (n % 10) ∷ []))
 
+-- The number `n` in decimal. A number of 64 bits has at most 20 digits.
 unfoldable pub decimal : ℕ → List ℕ
 decimal n = decimalUpTo 20 n
 
--- a number, and the space behind it
+-- The number `n` in decimal, and a space after it.
 unfoldable pub number : ℕ → List ℕ
 number n = decimal n ++ (space ∷ [])
 
--- "decimal: index, answer, state, left, unread, count"
+-- "decimal: index, answer, state, left, unread, count": the six numbers of the line `l`.
 unfoldable pub numbers : Line → List ℕ
 numbers l =
     number (l .index)
@@ -44,27 +45,27 @@ numbers l =
     ++ number (l .unread)
     ++ number (l .count)
 
--- "stalls (`-`, `S`, `U`, `US`)"
+-- "stalls (`-`, `S`, `U`, `US`)": the text for what is asked of both endpoints.
 abbrev pub stallsText : Stalls → List ℕ
 stallsText Kept = dash ∷ []
 stallsText Stalled = 0x53 ∷ []
 stallsText Unstalled = 0x55 ∷ []
 stallsText UnstalledStalled = 0x55 ∷ 0x53 ∷ []
 
--- two digits for each byte
+-- Two digits for each byte.
 unfoldable pub hex : List ℕ → List ℕ
 hex [] = []
 hex (b ∷ bs) = digit (b / 16) ∷ digit (b % 16) ∷ hex bs
 
--- "bytes in lower-case hex .. or `-`"
+-- "bytes in lower-case hex .. or `-`": the text for a list of bytes; `-` is that of an empty one.
 unfoldable pub bytesText : List ℕ → List ℕ
 bytesText [] = dash ∷ []
 bytesText (b ∷ bs) = hex (b ∷ bs)
 
--- what a line has before its bytes
+-- Everything that the line `l` has before its bytes.
 unfoldable pub fields : Line → List ℕ
 fields l = numbers l ++ stallsText (l .stalls) ++ (space ∷ [])
 
--- the line of an event, with these bytes
+-- The whole text of the line `l` with the bytes `bytes`.
 unfoldable pub lineOf : Line → List ℕ → List ℕ
 lineOf l bytes = fields l ++ bytesText bytes ++ (newline ∷ [])

@@ -1,5 +1,5 @@
-// A line of `bench` as text: decimal numbers, stalls, bytes in lower-case hex, with a space between two fields.
-// Every function puts its text into a buffer at an index, and answers where it then ends.
+// A line of `bench` as text: decimal numbers, stalls and bytes in lower-case hex, with a space between two fields. Every function that
+// puts text into the buffer `text` returns the index at which the text ends.
 use answers::Stalls;
 ghost use mathlib.Core.Path.{_≡_};
 ghost use Prim.Native.Nat.{_+_, _≤_, _<_};
@@ -7,7 +7,7 @@ ghost use lib.ListN.{length};
 ghost use Rattle.benchline.specs.Line.{digit, decimal, number, numbers, stallsText, fields, hex, bytesText, lineOf};
 ghost use Rattle.benchline.specs.Inner.Line.{numbersLength, roomFor, Puts};
 
-// What a line tells, beside its bytes.
+// Everything that a line tells apart from its bytes.
 pub struct Line {
     pub index: usize,
     pub answer: u8,
@@ -18,7 +18,7 @@ pub struct Line {
     pub stalls: Stalls,
 }
 
-// n in decimal.
+// Puts `n` in decimal at the index `at`.
 fn put_decimal(text: &mut [u8], at: usize, n: u64) -> usize
     requires { ⌜ at + length (decimal n) ≤ length (now text) ⌝ }
     ensures { λ r. ⌜ Puts at (decimal n) (now (text .entry)) (now (text .exit)) r ⌝ }
@@ -32,7 +32,7 @@ fn put_decimal(text: &mut [u8], at: usize, n: u64) -> usize
     end + 1
 }
 
-// The same, and a space behind it.
+// Puts `n` in decimal at the index `at`, and a space after it.
 fn put_number(text: &mut [u8], at: usize, n: u64) -> usize
     requires { ⌜ at + length (number n) ≤ length (now text) ⌝ }
     ensures { λ r. ⌜ Puts at (number n) (now (text .entry)) (now (text .exit)) r ⌝ }
@@ -42,7 +42,7 @@ fn put_number(text: &mut [u8], at: usize, n: u64) -> usize
     end + 1
 }
 
-// A line's numbers, at the front.
+// Puts the numbers of the line `l` at the front.
 fn put_numbers(text: &mut [u8], l: Line) -> usize
     requires { ⌜ numbersLength l ≤ length (now text) ⌝ }
     ensures { λ r. ⌜ Puts 0 (numbers l) (now (text .entry)) (now (text .exit)) r ⌝ }
@@ -55,6 +55,7 @@ fn put_numbers(text: &mut [u8], l: Line) -> usize
     put_number(text, count, l.count as u64)
 }
 
+// Puts the letters for `stalls` at the index `at`.
 fn put_stalls(text: &mut [u8], at: usize, stalls: Stalls) -> usize
     requires { ⌜ at + length (stallsText stalls) ≤ length (now text) ⌝ }
     ensures { λ r. ⌜ Puts at (stallsText stalls) (now (text .entry)) (now (text .exit)) r ⌝ }
@@ -80,7 +81,7 @@ fn put_stalls(text: &mut [u8], at: usize, stalls: Stalls) -> usize
     }
 }
 
-// What a line has before its bytes, at the front.
+// Puts everything that a line has before its bytes at the front.
 fn put_fields(text: &mut [u8], l: Line) -> usize
     requires { ⌜ length (fields l) ≤ length (now text) ⌝ }
     ensures { λ r. ⌜ Puts 0 (fields l) (now (text .entry)) (now (text .exit)) r ⌝ }
@@ -92,6 +93,7 @@ fn put_fields(text: &mut [u8], l: Line) -> usize
     end + 1
 }
 
+// The digit in hex for `n`.
 fn digit(n: u8) -> u8
     requires { ⌜ n < 16 ⌝ }
     ensures { λ r. ⌜ r ≡ digit n ⌝ }
@@ -99,7 +101,7 @@ fn digit(n: u8) -> u8
     if n < 10 { 48 + n } else { 87 + n }
 }
 
-// Two digits for each byte.
+// Puts two digits for each byte of `bytes` at the index `at`.
 fn put_hex(text: &mut [u8], at: usize, bytes: &[u8]) -> usize
     requires { ⌜ at + length (hex (now bytes)) ≤ length (now text) ⌝ }
     ensures { λ r. ⌜ Puts at (hex (now (bytes .entry))) (now (text .entry)) (now (text .exit)) r ⌝ }
@@ -114,7 +116,7 @@ fn put_hex(text: &mut [u8], at: usize, bytes: &[u8]) -> usize
     at + 2 * bytes.len()
 }
 
-// Bytes in hex, or `-` where there are none.
+// Puts `bytes` in hex at the index `at`, or `-` where there are none.
 fn put_bytes(text: &mut [u8], at: usize, bytes: &[u8]) -> usize
     requires { ⌜ at + length (bytesText (now bytes)) ≤ length (now text) ⌝ }
     ensures { λ r. ⌜ Puts at (bytesText (now (bytes .entry))) (now (text .entry)) (now (text .exit)) r ⌝ }
@@ -126,7 +128,7 @@ fn put_bytes(text: &mut [u8], at: usize, bytes: &[u8]) -> usize
     put_hex(text, at, bytes)
 }
 
-// The line goes to the front of text; its length.
+// Puts the whole line at the front of `text`, and returns its length.
 pub fn put_line(l: Line, bytes: &[u8], text: &mut [u8]) -> usize
     requires { ⌜ roomFor (length (now bytes)) ≤ length (now text) ⌝ }
     ensures { λ r. ⌜ Puts 0 (lineOf l (now (bytes .entry))) (now (text .entry)) (now (text .exit)) r ⌝ }

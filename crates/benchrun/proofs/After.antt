@@ -1,4 +1,4 @@
--- What is so behind an event of a run, whatever it was: for the loop over all of them. Assumes nothing.
+-- What holds after an event of a run, whatever the event was: for the loop over all of them. Assumes nothing.
 use mathlib.Core.Path.{_≡_, refl, sym, subst}
 use mathlib.Core.Bool.{Bool, true, false, cond, _||_}
 use mathlib.Core.List.{List, []}
@@ -23,7 +23,7 @@ use Rattle.benchrun.specs.declared.step.Run.{Run}
 use Rattle.benchrun.specs.Run.{fieldsOf, lineText, toldLine, Beginning, begunOf, creationOf, created, beginBy, eventsOf, refusedBy, openBy, Opens, Running, runningOf, wentOn, eventBy, stepBy}
 use Rattle.benchrun.specs.Inner.Run.{Roomy}
 
--- no line is longer than the room for its bytes
+-- More bytes need no less room.
 room-less : (n m : ℕ) → n ≤ m → roomFor n ≤ roomFor m
 unfolding roomFor
 room-less n m h = omega (arith, h)
@@ -39,7 +39,7 @@ told-room index a = line-room index (a .device) (a .answer .number) (a .count) (
 
 -- ---- a later event
 
--- how many bytes of events a run has before it, and none once it has ended
+-- A number that falls with each turn: how many bytes of events are still ahead of a run, and one more; 0 once the run has ended.
 pub ahead : List ℕ → Run → ℕ
 ahead events run = cond (run .going) (1 + (length events - run .at)) 0
 
@@ -78,7 +78,7 @@ after-roomy lent text lent′ text′ el et room = record { shows = rw el (room 
 
 -- ---- the first event
 
--- a device that is made has a buffer of at most 65,536 bytes
+-- A device that is created has a buffer of at most 65,536 bytes.
 last-test : (a b c d : Bool) → _≡_ {A = ℕ} (cond a 2 (cond b 5 (cond c (cond d 9 0) 8))) 0 → d ≡ false
 last-test true b c d e = absurd (omega (arith, e))
 last-test false true c d e = absurd (omega (arith, e))

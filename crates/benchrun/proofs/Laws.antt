@@ -1,4 +1,4 @@
--- Laws of a run: what each way through a function owes (`ways`), and what is so behind an event. Assumes nothing.
+-- Laws of a run: what each way through a function owes (`ways`), and what holds after an event. Assumes nothing.
 use mathlib.Core.Path.{_≡_, sym, ap, _∙_, subst}
 use mathlib.Core.Bool.{Bool, true, false, not}
 use mathlib.Core.List.{List, []}
@@ -39,7 +39,7 @@ pub told-fields : (index : ℕ) (a : Acted) {n s u : ℕ} → n ≡ answerOf (a 
 unfolding fieldsOf
 told-fields index a hn hs hu = rw (hn, hs, hu)
 
--- more bytes than there are is all of them
+-- To take more bytes than there are is to take all of them.
 take-least : (n : ℕ) (xs : List ℕ) → take (min n (length xs)) xs ≡ take n xs
 take-least n xs =
     rw (← length-take n xs) (subst (λ (l : List ℕ). take (length (take n xs)) l ≡ take n xs) (take-append-drop n xs) (take-append-seam (take n xs) (drop n xs)))
@@ -87,7 +87,7 @@ module _ (events text : List ℕ) {e : Head} (he : e ≡ eventAt events 0) where
 
 -- ---- a file, before anything is written
 
--- `14`, byte by byte: there is room for it
+-- There is room for `14`, byte by byte.
 module _ (text : List ℕ) (room : roomFor 0 ≤ length text) where
   pub refuses-first : 0 < length text
   unfolding roomFor
@@ -108,7 +108,7 @@ module _ (text : List ℕ) (room : roomFor 0 ≤ length text) where
       let put = then-store 0x0A (omega arith) (then-store 0x34 (omega arith) (store text 0 0x31 (omega arith))) in
       rw (put .text, hd)
 
--- the events are a front of the file
+-- The events are the front of the file.
 pub cut-fits : (file : List ℕ) {n : ℕ} → n ≡ length file - 12 → n ≡ length (take n file)
 cut-fits file {n} e = sym (length-take-le n file (omega (arith, e)))
 

@@ -1,4 +1,4 @@
--- The loop of `play`: how far it has come at its head (`Comes`), and what each of its ways owes. Assumes nothing.
+-- The loop of `play`: how far it has come at the start of a turn (`Comes`), and what each of its ways owes. Assumes nothing.
 use mathlib.Core.Path.{_≡_, refl, sym, _∙_, subst}
 use mathlib.Core.Bool.{true, false, not}
 use mathlib.Core.List.{List, [], _++_, append-assoc}
@@ -11,7 +11,8 @@ use Rattle.benchrun.specs.Inner.Run.{Roomy}
 use Rattle.benchrun.specs.Turns.{handed, nextOf, Turns, last, turn, Played, PlayedFile}
 use Rattle.benchrun.proofs.After.{ahead, after-index, after-less, after-line, after-roomy}
 
--- The turns so far handed over what stands before all that is handed over from here on.
+-- The loop that began at `from` has come to `o`: what the turns so far handed over stands before everything that is handed over from here
+-- on.
 pub record Comes (events : List ℕ) (from o : Running) : Type 0 where
   pub roomy : Roomy (o .lent) (o .text)
   pub index : o .run .index ≤ o .run .at
@@ -35,7 +36,7 @@ comes-first events o roomy index line = record {
 }
 
 module _ (events : List ℕ) (from o : Running) (h : Comes events from o) where
-  -- the run goes on: another turn
+  -- The run goes on: another turn follows.
   module _ (g : not (o .run .going) ≡ false) {r : Run} {io lent text : List ℕ} (s : runningOf r io lent text ≡ nextOf events o) where
     pub comes-less : ahead events r < ahead events (o .run)
     comes-less = after-less (o .run) events (o .io) (o .lent) (o .text) s (not-false (o .run .going) g)
@@ -53,7 +54,7 @@ module _ (events : List ℕ) (from o : Running) (h : Comes events from o) where
           (h .onward to (handed o ++ rest) (turn o to (handed o ++ rest) rest (not-false (o .run .going) g) (subst (λ (x : Running). Turns events x to rest) s t) refl));
     }
 
-  -- it has ended: this was the last turn
+  -- The run has ended: this was the last turn.
   pub comes-last : not (o .run .going) ≡ true → Played events from (o .io) (o .lent) (o .text)
   comes-last g = record {
     run = o .run;
@@ -61,7 +62,7 @@ module _ (events : List ℕ) (from o : Running) (h : Comes events from o) where
     turns = h .onward o (handed o) (last o o (handed o) (not-true (o .run .going) g) refl refl);
   }
 
--- what `play_file` owes, from what `open`, `events_end` and `play` ensure
+-- What `play_file` owes follows from what `open`, `events_end` and `play` ensure.
 pub plays-file : (file space lent text : List ℕ) {r : Run} {after : List ℕ} → Opens file text (begunOf r after) → {n : ℕ} → n ≡ length file - 12
     → {io lent′ text′ : List ℕ} → Played (take n file) (runningOf r (take (r .device .fixed .size) space) lent after) io lent′ text′
     → PlayedFile file space lent text (io ++ drop (r .device .fixed .size) space) lent′ text′

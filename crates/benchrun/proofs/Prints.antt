@@ -1,5 +1,5 @@
--- What the turns of `play_file` hand over is one line for each event of a good file, in order, and `14` for any other: `prints`.
--- Assumes nothing.
+-- The turns of `play_file` hand over one line for each event of a good file, in order, and `14` for any other file: `prints`. Assumes
+-- nothing.
 use mathlib.Core.Path.{_≡_, refl, sym, ap, _∙_, subst}
 use mathlib.Core.Bool.{Bool, true, false, cond}
 use mathlib.Core.List.{List, [], _∷_, _++_, append-nil, append-assoc}
@@ -34,18 +34,18 @@ use Rattle.benchrun.proofs.play.play_file.Kinds as kinds
 use Rattle.benchrun.proofs.play.play_file.Reads as play-file
 use Rattle.benchrun.specs.Output.{laterLines, creationLines, fileLines, Prints}
 
--- what is put at the front of a text is its front
+-- Text that is put at the front of a text is its front.
 front-put : (text ys : List ℕ) → take (length ys) (overlay text 0 ys) ≡ ys
 unfolding overlay
 front-put text ys = take-append-seam ys (drop (0 + length ys) text)
 
--- behind the last event none stands
+-- After the last event no event stands.
 ends-there : (xs : List ℕ) (at : ℕ) → length xs ≤ at → eventAt xs at .whole ≡ false
 unfolding eventAt
 ends-there xs at h =
     sym (ap (λ (x : Head). x .whole) (front-short (eqb at 0) (drop at xs) (rw (drop-of-length-le xs {i = at} h) (lit< tt)) refl))
 
--- an event that is read at the run's offset is the one that the step is about
+-- The event that is read at the offset of the run is the one that the step makes.
 step-read : (run : Run) (xs io lent text : List ℕ) (e : List ℕ) → ReadAt xs (run .at) e
     → stepBy run xs io lent text ≡ wentOn (run .index) (run .at + length e) (actBy (get kindByte e) (bodyOf e) (run .device) io lent) text
 unfolding stepBy eventBy
@@ -55,12 +55,12 @@ step-none : (run : Run) (xs io lent text : List ℕ) → length xs ≤ run .at �
 unfolding stepBy
 step-none run xs io lent text h = rw (ends-there xs (run .at) h)
 
--- a run that has ended has this turn alone
+-- A run that has ended has this turn only.
 ended : (xs : List ℕ) (o to : Running) (out : List ℕ) → o .run .going ≡ false → Turns xs o to out → out ≡ handed o
 ended xs o to out q (last _ _ _ g t e) = e
 ended xs o to out q (turn _ _ _ rest g t e) = absurd (clash (sym g ∙ q))
 
--- what is handed over behind this turn, where the step's outcome is known
+-- What is handed over after this turn, where it is known what the step leaves.
 module _ (xs : List ℕ) (o to next : Running) (out : List ℕ) (h : nextOf xs o ≡ next) where
   pub record Turned : Type 0 where
     pub rest : List ℕ
@@ -133,7 +133,7 @@ begin-none : (text : List ℕ) → beginBy (joined []) text ≡ begunOf (stopped
 unfolding beginBy joined
 begin-none text = rw (ends-there [] 0 zero-le)
 
--- the turns, where the beginning is known
+-- The turns from a beginning that is known.
 from-begin : (xs space lent : List ℕ) (to : Running) (out : List ℕ) {b d : Beginning} → b ≡ d → Turns xs (startOf b space lent) to out → Turns xs (startOf d space lent) to out
 from-begin xs space lent to out h = subst (λ (x : Beginning). Turns xs (startOf x space lent) to out) h
 
@@ -170,13 +170,13 @@ module _ (file space lent text : List ℕ) (begun : Beginning) (to : Running) (o
     bad = λ none. bad-printed h;
   }
 
--- All that the turns of `play_file` hand over, by its contract: a line for each event of a good file, `14` for any other.
+-- Everything that the turns of `play_file` hand over, by its contract: a line for each event of a good file, and `14` for any other file.
 pub prints : {file space lent text space′ lent′ text′ : List ℕ} (p : PlayedFile file space lent text space′ lent′ text′) → Prints file space lent (p .played .out)
 prints {file} {space} {lent} {text} p =
     let o = p .opens in
     opened-printed file space lent text (p .begun) _ (p .played .out) (p .played .turns) (o .verdict) (o .judges) (o .opened)
 
--- The same of the contract itself, as the check reads it.
+-- The same for the contract itself, as the check reads it.
 pub play-file-prints : (κs : Lfts 4) (a : Dens κs kinds.ps) (x : resT kinds.r κs .Denot) (s : AtExit (endedOf 4 kinds.ps kinds.r) κs) (p : play-file.Post κs a x s)
     → Prints (now (a .0)) (now (a .1 .0)) (now (a .1 .1 .0)) (p .played .out)
 play-file-prints κs a x s p = prints p

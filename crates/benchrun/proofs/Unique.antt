@@ -1,5 +1,6 @@
--- No second answer satisfies a promise: what a function ensures is true of one run, and of one content of what it may write to; and what
--- the turns of a run hand over is one list (`turns-once`). `Post` is the contract itself, as the check reads it. Assumes nothing.
+-- No second answer satisfies a promise: what a function ensures is true of only one run, and of only one content of what it may write to.
+-- What the turns of a run hand over is only one list (`turns-once`). `Post` is the contract itself, as the check reads it. Assumes
+-- nothing.
 use mathlib.Core.Path.{_≡_, refl, sym, ap, _∙_, subst}
 use mathlib.Core.Bool.{Bool}
 use mathlib.Core.List.{List, _++_}
@@ -27,7 +28,7 @@ begin-only κs a x y s t p q =
     let same = p ∙ sym q in
     (ap (λ (o : Beginning). o .run) same, ap (λ (o : Beginning). o .text) same)
 
--- the IO buffer, the lent bytes, the text
+-- It may write to the IO buffer, the lent bytes and the text.
 pub step-only : Only {B = List ℕ × List ℕ × List ℕ} 4 step-kinds.ps step-kinds.r step.Post (λ κs s. (now (s .1 .1 .0), now (s .1 .1 .1 .0), now (s .1 .1 .1 .1 .0)))
 step-only κs a x y s t p q =
     let same = p ∙ sym q in
@@ -46,7 +47,7 @@ open-only κs a x y s t p q =
 
 -- ---- the turns
 
--- from where a run is, it ends in one way, and one list is handed over
+-- From where a run is, it ends in only one way, and only one list is handed over.
 pub turns-once : (events : List ℕ) (from a b : Running) (x y : List ℕ) → Turns events from a x → Turns events from b y → (a ≡ b) × (x ≡ y)
 turns-once events from a b x y (last _ _ _ g t e) (last _ _ _ g′ t′ e′) = (t ∙ sym t′, e ∙ sym e′)
 turns-once events from a b x y (last _ _ _ g t e) (turn _ _ _ _ g′ t′ e′) = absurd (clash (sym g′ ∙ g))
@@ -55,13 +56,13 @@ turns-once events from a b x y (turn _ _ _ r g t e) (turn _ _ _ r′ g′ t′ e
     let once = turns-once events _ a b r r′ t t′ in
     (once .0, e ∙ ap (λ (l : List ℕ). handed from ++ l) (once .1) ∙ sym e′)
 
--- the IO buffer, the lent bytes, the text
+-- It may write to the IO buffer, the lent bytes and the text.
 pub play-only : Only {B = List ℕ × List ℕ × List ℕ} 4 play-kinds.ps play-kinds.r play.Post (λ κs s. (now (s .1 .1 .0), now (s .1 .1 .1 .0), now (s .1 .1 .1 .1 .0)))
 play-only κs a x y s t p q =
     let same = turns-once _ _ _ _ _ _ (p .turns) (q .turns) .0 in
     (refl, ap {B = List ℕ × List ℕ × List ℕ} (λ (o : Running). (o .io, o .lent, o .text)) same)
 
--- a file has one first turn, so it has one last one
+-- A file has only one first turn, so it has only one last turn.
 played-once : (file space lent text : List ℕ) {space′ lent′ text′ space″ lent″ text″ : List ℕ}
     → PlayedFile file space lent text space′ lent′ text′ → PlayedFile file space lent text space″ lent″ text″
     → _≡_ {A = List ℕ × List ℕ × List ℕ} (space′, lent′, text′) (space″, lent″, text″)
@@ -80,6 +81,6 @@ played-once file space lent text {space′} {lent′} {text′} {space″} {lent
     in
     rw (spaces, ap (λ (o : Running). o .lent) same, ap (λ (o : Running). o .text) same)
 
--- the space, the lent bytes, the text
+-- It may write to the space, the lent bytes and the text.
 pub play-file-only : Only {B = List ℕ × List ℕ × List ℕ} 4 play-file-kinds.ps play-file-kinds.r play-file.Post (λ κs s. (now (s .1 .0), now (s .1 .1 .0), now (s .1 .1 .1 .0)))
 play-file-only κs a x y s t p q = (refl, played-once _ _ _ _ p q)

@@ -1,4 +1,5 @@
--- 01's listing: "Whole output for: create (64, 0, 64); poll with a tag 1, L = 0, ..", byte for byte, from its events. Assumes nothing.
+-- 01's listing: "Whole output for: create (64, 0, 64); poll with a tag 1, L = 0, ..", byte for byte, from its events. Assumes nothing:
+-- these are definitions.
 use mathlib.Core.Path.{_≡_}
 use mathlib.Core.List.{List, [], _∷_, _++_}
 use Prim.Native.Nat.{ℕ}
@@ -6,7 +7,7 @@ use lib.ListN.{replicate}
 use Rattle.benchrun.specs.Output.{fileLines}
 use Rattle.benchfile.specs.Cases.{listing}
 
--- the listing in ASCII
+-- The listing in ASCII.
 unfoldable pub listed : List ℕ
 listed =
     -- `0 0 0 0 0 0 - -`
@@ -20,6 +21,6 @@ listed =
     ++  -- `4 6 0 0 0 0 U -`
     (0x34 ∷ 0x20 ∷ 0x36 ∷ 0x20 ∷ 0x30 ∷ 0x20 ∷ 0x30 ∷ 0x20 ∷ 0x30 ∷ 0x20 ∷ 0x30 ∷ 0x20 ∷ 0x55 ∷ 0x20 ∷ 0x2D ∷ 0x0A ∷ [])
 
--- the events of the listing print it, with an IO buffer of 64 bytes; the lent bytes are as many here as a poll can send
+-- The events of the listing print it, with an IO buffer of 64 bytes. There are 64 lent bytes here, as many as a poll can send.
 abbrev pub Printed : Type 0
 Printed = fileLines listing (replicate 64 0) (replicate 64 0) ≡ listed

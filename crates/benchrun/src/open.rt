@@ -1,4 +1,4 @@
-// A file's verdict, and its first event: what stands in the text before anything is written.
+// The verdict on a file, and its first event: what stands in the text before anything is written.
 use crate::step::Run;
 use crate::step::begin;
 use benchfile::TRAILER;
@@ -9,7 +9,7 @@ ghost use lib.ListN.{length};
 ghost use Rattle.benchline.specs.Inner.Line.{roomFor};
 ghost use Rattle.benchrun.specs.Run.{begunOf, refusedBy, Opens};
 
-// Where the events end: in front of the trailer.
+// Where the events end: right before the trailer.
 pub fn events_end(file: &[u8]) -> usize
     ensures { λ r. ⌜ r ≡ length (now (file .entry)) - 12 ⌝ }
 {
@@ -19,7 +19,7 @@ pub fn events_end(file: &[u8]) -> usize
     file.len() - TRAILER
 }
 
-// `14`, and no run.
+// Puts `14` into `text`; there is no run.
 fn refuse(text: &mut [u8]) -> Run
     requires { ⌜ roomFor 0 ≤ length (now text) ⌝ }
     ensures { λ r. ⌜ begunOf r (now (text .exit)) ≡ refusedBy (now (text .entry)) ⌝ }
@@ -37,7 +37,7 @@ fn refuse(text: &mut [u8]) -> Run
     }
 }
 
-// The first event of a good file; `14` for any other.
+// Makes the first event of a good file, and refuses any other file with `14`.
 pub fn open(file: &[u8], text: &mut [u8]) -> Run
     requires { ⌜ roomFor 0 ≤ length (now text) ⌝ }
     ensures { λ r. ⌜ Opens (now (file .entry)) (now (text .entry)) (begunOf r (now (text .exit))) ⌝ }

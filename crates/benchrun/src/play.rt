@@ -1,5 +1,5 @@
-// A run from its first turn to its last. Each turn hands the front of the text, as long as the line, to C's write, and nothing else is
-// handed over anywhere: all text is filled by `open` and `step`, which promise it.
+// A run from its first turn to its last. Each turn hands the front of the text, as long as the line, to C's write. Nothing else is handed
+// over anywhere. All text is put in place by `open` and `step`, which promise it.
 use crate::open::events_end;
 use crate::open::open;
 use crate::step::Run;
@@ -11,7 +11,7 @@ ghost use Rattle.benchrun.specs.Run.{runningOf};
 ghost use Rattle.benchrun.specs.Inner.Run.{Roomy};
 ghost use Rattle.benchrun.specs.Turns.{Played, PlayedFile};
 
-// Turn by turn, up to the end.
+// Plays the run from `begun` on, turn by turn, to its end.
 pub fn play(begun: Run, events: &[u8], io: &mut [u8], lent: &mut [u8], text: &mut [u8])
     requires { ⌜ Roomy (now lent) (now text) × (begun .index ≤ begun .at) × (begun .line ≤ length (now text)) ⌝ }
     ensures { λ _. ⌜ Played (now (events .entry)) (runningOf begun (now (io .entry)) (now (lent .entry)) (now (text .entry))) (now (io .exit)) (now (lent .exit)) (now (text .exit)) ⌝ }
@@ -28,7 +28,7 @@ pub fn play(begun: Run, events: &[u8], io: &mut [u8], lent: &mut [u8], text: &mu
     }
 }
 
-// A file from its verdict on. The IO buffer is the front of the space, as long as the device asks for.
+// Plays a file from its verdict on. The IO buffer is the front of `space`, as long as the device asks for.
 pub fn play_file(file: &[u8], space: &mut [u8], lent: &mut [u8], text: &mut [u8])
     requires { ⌜ Roomy (now lent) (now text) × (65536 ≤ length (now space)) ⌝ }
     ensures { λ _. ⌜ PlayedFile (now (file .entry)) (now (space .entry)) (now (lent .entry)) (now (text .entry)) (now (space .exit)) (now (lent .exit)) (now (text .exit)) ⌝ }

@@ -1,4 +1,4 @@
-// One event of a run, and its line: the first event makes the device, each later one acts on it.
+// One event of a run, and its line. The first event creates the device, and each later one acts on it.
 use answers::Stalls;
 use answers::answer_number;
 use benchact::Acted;
@@ -26,8 +26,8 @@ ghost use Rattle.benchline.specs.Inner.Line.{roomFor, Puts};
 ghost use Rattle.benchrun.specs.Run.{fieldsOf, lineText, stoppedAt, begunOf, creationOf, beginBy, runningOf, stepBy};
 ghost use Rattle.benchrun.specs.Inner.Run.{Roomy};
 
-// How far a run has come: the device, the offset and the index of the next event, how long the line of the last one is, and whether
-// there was one.
+// How far a run has come: the device, the offset and the index of the next event, the length of the last event's line, and whether the
+// run goes on.
 pub struct Run {
     pub device: Device,
     pub at: usize,
@@ -36,6 +36,7 @@ pub struct Run {
     pub going: bool,
 }
 
+// How many bytes are unread between the marks.
 fn unread(marks: Marks) -> usize
     ensures { λ r. ⌜ r ≡ marks .write - marks .read ⌝ }
 {
@@ -45,6 +46,7 @@ fn unread(marks: Marks) -> usize
     marks.write - marks.read
 }
 
+// The fields of the line with the index `index`, for an event that left and told `a`.
 fn fields_of(index: usize, a: Acted) -> Line
     ensures { λ r. ⌜ r ≡ fieldsOf index (a .device) (answerOf (a .answer) .number) (a .count) (a .stalls) ⌝ }
 {
@@ -65,7 +67,8 @@ fn fields_of(index: usize, a: Acted) -> Line
     }
 }
 
-// The line of an event that left and told this, of whose lent bytes the first ones are shown.
+// Puts the line of an event that left and told `a` at the front of `text`, and returns its length. The line shows the first of the lent
+// bytes.
 fn tell(index: usize, a: Acted, lent: &[u8], text: &mut [u8]) -> usize
     requires { ⌜ roomFor (length (now lent)) ≤ length (now text) ⌝ }
     ensures { λ r. ⌜ Puts 0 (lineText index (a .device) (answerOf (a .answer) .number) (a .count) (a .stalls) (take (a .shown) (now (lent .entry)))) (now (text .entry)) (now (text .exit)) r ⌝ }
@@ -74,7 +77,7 @@ fn tell(index: usize, a: Acted, lent: &[u8], text: &mut [u8]) -> usize
     put_line(fields_of(index, a), &lent[..n], text)
 }
 
-// There is no event: the run ends.
+// No event stands at the offset `at`: the run ends.
 fn stopped(device: Device, at: usize, index: usize) -> Run
     ensures { λ r. ⌜ r ≡ stoppedAt device at index ⌝ }
 {
@@ -87,7 +90,7 @@ fn stopped(device: Device, at: usize, index: usize) -> Run
     }
 }
 
-// The creation that the first event's bytes ask for.
+// The creation that the body of the first event asks for.
 fn created(body: &[u8]) -> Created
     requires { ⌜ length (now body) ≡ 7 ⌝ }
     ensures { λ r. ⌜ createdOf r ≡ creationOf (now (body .entry)) ⌝ }
@@ -99,7 +102,7 @@ fn created(body: &[u8]) -> Created
     })
 }
 
-// The first event.
+// Makes the first event, and puts its line into `text`.
 pub fn begin(events: &[u8], text: &mut [u8]) -> Run
     requires { ⌜ roomFor 0 ≤ length (now text) ⌝ }
     ensures { λ r. ⌜ begunOf r (now (text .exit)) ≡ beginBy (now (events .entry)) (now (text .entry)) ⌝ }
@@ -133,7 +136,7 @@ pub fn begin(events: &[u8], text: &mut [u8]) -> Run
     }
 }
 
-// The event at the run's offset.
+// Makes the event at the offset of `run`, and puts its line into `text`.
 pub fn step(run: Run, events: &[u8], io: &mut [u8], lent: &mut [u8], text: &mut [u8]) -> Run
     requires { ⌜ Roomy (now lent) (now text) × (run .index ≤ run .at) ⌝ }
     ensures { λ r. ⌜ runningOf r (now (io .exit)) (now (lent .exit)) (now (text .exit)) ≡ stepBy run (now (events .entry)) (now (io .entry)) (now (lent .entry)) (now (text .entry)) ⌝ }

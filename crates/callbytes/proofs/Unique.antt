@@ -1,5 +1,5 @@
--- No second answer satisfies a promise: what the `ensures` of a call says is true of one result alone, and of one content of each lent slice
--- at exit. `Post` is the contract itself, as the check reads it. Assumes nothing.
+-- No second answer satisfies a promise: what the `ensures` of a call says is true of only one result, and of only one content of each
+-- lent slice at exit. `Post` is the contract itself, as the check reads it. Assumes nothing.
 use mathlib.Core.Path.{_≡_, sym, ap, _∙_}
 use mathlib.Core.List.{List}
 use Prim.Native.Nat.{ℕ}
@@ -15,7 +15,7 @@ use Rattle.callbytes.proofs.bus.reset.Reads as reset
 use Rattle.callbytes.proofs.bus.control.Kinds as control-kinds
 use Rattle.callbytes.proofs.bus.control.Reads as control
 
--- what a call leaves tells each part of it
+-- What a call leaves tells each of its parts.
 pub left-once : {n k : ℕ} {r l : List ℕ} → leaves n r ≡ leaves k l → (n ≡ k) × (r ≡ l)
 left-once e = (ap (λ (o : Left). o .result) e, ap (λ (o : Left). o .bytes) e)
 

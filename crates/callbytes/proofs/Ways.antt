@@ -51,7 +51,7 @@ module _ (r io : List ℕ) (f : FirmwareStatus) {k : Bool} (ek : k ≡ isKnown r
 
 -- ---- the bus: status, state and left changed
 
--- what a reply is in a result
+-- What a reply is in a result.
 module _ (answer stalls : ℕ) where
   pub replies-nothing : (reply : Reply) → reply ≡ Nothing → {x : ℕ} → x ≡ word answer 0 stalls 0 0 → x ≡ word answer 0 stalls (length (replied reply)) (getD (replied reply) 0 0)
   replies-nothing reply e h = rw e h
@@ -68,7 +68,7 @@ pub bus-stored : (r : List ℕ) (d : Device) {a b l : List ℕ} → a ≡ storeS
     → l ≡ storeLeft (d .left) (storeState (d .state) (storeStatus (d .status) r))
 bus-stored r d ea eb el = rw (← ea, ← eb, el)
 
--- what a device that entered 0, or stayed as it was, has kept
+-- The device entered 0 or stayed as it was: only status, state and left can have changed.
 bus-made : (r : List ℕ) (call : Device → Handling) {k : Bool} → k ≡ isKnown r → not k ≡ false
     → inState (deviceAt r .state) (withStatus (deviceAt r .status) (withLeft (deviceAt r .left) (call (deviceAt r) .device))) ≡ deviceAt r → (m : Handled) → handledOf m ≡ call (deviceAt r)
     → {x : ℕ} {l : List ℕ} → (x ≡ word (answerOf (m .report .answer) .number) 0 (stallsNumber (m .report .stalls)) (length (replied (m .report .reply))) (getD (replied (m .report .reply)) 0 0))
@@ -82,7 +82,7 @@ bus-made r call ek q keeps m to {x} {l} e =
     let kept : l ≡ storeDevice (m .device) r = e .1 ∙ sym (entered r (is-known r test) (m .device .status) (m .device .state) (m .device .left)) ∙ ap (λ (d : Device). storeDevice d r) (sym alone) in
     rw (e .0, kept) (ap (handled r) to ∙ made r (leaves (plain 10) r) (λ (d : Device). handled r (call d)) test)
 
--- all of a device but status, state and left
+-- Everything in the device `d` but status, state and left stays.
 abbrev Keeps : Device → Handling → Type 0
 Keeps d o = inState (d .state) (withStatus (d .status) (withLeft (d .left) (o .device))) ≡ d
 
@@ -133,7 +133,7 @@ module _ (r : List ℕ) (f : Fixed) (c : Created) (ec : createdOf c ≡ createCa
   unfolding createOn
   create-unlent q k = rw (← answered, eq-eqb _ _ q, ne-eqb _ _ k)
 
-  -- what creation takes has its place in a record
+  -- What creation accepts fits into its places in a record.
   pub create-fits : n ≡ 0 → Fixable f
   create-fits q =
       let e : creation f ≡ 0 = sym answered ∙ q in

@@ -1,5 +1,5 @@
--- What creation, the status and the calls of the bus leave of all that they were lent: a result and the record's bytes. On the device that
--- the bytes hold each does what the call by value does; `storeDevice` says what bytes hold the device that it leaves. Assumes nothing:
+-- What creation, the status and the calls of the bus return, and what they leave of the record's bytes. Each but creation does what the
+-- call by value does on the device that the bytes hold; `storeDevice` says which bytes hold the device that it leaves. Assumes nothing:
 -- these are definitions.
 use Prim.Native.Nat.{ℕ}
 use mathlib.Core.Bool.{cond}
@@ -18,6 +18,7 @@ use Rattle.recordbytes.specs.Record.{storeDevice, newRecord}
 use Rattle.border.specs.Word.{word, plain, stallsNumber}
 use Rattle.border.specs.Record.{onDevice}
 
+-- `result` is what the call returns, and `bytes` are the record's bytes as it leaves them. `leaves` makes such a record of the two.
 pub record Left : Type 0 where
   pub result : ℕ
   pub bytes : List ℕ
@@ -25,22 +26,29 @@ pub record Left : Type 0 where
 abbrev pub leaves : ℕ → List ℕ → Left
 leaves result bytes = record { result = result; bytes = bytes }
 
--- "Creation checks 2, 5, 8, 9 in that order"; then whether a record was lent at all. Where there is no device the bytes stay.
+-- Creation with the numbers `f`, over the lent bytes `r`. "Creation checks 2, 5, 8, 9 in that order"; after these it answers 10 unless
+-- `r` is as long as a record. Where no device is created the bytes stay as they were.
 unfoldable pub createOn : List ℕ → Fixed → Left
 createOn r f = cond (eqb (creation f) 0) (cond (eqb (length r) recordSize) (leaves 0 (newRecord f)) (leaves 10 r)) (leaves (creation f) r)
 
+-- What a status over the record's bytes `r` returns and leaves where the call by value gives `o`.
 abbrev pub stated : List ℕ → Stating → Left
 stated r o = leaves (o .answer .number) (storeDevice (o .device) r)
 
+-- `set_status` with the status byte and the figure in `f`, over the record's bytes `r` and the IO buffer `io`. Bytes that are no record
+-- are refused with 10, and they stay as they were.
 unfoldable pub statusOn : List ℕ → List ℕ → FirmwareStatus → Left
 statusOn r io f = onDevice r (leaves 10 r) (λ (d : Device). stated r (setStatusCall d io f))
 
--- the byte that a control request gets back is the count, and the flag says whether there is one
+-- What a reset or a control request over the record's bytes `r` returns and leaves where the call by value gives `o`. The byte that
+-- answers a control request is the count of the result, and the flag is 1 where there is such a byte.
 abbrev pub handled : List ℕ → Handling → Left
 handled r o = leaves (word (o .answer .number) 0 (stallsNumber (o .stalls)) (length (o .bytes)) (getD (o .bytes) 0 0)) (storeDevice (o .device) r)
 
+-- A reset, over the record's bytes `r` and the IO buffer `io`. Bytes that are no record are refused with 10, and they stay as they were.
 unfoldable pub resetOn : List ℕ → List ℕ → Left
 resetOn r io = onDevice r (leaves (plain 10) r) (λ (d : Device). handled r (resetCall d io))
 
+-- The control request `q`, over the record's bytes `r` and the IO buffer `io`; refused in the same way.
 unfoldable pub controlOn : List ℕ → List ℕ → Request → Left
 controlOn r io q = onDevice r (leaves (plain 10) r) (λ (d : Device). handled r (controlCall d io q))

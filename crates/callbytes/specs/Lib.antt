@@ -1,2 +1,3 @@
--- specs.Calls    what creation, the status and the calls of the bus leave of all that they were lent
+-- What a caller of these calls over a record of bytes must believe.
+--     Calls    what creation, the status and the calls of the bus return, and what they leave
 pub mod Calls

@@ -1,4 +1,4 @@
-// The bus: a reset, and control requests.
+// The calls of the bus: a reset, and control requests.
 use answers::answer_number;
 use border::word::stalls_number;
 use border::word::word;
@@ -17,6 +17,7 @@ ghost use Rattle.recordbytes.specs.Record.{storeState, storeLeft, storeStatus};
 ghost use Rattle.border.specs.Word as spec;
 ghost use Rattle.callbytes.specs.Calls.{leaves, resetOn, controlOn};
 
+// Puts an answer, stalls and a reply into one number. Max LUN is its count, and the flag says that there is one.
 fn replied(number: u8, stalls: u8, reply: Reply) -> u64
     ensures { λ x. ⌜ x ≡ spec.word number 0 stalls (length (bus.replied reply)) (getD (bus.replied reply) 0 0) ⌝ }
 {
@@ -26,7 +27,7 @@ fn replied(number: u8, stalls: u8, reply: Reply) -> u64
     }
 }
 
-// Status, state and left go into the record, the rest into the result.
+// Stores status, state and left in the record; everything else goes into the result.
 fn handled(record: &mut [u8], h: Handled) -> u64
     requires { ⌜ length (now «record») ≡ recordSize ⌝ }
     ensures { λ x. ⌜ (x ≡ spec.word (answers.answerOf (h .report .answer) .number) 0 (spec.stallsNumber (h .report .stalls)) (length (bus.replied (h .report .reply))) (getD (bus.replied (h .report .reply)) 0 0))
@@ -46,6 +47,7 @@ fn handled(record: &mut [u8], h: Handled) -> u64
     replied(answer_number(answer), stalls_number(stalls), reply)
 }
 
+// Resets the device: it enters 0.
 pub fn reset(record: &mut [u8], io: &[u8]) -> u64
     ensures { λ x. ⌜ leaves x (now («record» .exit)) ≡ resetOn (now («record» .entry)) (now (io .entry)) ⌝ }
 {
@@ -56,6 +58,7 @@ pub fn reset(record: &mut [u8], io: &[u8]) -> u64
     handled(record, h)
 }
 
+// Handles the control request `request` with the bmRequestType `request_type`.
 pub fn control(record: &mut [u8], io: &[u8], request_type: u8, request: u8) -> u64
     ensures { λ x. ⌜ leaves x (now («record» .exit)) ≡ controlOn (now («record» .entry)) (now (io .entry)) (record { requesttype = «request_type»; request = request }) ⌝ }
 {

@@ -1,6 +1,6 @@
-// Creation, the status and the calls of the bus, over a record of bytes. Each takes any bytes of any length and any numbers, and ends with
-// an answer. Each that is lent a record to work on tests first whether it is one, and the call by value whether it is broken: a refusal
-// with 10 leaves all that was lent as it was.
+// Creation, the status and the calls of the bus, over a record of bytes. Each call takes any bytes of any length and any numbers, and
+// ends with an answer. Each call but creation tests first whether the bytes are a record, and the call by value tests whether that is
+// broken. A refusal with 10 leaves everything as it was.
 //     create    a new record
 //     status    the status of the command
 //     bus       a reset, and control requests

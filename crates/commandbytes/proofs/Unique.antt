@@ -1,5 +1,5 @@
--- No second answer satisfies a promise: what the `ensures` of a call says is true of one result alone, and of one content of each lent slice
--- at exit. `Post` is the contract itself, as the check reads it. Assumes nothing.
+-- No second answer satisfies a promise: what the `ensures` of a call says is true of only one result, and of only one content of each
+-- lent slice at exit. `Post` is the contract itself, as the check reads it. Assumes nothing.
 use mathlib.Core.Path.{_≡_, sym, ap, _∙_}
 use mathlib.Core.List.{List}
 use Prim.Native.Nat.{ℕ}
@@ -11,11 +11,11 @@ use Rattle.commandbytes.proofs.command.Reads as command
 use Rattle.commandbytes.proofs.command_step.Kinds as command-step-kinds
 use Rattle.commandbytes.proofs.command_step.Reads as command-step
 
--- what is lent for a command
+-- What a call leaves tells its result, and what the caller lent for the command.
 pub shown-once : {n k : ℕ} {l m : List ℕ} → shows n l ≡ shows k m → (n ≡ k) × (l ≡ m)
 shown-once e = (ap (λ (o : Shown). o .result) e, ap (λ (o : Shown). o .lent) e)
 
--- the record is lent for reading alone
+-- The record is lent only for reading.
 pub command-only : Only 3 command-kinds.ps command-kinds.r command.Post (λ κs s. now (s .1 .1 .0))
 command-only κs a x y s t p q = shown-once (p ∙ sym q)
 

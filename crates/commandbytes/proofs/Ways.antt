@@ -1,5 +1,5 @@
--- What each way through a call owes (`ways`): the call by value was made on the device that the bytes hold, and what it shows or offers went
--- into what was lent for it. Assumes nothing.
+-- What each way through a call owes (`ways`): the call by value was made on the device that the bytes hold, and what it shows or offers
+-- went into what the caller lent for it. Assumes nothing.
 use mathlib.Core.Path.{_≡_, sym, ap, _∙_}
 use mathlib.Core.Bool.{Bool, true, false, not}
 use mathlib.Core.List.{List}

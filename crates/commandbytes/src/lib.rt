@@ -1,5 +1,5 @@
-// The command shown to the firmware, and the command step, over a record of bytes. Each takes any bytes of any length, and tests what it was
-// lent first: a refusal with 10 leaves all of it as it was.
+// The command shown to the firmware, and the command step, over a record of bytes. Each call takes any bytes of any length, and tests
+// first what it was lent. A refusal with 10 leaves all of it as it was.
 use answers::answer_number;
 use border::word::word;
 use buffer::span::put;
@@ -15,7 +15,7 @@ ghost use Rattle.answers.specs.Answers.{answerOf};
 ghost use Rattle.calls.specs.Command.{shownOf, offers};
 ghost use Rattle.commandbytes.specs.Command.{shows, shown, commandOn, offered, stepOn};
 
-// A command that is shown goes into the lent bytes.
+// Puts the block of a command that is shown into the lent bytes `block`.
 fn show(c: Shown, block: &mut [u8]) -> u64
     requires { ⌜ length (now block) ≡ 16 ⌝ }
     ensures { λ x. ⌜ shows x (now (block .exit)) ≡ shown (now (block .entry)) (shownOf c) ⌝ }
@@ -30,6 +30,7 @@ fn show(c: Shown, block: &mut [u8]) -> u64
     word(number, c.lun, 0, 0, c.blocklength as u32)
 }
 
+// Shows the command: its block goes into `block`, its LUN and the block length into the result.
 pub fn command(record: &[u8], io: &[u8], block: &mut [u8]) -> u64
     ensures { λ x. ⌜ shows x (now (block .exit)) ≡ commandOn (now («record» .entry)) (now (io .entry)) (now (block .entry)) ⌝ }
 {
@@ -43,7 +44,7 @@ pub fn command(record: &[u8], io: &[u8], block: &mut [u8]) -> u64
     show(c, block)
 }
 
-// A command that is offered goes into the six lent numbers.
+// Puts a command that is offered into the six lent numbers `command`.
 fn offer(s: Step, command: &mut [u64]) -> u64
     requires { ⌜ length (now command) ≡ 6 ⌝ }
     ensures { λ x. ⌜ shows x (now (command .exit)) ≡ offered (answerOf (s .answer) .number) (now (command .entry)) (offers (s .offer)) ⌝ }
@@ -60,6 +61,7 @@ fn offer(s: Step, command: &mut [u64]) -> u64
     }
 }
 
+// Offers the command, decoded: its numbers go into `command`, its LUN into the result.
 pub fn command_step(record: &[u8], io: &[u8], command: &mut [u64]) -> u64
     ensures { λ x. ⌜ shows x (now (command .exit)) ≡ stepOn (now («record» .entry)) (now (io .entry)) (now (command .entry)) ⌝ }
 {

@@ -1,5 +1,5 @@
--- No second answer satisfies a promise: what the `ensures` of a call says is true of one result alone, and of one content of each lent slice
--- at exit. `Post` is the contract itself, as the check reads it. Assumes nothing.
+-- No second answer satisfies a promise: what the `ensures` of a call says is true of only one result, and of only one content of each
+-- lent slice at exit. `Post` is the contract itself, as the check reads it. Assumes nothing.
 use mathlib.Core.Path.{_≡_, sym, ap, _∙_}
 use mathlib.Core.List.{List}
 use Prim.Native.Nat.{ℕ}
@@ -13,7 +13,7 @@ use Rattle.databytes.proofs.write_data.Reads as write-data
 use Rattle.databytes.proofs.try_write_data_all.Kinds as try-write-data-all-kinds
 use Rattle.databytes.proofs.try_write_data_all.Reads as try-write-data-all
 
--- the record, and what a read or a write may write to; both are looked at, beside the result 0
+-- The record, and what a read or a write may write to, are looked at together, with 0 in place of the result.
 pub moved-once : {n k : ℕ} {r l b c : List ℕ} → moves n r b ≡ moves k l c → (n ≡ k) × (moves 0 r b ≡ moves 0 l c)
 moved-once e = (ap (λ (o : Moved). o .result) e, ap (λ (o : Moved). moves 0 (o .bytes) (o .into)) e)
 

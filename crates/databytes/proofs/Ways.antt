@@ -1,5 +1,5 @@
--- What each way through a call owes (`ways`): the call by value was made on the device that the bytes hold, and the marks, which it changes
--- alone, were stored. Assumes nothing.
+-- What each way through a call owes (`ways`): the call by value was made on the device that the bytes hold, and the marks, the only part
+-- that it changes, were stored. Assumes nothing.
 use mathlib.Core.Path.{_≡_, refl, sym, ap, _∙_, subst}
 use mathlib.Core.Bool.{Bool, true, false, not, cond}
 use mathlib.Core.List.{List}
@@ -28,7 +28,7 @@ use Rattle.databytes.specs.Inner.Data.{Storable, is10}
 
 -- ---- what is stored
 
--- the numbers of a whole device are small, and so is a count that is not above its write mark
+-- The marks of a whole device fit into 32 bits, and so does a count that is not above its write mark.
 fits : (m : Moved) (len : ℕ) → Whole (numbersOf (m .device)) len → m .report .count ≤ m .device .marks .write → Storable m
 fits m len w h =
     let most = size-most (numbersOf (m .device)) len w in
@@ -51,7 +51,7 @@ module _ (m : Moved) {n : ℕ} (en : n ≡ answerOf (m .report .answer) .number)
     pub count-small : m .report .count < 2 ^ 32
     count-small = f (done-is q) .count
 
-  -- the result, and the record's bytes
+  -- The result, and the record's bytes.
   pub tells-10 : n ≡ 10 → 10 ≡ cond (is10 m) (plain 10) (word (answerOf (m .report .answer) .number) 0 0 0 (m .report .count))
   unfolding word
   tells-10 q = rw (refused-is q)
@@ -67,11 +67,11 @@ module _ (m : Moved) {n : ℕ} (en : n ≡ answerOf (m .report .answer) .number)
 
 -- ---- a call
 
--- what the call by value returned tells of 10 what it comes to tells
+-- What the call by value returned is 10 just where its definition says 10.
 same-10 : (m : Moved) (b : List ℕ) {o : Moving} → movedOf m b ≡ o → eqb (o .answer .number) 10 ≡ is10 m
 same-10 m b to = sym (ap (λ (x : Moving). eqb (x .answer .number) 10) to)
 
--- a record that the call refused stays; of any other the marks alone changed
+-- A record that the call refused stays; of any other only the marks changed.
 module _ (r bytes io : List ℕ) (known : Known r) (o : Moving) (tells : Tells10 (deviceAt r) io bytes o) (keeps : withMarks (deviceAt r .marks) (o .device) ≡ deviceAt r)
     (m : Moved) (b : List ℕ) (to : movedOf m b ≡ o) {x : ℕ} {l : List ℕ}
     (ex : x ≡ cond (is10 m) (plain 10) (word (answerOf (m .report .answer) .number) 0 0 0 (m .report .count))) (el : l ≡ cond (is10 m) r (storeMarks (m .device .marks) r)) where

@@ -1,6 +1,5 @@
--- What a read or a write leaves of all that it was lent: its result, the record's bytes, and those that it may write to. On the device that
--- the record's bytes hold it does what the call by value does; `storeDevice` says what bytes hold the device that it leaves. Assumes
--- nothing: these are definitions.
+-- What a read or a write over a record of bytes returns and leaves. It does what the call by value does on the device that the bytes
+-- hold; `storeDevice` says which bytes hold the device that it leaves. Assumes nothing: these are definitions.
 use Prim.Native.Nat.{ℕ}
 use mathlib.Core.List.{List}
 use Rattle.device.specs.declared.Device.{Device}
@@ -9,6 +8,8 @@ use Rattle.recordbytes.specs.Record.{storeDevice}
 use Rattle.border.specs.Word.{word, plain}
 use Rattle.border.specs.Record.{onDevice}
 
+-- `result` is what the call returns, and `bytes` are the record's bytes as it leaves them. `into` is what the call may write to, as it
+-- leaves it: the destination of a read, the IO buffer of a write. `moves` makes such a record of the three.
 pub record Moved : Type 0 where
   pub result : ℕ
   pub bytes : List ℕ
@@ -17,14 +18,20 @@ pub record Moved : Type 0 where
 abbrev pub moves : ℕ → List ℕ → List ℕ → Moved
 moves result bytes into = record { result = result; bytes = bytes; into = into }
 
+-- What a call over the record's bytes `r` returns and leaves where the call by value gives `o`: answer and count are put into one
+-- number, and the device is stored in `r`.
 abbrev pub moved : List ℕ → Moving → Moved
 moved r o = moves (word (o .answer .number) 0 0 0 (o .count)) (storeDevice (o .device) r) (o .bytes)
 
+-- `read_data` into the destination `dst`, over the record's bytes `r` and the IO buffer `io`. Bytes that are no record are refused with
+-- 10, and everything stays as it was.
 unfoldable pub readOn : List ℕ → List ℕ → List ℕ → Moved
 readOn r io dst = onDevice r (moves (plain 10) r dst) (λ (d : Device). moved r (readCall d io dst))
 
+-- `write_data` of the source `src`, over the record's bytes `r` and the IO buffer `io`; refused in the same way.
 unfoldable pub writeOn : List ℕ → List ℕ → List ℕ → Moved
 writeOn r io src = onDevice r (moves (plain 10) r io) (λ (d : Device). moved r (writeCall d io src))
 
+-- `try_write_data_all` of the source `src`, over the record's bytes `r` and the IO buffer `io`; refused in the same way.
 unfoldable pub writeAllOn : List ℕ → List ℕ → List ℕ → Moved
 writeAllOn r io src = onDevice r (moves (plain 10) r io) (λ (d : Device). moved r (writeAllCall d io src))

@@ -1,3 +1,3 @@
 -- What only inner functions promise or require: no public contract and no public theorem rests on it (checks/believed).
---     Data    what is stored of a read or a write
+--     Data    what a read or a write stores in the record
 pub mod Data

@@ -1,5 +1,5 @@
-// The firmware's reads and writes of a transfer's data, over a record of bytes. Each takes any bytes of any length. It tests first whether
-// they are a record, and the call by value whether it is broken: a refusal with 10 leaves all that was lent as it was.
+// The firmware reads and writes the data of a transfer, over a record of bytes. Each call takes any bytes of any length. It tests first
+// whether they are a record, and the call by value tests whether that is broken. A refusal with 10 leaves everything as it was.
 use answers::answer_number;
 use border::word::word;
 use calls::Moved;
@@ -16,8 +16,8 @@ ghost use Rattle.border.specs.Word.{word, plain};
 ghost use Rattle.databytes.specs.Data.{moves, readOn, writeOn, writeAllOn};
 ghost use Rattle.databytes.specs.Inner.Data.{Storable, is10};
 
-// The marks go into the record, answer and count into the result. A broken record, which the call by value refused, stays as it is: only a
-// whole one's marks are known to be small.
+// Stores the marks in the record, and puts answer and count into one number. A broken record stays as it is: only the marks of a whole
+// record are known to fit into their places.
 fn moved(record: &mut [u8], m: Moved) -> u64
     requires { ⌜ (length (now «record») ≡ recordSize) × (is10 m ≡ false → Storable m) ⌝ }
     ensures { λ x. ⌜ (x ≡ cond (is10 m) (plain 10) (word (answerOf (m .report .answer) .number) 0 0 0 (m .report .count))) × (now («record» .exit) ≡ cond (is10 m) (now («record» .entry)) (storeMarks (m .device .marks) (now («record» .entry)))) ⌝ }
@@ -34,6 +34,7 @@ fn moved(record: &mut [u8], m: Moved) -> u64
     word(number, 0, 0, 0, store::narrow(report.count))
 }
 
+// Reads unread bytes of `io` into `dst`.
 pub fn read_data(record: &mut [u8], io: &[u8], dst: &mut [u8]) -> u64
     ensures { λ x. ⌜ moves x (now («record» .exit)) (now (dst .exit)) ≡ readOn (now («record» .entry)) (now (io .entry)) (now (dst .entry)) ⌝ }
 {
@@ -44,6 +45,7 @@ pub fn read_data(record: &mut [u8], io: &[u8], dst: &mut [u8]) -> u64
     moved(record, m)
 }
 
+// Writes bytes of `src` into `io`, as many as fit and at most as many as are left.
 pub fn write_data(record: &mut [u8], io: &mut [u8], src: &[u8]) -> u64
     ensures { λ x. ⌜ moves x (now («record» .exit)) (now (io .exit)) ≡ writeOn (now («record» .entry)) (now (io .entry)) (now (src .entry)) ⌝ }
 {
@@ -54,6 +56,7 @@ pub fn write_data(record: &mut [u8], io: &mut [u8], src: &[u8]) -> u64
     moved(record, m)
 }
 
+// Writes all of `src` into `io`, or none of it.
 pub fn try_write_data_all(record: &mut [u8], io: &mut [u8], src: &[u8]) -> u64
     ensures { λ x. ⌜ moves x (now («record» .exit)) (now (io .exit)) ≡ writeAllOn (now («record» .entry)) (now (io .entry)) (now (src .entry)) ⌝ }
 {

@@ -1,6 +1,6 @@
--- No second answer satisfies a promise: what the `ensures` of an exported call says is true of one result alone, and of one content of
--- each lent slice at exit. `Post` is the contract itself, as the check reads it. That a result tells each of its parts:
--- `Rattle.border.proofs.Parts`. Assumes nothing.
+-- No second answer satisfies a promise: what the `ensures` of an exported call says is true of only one result, and of only one content
+-- of each lent slice at exit. `Post` is the contract itself, as the check reads it. `Rattle.border.proofs.Parts` proves that a result
+-- tells each of its parts. Assumes nothing.
 use mathlib.Core.Path.{refl, sym, _∙_}
 use mathlib.Core.List.{List}
 use Prim.Native.Nat.{ℕ}
@@ -61,7 +61,7 @@ souk-reset-only κs a x y s t p q = left-once (p ∙ sym q)
 pub souk-control-only : Only 2 souk-control-kinds.ps souk-control-kinds.r souk-control.Post (λ κs s. now (s .0))
 souk-control-only κs a x y s t p q = left-once (p ∙ sym q)
 
--- the record is lent for reading alone
+-- The record is lent only for reading.
 pub souk-command-only : Only 3 souk-command-kinds.ps souk-command-kinds.r souk-command.Post (λ κs s. now (s .1 .1 .0))
 souk-command-only κs a x y s t p q = shown-once (p ∙ sym q)
 

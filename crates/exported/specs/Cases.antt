@@ -1,5 +1,5 @@
--- Cases of the exported calls: one table of polls, and one of the other calls. proofs/Cases.antt has the statement that each holds. Assumes
--- nothing: these are definitions.
+-- Cases of the exported calls: one table of polls, and one of the other calls. proofs/Cases.antt has the statement that each case holds.
+-- Assumes nothing: these are definitions.
 use mathlib.Core.Bool.{true, false}
 use mathlib.Core.List.{List, [], _∷_, _++_}
 use Prim.Native.Nat.{ℕ}
@@ -17,45 +17,51 @@ use Rattle.databytes.specs.Data.{moves, readOn, writeOn, writeAllOn}
 use Rattle.callbytes.specs.Calls.{leaves, createOn, statusOn, resetOn, controlOn}
 use Rattle.commandbytes.specs.Command.{shows, commandOn, stepOn}
 
--- the command 12 01 80 00 FF, an inquiry for a page
+-- The command block 12 01 80 00 FF, an inquiry for a page, in the 16 bytes that a record has for a block.
 abbrev block : List ℕ
 block = 0x12 ∷ 0x01 ∷ 0x80 ∷ 0x00 ∷ 0xFF ∷ replicate 11 9
 
--- a record with P 8, max LUN 3 and an IO buffer of 31 bytes: its state, whether a status is present, the marks, left, residue and status
--- byte; then the wrapper, to the host, for LUN 1, with a block of five bytes, tag 7, L = 512
+-- The bytes of a record with P 8, max LUN 3 and an IO buffer of 31 bytes. The parameters are the number of its state, whether a status is
+-- present, both marks, left, the residue and the status byte. Its wrapper is to the host, for LUN 1, with a block of five bytes, tag 7
+-- and L = 512.
 abbrev bytes : ℕ → ℕ → ℕ → ℕ → ℕ → ℕ → ℕ → List ℕ
 bytes state present read write left residue status =
     (8 ∷ 3 ∷ state ∷ present ∷ 31 ∷ 0 ∷ 0 ∷ 0 ∷ read ∷ 0 ∷ 0 ∷ 0 ∷ write ∷ 0 ∷ 0 ∷ 0 ∷ left ∷ 0 ∷ 0 ∷ 0 ∷ residue ∷ 0 ∷ 0 ∷ 0 ∷ status ∷ [])
     ++ (1 ∷ 1 ∷ 5 ∷ 7 ∷ 0 ∷ 0 ∷ 0 ∷ 0 ∷ 2 ∷ 0 ∷ 0 ∷ [])
     ++ block
 
--- three bytes unread, two left, and no status, in the state of a number
+-- Such a record in the state with the number `state`, with three bytes unread, two left and no status.
 abbrev in-state : ℕ → List ℕ
 in-state state = bytes state 0 1 4 2 0 0
 
+-- The IO buffer of the cases. With the marks of `in-state`, the bytes 2, 3 and 4 are unread.
 abbrev io : List ℕ
 io = 1 ∷ 2 ∷ 3 ∷ 4 ∷ replicate 27 5
 
+-- What the firmware says with a status: the status byte `status` and the figure `bytes`.
 abbrev figure : ℕ → ℕ → FirmwareStatus
 figure status bytes = record { status = status; figure = bytes }
 
+-- A control request with the bmRequestType `type` and the request `number`.
 abbrev request : ℕ → ℕ → Request
 request type number = record { requesttype = type; request = number }
 
--- what a reset of a record answers, over an IO buffer of so many bytes
+-- What a reset of the record's bytes `r` returns with an IO buffer of `size` bytes.
 abbrev answered : List ℕ → ℕ → ℕ
 answered r size = resetOn r (replicate size 0) .result
 
+-- The cases of all calls but the poll.
 unfoldable pub table : List Case
 table =
-    -- each part in its place
+    -- Each part of a result has its place.
     case (word 7 5 2 1 3) 0x0000000301020507
-    -- 64, 0 and 64 give a record, in 52 bytes alone; 01's number comes first, and the bytes stay
+    -- Creation with 64, 0 and 64 makes a record, of 52 bytes only. 01's refusals come before the one for the length, and the bytes stay.
     ∷ case (createOn (replicate 52 9) (fixed 64 0 64)) (leaves 0 (64 ∷ 0 ∷ 0 ∷ 0 ∷ 64 ∷ replicate 47 0))
     ∷ case (createOn (replicate 51 9) (fixed 64 0 64)) (leaves 10 (replicate 51 9))
     ∷ case (createOn (replicate 52 9) (fixed 8 16 0)) (leaves 2 (replicate 52 9))
     ∷ case (createOn [] (fixed 8 16 0)) (leaves 2 [])
-    -- a number for no state, flag or status, or for no direction, beside a record that is whole; 53 bytes and none; another IO buffer
+    -- A record that is whole; then one with a number for no state, for no flag, for no status and for no direction; 53 bytes, and none;
+    -- an IO buffer of another length.
     ∷ case (answered (bytes 8 1 1 4 2 0 2) 31) 0x0000000000020000
     ∷ case (answered (bytes 9 1 1 4 2 0 2) 31) 10
     ∷ case (answered (bytes 8 2 1 4 2 0 2) 31) 10
@@ -64,69 +70,72 @@ table =
     ∷ case (answered (in-state 4 ++ 0 ∷ []) 31) 10
     ∷ case (answered [] 31) 10
     ∷ case (answered (in-state 4) 32) 10
-    -- a status: the flag, the residue 512 - 500 and the byte are stored; refused with 12, or with 10, it stores nothing
+    -- A status stores the flag, the residue 512 - 500 and the byte. Refused with 12 or with 10 it stores nothing.
     ∷ case (statusOn (in-state 4) io (figure 2 500)) (leaves 0 (bytes 4 1 1 4 2 12 2))
     ∷ case (statusOn (in-state 4) io (figure 3 500)) (leaves 12 (in-state 4))
     ∷ case (statusOn (bytes 9 1 1 4 2 12 2) io (figure 0 512)) (leaves 10 (bytes 9 1 1 4 2 12 2))
     ∷ case (statusOn (in-state 4) (replicate 30 5) (figure 2 500)) (leaves 10 (in-state 4))
     ∷ case (statusOn [] io (figure 2 500)) (leaves 10 [])
-    -- a read of two of three bytes: the count at bit 32, and the read mark; 3 in another state
+    -- A read of two of three bytes gives the count from bit 32 on, and stores the read mark. In another state it is refused with 3.
     ∷ case (readOn (in-state 7) io (8 ∷ 8 ∷ [])) (moves 0x0000000200000000 (bytes 7 0 3 4 2 0 0) (2 ∷ 3 ∷ []))
     ∷ case (readOn (in-state 4) io (8 ∷ 8 ∷ [])) (moves 3 (in-state 4) (8 ∷ 8 ∷ []))
     ∷ case (readOn (in-state 9) io (8 ∷ 8 ∷ [])) (moves 10 (in-state 9) (8 ∷ 8 ∷ []))
-    -- two are left: of three `souk_write_data` takes two, `souk_try_write_data_all` three
+    -- Two bytes are left. Of three bytes `souk_write_data` takes two, and `souk_try_write_data_all` takes all. 29 bytes have no room:
+    -- that gives 1, and the move stays.
     ∷ case (writeOn (in-state 4) io (6 ∷ 7 ∷ 8 ∷ [])) (moves 0x0000000200000000 (bytes 4 0 1 6 2 0 0) (1 ∷ 2 ∷ 3 ∷ 4 ∷ 6 ∷ 7 ∷ replicate 25 5))
     ∷ case (writeAllOn (in-state 4) io (6 ∷ 7 ∷ 8 ∷ [])) (moves 0x0000000300000000 (bytes 4 0 1 7 2 0 0) (1 ∷ 2 ∷ 3 ∷ 4 ∷ 6 ∷ 7 ∷ 8 ∷ replicate 24 5))
     ∷ case (writeAllOn (in-state 4) io (replicate 29 6)) (moves 1 (bytes 4 0 0 3 2 0 0) (2 ∷ 3 ∷ 4 ∷ 4 ∷ replicate 27 5))
     ∷ case (writeOn (in-state 9) io (6 ∷ [])) (moves 10 (in-state 9) io)
-    -- a reset asks for `U` and stores state, left and the flag; residue and status byte stay
+    -- A reset asks for `U`, and stores the state, left and the flag. The residue and the status byte stay.
     ∷ case (resetOn (newRecord (fixed 8 3 31)) io) (leaves 0x0000000000020000 (newRecord (fixed 8 3 31)))
     ∷ case (resetOn (bytes 4 1 1 4 2 12 2) io) (leaves 0x0000000000020000 (bytes 0 0 1 4 0 12 2))
     ∷ case (resetOn (in-state 9) io) (leaves 10 (in-state 9))
-    -- A1 FE answers flag 1 and max LUN; A1 FF is a reset; 21 FF does not count
+    -- A1 FE gives the flag 1 and max LUN; A1 FF is a reset; 21 FF does not count.
     ∷ case (controlOn (in-state 4) io (request 0xA1 0xFE)) (leaves 0x0000000301000000 (in-state 4))
     ∷ case (controlOn (in-state 4) io (request 0xA1 0xFF)) (resetOn (in-state 4) io)
     ∷ case (controlOn (in-state 4) io (request 0x21 0xFF)) (leaves 0 (in-state 4))
     ∷ case (controlOn (in-state 9) io (request 0xA1 0xFE)) (leaves 10 (in-state 9))
-    -- a command: LUN, flag and block length; nothing is shown in 0; 10 for 15 lent bytes
+    -- A command gives LUN, flag and block length. In 0 nothing is shown. 15 lent bytes are refused with 10.
     ∷ case (commandOn (in-state 4) io (replicate 16 0)) (shows 0x0000000501000100 block)
     ∷ case (commandOn (in-state 0) io (replicate 16 8)) (shows 0 (replicate 16 8))
     ∷ case (commandOn (in-state 4) io (replicate 15 8)) (shows 10 (replicate 15 8))
     ∷ case (commandOn (in-state 9) io (replicate 16 8)) (shows 10 (replicate 16 8))
-    -- the step: LUN and flag, and the inquiry in six numbers; nothing behind a status; 10 for seven lent numbers
+    -- The command step gives LUN and flag, and the inquiry in six numbers. After a status nothing is offered. Seven lent numbers are
+    -- refused with 10.
     ∷ case (stepOn (in-state 4) io (replicate 6 0)) (shows 0x0000000001000100 (1 ∷ 1 ∷ 128 ∷ 255 ∷ 0 ∷ 0 ∷ []))
     ∷ case (stepOn (bytes 4 1 1 4 2 12 2) io (replicate 6 8)) (shows 0 (replicate 6 8))
     ∷ case (stepOn (in-state 4) io (replicate 7 8)) (shows 10 (replicate 7 8))
     ∷ case (stepOn (in-state 9) io (replicate 6 8)) (shows 10 (replicate 6 8))
     ∷ []
 
--- a poll with a packet buffer of 9s and this packet on the first OUT; the second is busy, and IN does its part
+-- A poll with a packet buffer of 8 bytes of 9 in which the first OUT read offers `packet`, the second is busy, and IN does its part.
 abbrev offering : List ℕ → Given
 offering packet = given (replicate 8 9) packet [] (record { first = 0; second = 1; write = 0 })
 
--- one in which both OUT are busy, with a packet buffer of n bytes
+-- A poll with a packet buffer of `n` bytes of 9 in which both OUT reads are busy, and IN does its part.
 abbrev silent : ℕ → Given
 silent n = given (replicate n 9) [] [] (record { first = 1; second = 1; write = 0 })
 
--- a wrapper without data, for LUN 2, with a block of six bytes and tag 9: 23 of its bytes, and the other 8
+-- The first 23 bytes of a wrapper without data, for LUN 2, with a block of six bytes and tag 9. Its other 8 bytes come in a packet.
 abbrev begun : List ℕ
 begun = 0x55 ∷ 0x53 ∷ 0x42 ∷ 0x43 ∷ 9 ∷ 0 ∷ 0 ∷ 0 ∷ 0 ∷ 0 ∷ 0 ∷ 0 ∷ 0 ∷ 2 ∷ 6 ∷ replicate 8 4
 
+-- The cases of polls.
 unfoldable pub polling : List Case
 polling =
-    -- three bytes are unread and two are left: without a status they go out in 4, with one in 6; read mark and left are stored
+    -- Three bytes are unread and two are left. They go out in 4 without a status, and in 6 with one; the read mark and left are stored.
     case (pollOn (in-state 4) io (silent 8)) (polls 0x0000000300000000 (bytes 4 0 4 4 0 0 0) io (2 ∷ 3 ∷ 4 ∷ replicate 5 9))
     ∷ case (pollOn (bytes 4 1 1 4 2 12 1) io (silent 8)) (polls 0x0000000300000000 (bytes 6 1 4 4 0 12 1) io (2 ∷ 3 ∷ 4 ∷ replicate 5 9))
-    -- one unread byte is filled up to two
+    -- One byte is unread and two are left: it is filled up to two bytes.
     ∷ case (pollOn (bytes 6 1 3 4 2 12 1) io (silent 8)) (polls 0x0000000200000000 (bytes 6 1 5 5 0 12 1) (1 ∷ 2 ∷ 3 ∷ 4 ∷ 0xFF ∷ replicate 26 5) (4 ∷ 0xFF ∷ replicate 6 9))
-    -- a packet of data comes in: one taken, and the write mark is stored
+    -- A packet of data comes in: one packet is taken, and the write mark and left are stored.
     ∷ case (pollOn (in-state 7) io (offering (6 ∷ 7 ∷ []))) (polls 0x0000000001000000 (bytes 7 0 1 6 0 0 0) (1 ∷ 2 ∷ 3 ∷ 4 ∷ 6 ∷ 7 ∷ replicate 25 5) (replicate 8 9))
-    -- the status goes out: its first eight bytes, with the wrapper's tag
+    -- The first eight bytes of the status go out, with the wrapper's tag.
     ∷ case (pollOn (bytes 5 1 1 4 0 12 1) io (silent 8)) (polls 0x0000000800000000 (bytes 3 1 8 13 0 12 1) (0x55 ∷ 0x53 ∷ 0x42 ∷ 0x53 ∷ 7 ∷ 0 ∷ 0 ∷ 0 ∷ 12 ∷ 0 ∷ 0 ∷ 0 ∷ 1 ∷ replicate 18 5) (0x55 ∷ 0x53 ∷ 0x42 ∷ 0x53 ∷ 7 ∷ 0 ∷ 0 ∷ 0 ∷ []))
-    -- the last eight bytes of a wrapper: it is stored, and awaits its status in 5
+    -- The last eight bytes of a wrapper come in: it is stored, and the device awaits its status in 5.
     ∷ case (pollOn (bytes 0 0 0 23 0 0 0) (begun ++ replicate 8 0) (offering (replicate 8 4)))
     (polls 0x0000000001000000 ((8 ∷ 3 ∷ 5 ∷ 0 ∷ 31 ∷ 0 ∷ 0 ∷ 0 ∷ 31 ∷ 0 ∷ 0 ∷ 0 ∷ 31 ∷ 0 ∷ 0 ∷ 0 ∷ replicate 9 0) ++ (0 ∷ 2 ∷ 6 ∷ 9 ∷ replicate 7 0) ++ replicate 16 4) (begun ++ replicate 8 4) (replicate 8 9))
-    -- 10 before 11, and 11: all as it was
+    -- 10 comes before 11. Either leaves everything as it was.
     ∷ case (pollOn (in-state 9) io (silent 7)) (polls 10 (in-state 9) io (replicate 7 9))
     ∷ case (pollOn (in-state 4) io (silent 7)) (polls 11 (in-state 4) io (replicate 7 9))
     ∷ []

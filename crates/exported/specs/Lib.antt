@@ -1,2 +1,3 @@
--- specs.Cases     cases of the calls
+-- The contracts of the exported calls cite the definitions of the crates below; here are cases of them.
+--     Cases    cases of the calls, computed
 pub mod Cases

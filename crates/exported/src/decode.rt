@@ -1,4 +1,4 @@
-// The decoder's two entries, and BOT's verdict on a message: those of `scsi` and `wrapper`, under the names of the socket.
+// The decoder's two entries, and BOT's verdict on a message: these are those of `scsi` and `wrapper`, under the names of the socket.
 use scsi::numbers::decode_into;
 use scsi::numbers::decode_told_into;
 use wrapper::verdict::verdict_number;
@@ -6,6 +6,7 @@ ghost use mathlib.Core.Path.{_≡_};
 ghost use Rattle.scsi.specs.Numbers.{shown, shownDecode, shownTold};
 ghost use Rattle.wrapper.specs.Verdict.{verdictOf, verdictNumber};
 
+// Decodes `block` into the six numbers of `command`, without extended addressing.
 #[no_mangle]
 pub extern "C" fn souk_decode(block: &[u8], command: &mut [u64]) -> u32
     ensures { λ x. ⌜ shown x (now (command .exit)) ≡ shownDecode (now (block .entry)) (now (command .entry)) ⌝ }
@@ -13,6 +14,7 @@ pub extern "C" fn souk_decode(block: &[u8], command: &mut [u64]) -> u32
     decode_into(block, command)
 }
 
+// Decodes `block` in the same way; extended addressing is off where `extended` is 0 and on where it is 1.
 #[no_mangle]
 pub extern "C" fn souk_decode_told(block: &[u8], extended: u32, command: &mut [u64]) -> u32
     ensures { λ x. ⌜ shown x (now (command .exit)) ≡ shownTold extended (now (block .entry)) (now (command .entry)) ⌝ }
@@ -20,6 +22,7 @@ pub extern "C" fn souk_decode_told(block: &[u8], extended: u32, command: &mut [u
     decode_told_into(block, extended, command)
 }
 
+// Gives BOT's verdict on `message`, received by a device with the max LUN `max_lun`.
 #[no_mangle]
 pub extern "C" fn souk_verdict(message: &[u8], max_lun: u8) -> u32
     ensures { λ x. ⌜ x ≡ verdictNumber (verdictOf «max_lun» (now (message .entry))) ⌝ }

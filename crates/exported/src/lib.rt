@@ -1,7 +1,8 @@
-// The socket for firmware in C and for Rust: numbers and byte slices, the record as 52 bytes. In C a slice is two arguments, its pointer
-// and its length; c/include/souklavanh.h says what each call does. Every call takes any bytes of any length and any numbers, and ends
-// with an answer. Every call that is lent a record to work on tests it first: a refusal with 10 leaves all that was lent as it was.
-// An archive has the functions of its own crate alone: so each call is handed on here, from the crate that proves it.
+// The socket for firmware in C and for Rust programs. Calls take numbers and byte slices; the record is 52 bytes. In C a slice is two
+// arguments, its pointer and its length; c/include/souklavanh.h says what each call does. Every call takes any bytes of any length and
+// any numbers, and ends with an answer. Every call that is lent a record to work on tests it first; a refusal with 10 leaves everything
+// as it was.
+// An archive has only the functions of its own crate. So each call is handed on here, from the crate that proves it.
 //     decode    the decoder's two entries, and BOT's verdict on a message
 mod decode;
 
@@ -14,6 +15,7 @@ ghost use Rattle.databytes.specs.Data.{moves, readOn, writeOn, writeAllOn};
 ghost use Rattle.callbytes.specs.Calls.{leaves, createOn, statusOn, resetOn, controlOn};
 ghost use Rattle.commandbytes.specs.Command.{shows, commandOn, stepOn};
 
+// Makes a new record.
 #[no_mangle]
 pub extern "C" fn souk_create(record: &mut [u8], packet_size: u32, max_lun: u8, size: u32) -> u32
     ensures { λ x. ⌜ leaves x (now («record» .exit)) ≡ createOn (now («record» .entry)) (fixed «packet_size» «max_lun» size) ⌝ }
@@ -21,6 +23,8 @@ pub extern "C" fn souk_create(record: &mut [u8], packet_size: u32, max_lun: u8, 
     callbytes::create::create(record, packet_size, max_lun, size)
 }
 
+// Makes one poll. `one` and `two` are the packets offered; `first`, `second` and `write` are the answers of the two OUT reads and of the
+// IN write.
 #[no_mangle]
 pub extern "C" fn souk_poll(
     record: &mut [u8],
@@ -48,6 +52,7 @@ pub extern "C" fn souk_poll(
     )
 }
 
+// Sets the status that the host gets.
 #[no_mangle]
 pub extern "C" fn souk_set_status(record: &mut [u8], io: &[u8], status: u8, figure: u32) -> u32
     ensures { λ x. ⌜ leaves x (now («record» .exit)) ≡ statusOn (now («record» .entry)) (now (io .entry)) (record { status = status; figure = figure }) ⌝ }
@@ -55,6 +60,7 @@ pub extern "C" fn souk_set_status(record: &mut [u8], io: &[u8], status: u8, figu
     callbytes::status::set_status(record, io, status, figure)
 }
 
+// Reads unread bytes of `io` into `dst`.
 #[no_mangle]
 pub extern "C" fn souk_read_data(record: &mut [u8], io: &[u8], dst: &mut [u8]) -> u64
     ensures { λ x. ⌜ moves x (now («record» .exit)) (now (dst .exit)) ≡ readOn (now («record» .entry)) (now (io .entry)) (now (dst .entry)) ⌝ }
@@ -62,6 +68,7 @@ pub extern "C" fn souk_read_data(record: &mut [u8], io: &[u8], dst: &mut [u8]) -
     databytes::read_data(record, io, dst)
 }
 
+// Writes bytes of `src` into `io`, as many as fit and at most as many as are left.
 #[no_mangle]
 pub extern "C" fn souk_write_data(record: &mut [u8], io: &mut [u8], src: &[u8]) -> u64
     ensures { λ x. ⌜ moves x (now («record» .exit)) (now (io .exit)) ≡ writeOn (now («record» .entry)) (now (io .entry)) (now (src .entry)) ⌝ }
@@ -69,6 +76,7 @@ pub extern "C" fn souk_write_data(record: &mut [u8], io: &mut [u8], src: &[u8]) 
     databytes::write_data(record, io, src)
 }
 
+// Writes all of `src` into `io`, or none of it.
 #[no_mangle]
 pub extern "C" fn souk_try_write_data_all(record: &mut [u8], io: &mut [u8], src: &[u8]) -> u64
     ensures { λ x. ⌜ moves x (now («record» .exit)) (now (io .exit)) ≡ writeAllOn (now («record» .entry)) (now (io .entry)) (now (src .entry)) ⌝ }
@@ -76,6 +84,7 @@ pub extern "C" fn souk_try_write_data_all(record: &mut [u8], io: &mut [u8], src:
     databytes::try_write_data_all(record, io, src)
 }
 
+// Resets the device: it enters 0.
 #[no_mangle]
 pub extern "C" fn souk_reset(record: &mut [u8], io: &[u8]) -> u64
     ensures { λ x. ⌜ leaves x (now («record» .exit)) ≡ resetOn (now («record» .entry)) (now (io .entry)) ⌝ }
@@ -83,6 +92,7 @@ pub extern "C" fn souk_reset(record: &mut [u8], io: &[u8]) -> u64
     callbytes::bus::reset(record, io)
 }
 
+// Handles the control request `request` with the bmRequestType `request_type`.
 #[no_mangle]
 pub extern "C" fn souk_control(record: &mut [u8], io: &[u8], request_type: u8, request: u8) -> u64
     ensures { λ x. ⌜ leaves x (now («record» .exit)) ≡ controlOn (now («record» .entry)) (now (io .entry)) (record { requesttype = «request_type»; request = request }) ⌝ }
@@ -90,6 +100,7 @@ pub extern "C" fn souk_control(record: &mut [u8], io: &[u8], request_type: u8, r
     callbytes::bus::control(record, io, request_type, request)
 }
 
+// Shows the command in the 16 bytes of `block`.
 #[no_mangle]
 pub extern "C" fn souk_command(record: &[u8], io: &[u8], block: &mut [u8]) -> u64
     ensures { λ x. ⌜ shows x (now (block .exit)) ≡ commandOn (now («record» .entry)) (now (io .entry)) (now (block .entry)) ⌝ }
@@ -97,6 +108,7 @@ pub extern "C" fn souk_command(record: &[u8], io: &[u8], block: &mut [u8]) -> u6
     commandbytes::command(record, io, block)
 }
 
+// Offers the command, decoded, in the six numbers of `command`.
 #[no_mangle]
 pub extern "C" fn souk_command_step(record: &[u8], io: &[u8], command: &mut [u64]) -> u64
     ensures { λ x. ⌜ shows x (now (command .exit)) ≡ stepOn (now («record» .entry)) (now (io .entry)) (now (command .entry)) ⌝ }

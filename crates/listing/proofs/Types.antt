@@ -1,4 +1,4 @@
--- What the two calls return is built of the record and what the lent call reports, as `thin.proofs.Data` asks for it. Assumes nothing.
+-- What the two calls return is made of the record and of what the lent call reports, as `thin.proofs.Data` asks for it. Assumes nothing.
 use mathlib.Core.Path.{refl}
 use base.Logic.{emp, id⊢}
 use denote.Struct.Laws as SL

@@ -1,6 +1,6 @@
-// Document 01's listing, made by the lent calls: this program stands for a firmware in Rattle that keeps one device record and lends it.
-// `poll` and `set_status` are the only places that make a reference to the record. What is lent and taken back is the call by value again,
-// so each has the contract of the core's call of its name.
+// Document 01's listing, made by the calls over a lent record. This program stands for a firmware in Rattle that keeps one device record
+// and lends it. Only `poll` and `set_status` make a reference to the record. A record that is lent and then taken back gives the call by
+// value again, so each of the two has the contract of the call by value of its name.
 use answers::Answer;
 use answers::Stalls;
 use answers::answer_number;
@@ -21,6 +21,7 @@ ghost use mathlib.Core.Path.{_≡_};
 ghost use Rattle.bbb.specs.Poll.{given, pollingOf, pollCall};
 ghost use Rattle.calls.specs.Status.{statedOf, setStatusCall};
 
+// Lends the record to a poll and takes it back.
 fn poll(
     mut device: Device,
     io: &mut [u8],
@@ -39,6 +40,7 @@ fn poll(
     }
 }
 
+// Lends the record to a status and takes it back.
 fn set_status(mut device: Device, io: &[u8], given: FirmwareStatus) -> Stated
     ensures { λ r. ⌜ statedOf r ≡ setStatusCall device (now (io .entry)) given ⌝ }
 {
@@ -50,6 +52,7 @@ fn set_status(mut device: Device, io: &[u8], given: FirmwareStatus) -> Stated
     }
 }
 
+// How many bytes are unread between the marks.
 fn unread(marks: Marks) -> usize {
     if marks.write < marks.read {
         return 0;
@@ -57,6 +60,7 @@ fn unread(marks: Marks) -> usize {
     marks.write - marks.read
 }
 
+// The fields of the line with the index `index`; state, left and unread are those of `device`.
 fn line_of(index: usize, device: Device, answer: Answer, count: usize, stalls: Stalls) -> Line {
     let state = device.state;
     let left = device.left;
@@ -72,7 +76,7 @@ fn line_of(index: usize, device: Device, answer: Answer, count: usize, stalls: S
     }
 }
 
-// The line, with the first bytes of the packet buffer, as many as were sent.
+// Prints the line with the bytes sent, which are the first `sent` bytes of the packet buffer.
 fn print(line: Line, packet: &[u8], sent: usize) {
     let n = least(least(sent, packet.len()), 64);
     let mut text = [0u8; 259];
@@ -80,6 +84,7 @@ fn print(line: Line, packet: &[u8], sent: usize) {
     io::write_all(STDOUT_FILENO, &text[..end]);
 }
 
+// Makes a poll with the offer `one` and prints its line. There is no second packet.
 fn polled(index: usize, device: Device, io: &mut [u8], one: &[u8], turn: Turn) -> Device {
     let mut packet = [0u8; 64];
     let p = poll(device, io, &mut packet, one, &one[..0], turn);
@@ -92,6 +97,7 @@ fn polled(index: usize, device: Device, io: &mut [u8], one: &[u8], turn: Turn) -
     d
 }
 
+// Sets a status and prints its line.
 fn stated(index: usize, device: Device, io: &[u8], given: FirmwareStatus) -> Device {
     let s = set_status(device, io, given);
     let d = s.device;
@@ -100,7 +106,7 @@ fn stated(index: usize, device: Device, io: &[u8], given: FirmwareStatus) -> Dev
     d
 }
 
-// Tag 1, no data, a command block of six zeros: is the unit ready?
+// A wrapper with tag 1, no data and a command block of six zeros, which asks whether the unit is ready.
 fn wrapper() -> [u8; 31] {
     let mut w = [0u8; 31];
     w[0] = b'U';
@@ -112,7 +118,7 @@ fn wrapper() -> [u8; 31] {
     w
 }
 
-// The host sends the wrapper, the firmware says passed, and the host takes the status and is silent.
+// The host sends the wrapper, the firmware says passed, and the host takes the status and then stays silent.
 fn play(device: Device, io: &mut [u8], wrapper: &[u8]) {
     let silent = Turn {
         first: 1,
@@ -143,6 +149,7 @@ fn play(device: Device, io: &mut [u8], wrapper: &[u8]) {
     polled(4, d3, io, &wrapper[..0], silent);
 }
 
+// Creates the device, prints the line of that, and plays the rest of the listing.
 fn main() {
     let made = create(Fixed {
         packetsize: 64,

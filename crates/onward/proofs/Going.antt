@@ -1,7 +1,7 @@
--- Polls in the midst of a transfer are 01's polls.
+-- Polls in the middle of a transfer are 01's polls.
 --     may-send, may-take      what the tests of the record's bytes tell
---     send-rule, take-rule    what such a poll comes to, by 01's rules of 4 and 6, and of 7
---     ways                    what each way through the functions that look for them, and that make them, owes
+--     send-rule, take-rule    what such a poll does, by 01's rules of 4 and 6, and of 7
+--     ways                    what each way owes through the functions that look for such polls, and through those that make them
 -- Assumes nothing.
 use mathlib.Core.Path.{_≡_, refl, sym, ap, _∙_}
 use mathlib.Core.Bool.{Bool, true, false, not}
@@ -47,7 +47,7 @@ use Rattle.onward.specs.Inner.Onward.{Steady, Ready, sendsIn, Sending, M
 
 -- ---- the tests
 
--- a test that fails owes nothing
+-- A test that fails owes nothing.
 pub fails : (P : Type 0) → false ≡ true → P
 fails P h = absurd (clash (sym h))
 
@@ -84,7 +84,7 @@ is-steady r len {size} {maxlun} {p = p} es el a b em c et t ed d eu u eb k ep ev
   block = rw (← eb) k;
 }
 
--- a state of one of two numbers
+-- A state whose number is 6 or 4.
 sending-in : (P : State → Type 0) (s : State) → sendsIn (stateNumber s) ≡ true → P DataTransferToHostEnding → P DataTransferToHost → P s
 unfolding sendsIn
 sending-in P ring.CommandTransfer h a b = absurd (clash (sym h))
@@ -108,7 +108,7 @@ module _ (r : List ℕ) where
   unfolding statusAt statusBy
   flag-absent e = rw e
 
-  -- neither 10 nor 11
+  -- The poll is refused neither with 10 nor with 11.
   module _ (len packet one two : ℕ) (long : length r ≡ 52) (s : Steady r len) (state : get field.state r ≤ 8) (flag : get field.present r ≤ 1)
       (order : get field.readMark r ≤ get field.writeMark r) (within : get field.writeMark r ≤ len)
       (suits : statusFits (stateOfNumber (get field.state r)) (isPresent (statusAt r)) ≡ true) (fits : isFitting (get field.packetSize r) packet one two ≡ true) where
@@ -203,7 +203,7 @@ in-7 ring.DataTransferToHostEnding h = absurd (clash (sym h))
 in-7 ring.DataTransferFromHost h = refl
 in-7 ring.DataTransferFromHostEnding h = absurd (clash (sym h))
 
--- with room for a packet nothing moves
+-- Where there is room for a packet, nothing moves.
 roomy : (p : ℕ) (s : Buffer) → p ≤ room s → (withRoom p s ≡ s) × (lacksRoom p s ≡ false)
 unfolding withRoom lacksRoom
 roomy p s h = let fits : ltb (room s) p ≡ false = le-ltb _ _ h in (rw fits, rw (fits, fits))
@@ -244,7 +244,7 @@ module _ (n : Numbers) (len : ℕ) (w : Whole n len) where
   pub count-fits : {k : ℕ} → k ≤ n .fixed .packetsize → k < 2 ^ 32
   count-fits h = omega (arith, h, packet-bounds (n .fixed .packetsize) (packet-known n len w) .1)
 
--- a packet that is whole is what a read takes
+-- A whole packet is unread, so a read takes all of it.
 module _ (n : Numbers) (io : List ℕ) (h : n .fixed .packetsize ≤ n .marks .write - n .marks .read) where
   all-ready : n .fixed .packetsize ≡ ready (n .fixed .packetsize) (bufferOf n io)
   unfolding ready

@@ -1,4 +1,4 @@
--- proofs.Going     polls in the midst of a transfer are 01's polls
+-- proofs.Going     polls in the middle of a transfer are 01's polls
 -- proofs.Unique    no second answer satisfies a promise
 pub mod Going
 pub mod Unique

@@ -1,6 +1,6 @@
--- No second answer satisfies a promise: what the `ensures` of a function that moves a packet says is true of one result alone, and of one
--- content of each lent slice at exit. `Post` is the contract itself, as the check reads it. The two functions that look for such a poll
--- promise only what a yes means: behind a no the poll goes its other way. Assumes nothing.
+-- No second answer satisfies a promise: what the `ensures` of a function that moves a packet says is true of only one result, and of only
+-- one content of each lent slice at exit. `Post` is the contract itself, as the check reads it. The two functions that look for such a
+-- poll promise only what a yes means: after a no the poll goes the other way. Assumes nothing.
 use mathlib.Core.Path.{_≡_, sym, _∙_}
 use mathlib.Core.List.{List}
 use Prim.Native.Nat.{ℕ}
@@ -11,7 +11,7 @@ use Rattle.onward.proofs.send_on.Reads as send-on
 use Rattle.onward.proofs.take_on.Kinds as take-on-kinds
 use Rattle.onward.proofs.take_on.Reads as take-on
 
--- the record, and the buffer into which the packet goes
+-- The record, and the buffer into which the packet goes, are looked at together.
 both : {r l b c : List ℕ} → r ≡ l → b ≡ c → _≡_ {A = List ℕ × List ℕ} (r, b) (l, c)
 both e f = rw (e, f)
 

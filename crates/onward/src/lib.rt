@@ -1,6 +1,6 @@
-// Polls in the midst of a transfer: the next packet of data crosses the wire, and nothing else happens. Most polls of a read-out are
-// such. The whole ring would come to the same, only later; so they are looked for first, and in the record's bytes, before anything
-// else is read of them. The tests may miss such a poll: then the ring does it.
+// Polls in the middle of a transfer: the next packet of data crosses the wire, and nothing else happens. Most polls of a read-out are of
+// this kind. The whole ring would do the same, but more slowly. So these polls are looked for first, in the bytes of the record, before
+// anything else is read. The tests may miss such a poll: then the ring makes it.
 use bbb::fits;
 use border::word::word;
 use buffer::Marks;
@@ -21,6 +21,7 @@ ghost use Rattle.device.specs.Broken.{Whole};
 ghost use Rattle.recordbytes.specs.Layout.{recordSize};
 ghost use Rattle.onward.specs.Inner.Onward.{Steady, sendsIn, MaySend, MayTake, SendsOn, TakesOn};
 
+// In 6 data goes out; with a status present a poll in 4 goes on to 6.
 fn sends_in(state: u8) -> bool
     ensures { λ x. ⌜ x ≡ sendsIn state ⌝ }
 {
@@ -30,7 +31,8 @@ fn sends_in(state: u8) -> bool
     state == 4
 }
 
-// Of the record what both ways need. A buffer of fewer bytes than the largest packet is left to the ring.
+// Tests what both kinds of poll need of the numbers in `record` that stay. `len` is the length of the IO buffer. A buffer shorter than
+// the largest packet is left to the ring.
 fn steady(record: &[u8], len: usize) -> bool
     requires { ⌜ length (now «record») ≡ recordSize ⌝ }
     ensures { λ x. ⌜ (x ≡ true → Steady (now («record» .entry)) len) ⌝ }
@@ -63,7 +65,8 @@ fn steady(record: &[u8], len: usize) -> bool
     is_packet_size(byte(record, in_record::PACKET_SIZE) as usize)
 }
 
-// Whether the record is whole, the offers fit, and a whole packet of data goes out.
+// Whether the record is whole, what was offered fits, and a whole packet of data goes out. `len`, `packet`, `one` and `two` are the
+// lengths of the IO buffer, the packet buffer and the packets offered; `write` is IN's answer. A no leaves the poll to the ring.
 pub fn sends_on(record: &[u8], len: usize, packet: usize, one: usize, two: usize, write: u8) -> bool
     ensures { λ x. ⌜ (x ≡ true → MaySend (now («record» .entry)) len packet one two write) ⌝ }
 {
@@ -96,6 +99,7 @@ pub fn sends_on(record: &[u8], len: usize, packet: usize, one: usize, two: usize
     fits(p, packet, one, two)
 }
 
+// Sends the next packet from `io` into `packet`. `n` are the numbers in `record`.
 pub fn send_on(record: &mut [u8], n: Numbers, io: &[u8], packet: &mut [u8]) -> u64
     requires { ⌜ (length (now «record») ≡ recordSize) × Whole n (length (now io)) × (n .fixed .packetsize ≤ length (now packet)) × (n .fixed .packetsize ≤ n .marks .write - n .marks .read) ⌝ }
     ensures { λ x. ⌜ SendsOn n (now (io .entry)) (now («record» .entry)) (now (packet .entry)) x (now («record» .exit)) (now (packet .exit)) ⌝ }
@@ -117,7 +121,8 @@ pub fn send_on(record: &mut [u8], n: Numbers, io: &[u8], packet: &mut [u8]) -> u
     word(0, 0, 0, 0, store::narrow(p))
 }
 
-// Whether the record is whole, the offers fit, and a packet of data comes in for which there is room.
+// Whether the record is whole, what was offered fits, and a packet of data comes in for which there is room. The lengths are those of
+// `sends_on`; `first` is the answer of the first OUT read. A no leaves the poll to the ring.
 pub fn takes_on(record: &[u8], len: usize, packet: usize, one: usize, two: usize, first: u8) -> bool
     ensures { λ x. ⌜ (x ≡ true → MayTake (now («record» .entry)) len packet one two first) ⌝ }
 {
@@ -150,6 +155,7 @@ pub fn takes_on(record: &[u8], len: usize, packet: usize, one: usize, two: usize
     fits(p, packet, one, two)
 }
 
+// Takes the packet `one` into `io`. `n` are the numbers in `record`.
 pub fn take_on(record: &mut [u8], n: Numbers, io: &mut [u8], one: &[u8]) -> u64
     requires { ⌜ (length (now «record») ≡ recordSize) × Whole n (length (now io)) × (length (now one) ≤ n .fixed .packetsize) × (n .fixed .packetsize ≤ length (now io) - n .marks .write) ⌝ }
     ensures { λ x. ⌜ TakesOn n (now (io .entry)) (now («record» .entry)) (now (one .entry)) x (now («record» .exit)) (now (io .exit)) ⌝ }

@@ -1,4 +1,4 @@
--- A packet that goes through a local array, once for every length (`ways`). Assumes nothing.
+-- Laws of a packet that goes through a local array, proved once for every length (`ways`). Assumes nothing.
 use mathlib.Core.Path.{_≡_, sym, ap, _∙_}
 use mathlib.Core.List.{List}
 use Prim.Native.Nat.{ℕ, _+_, _≤_}
@@ -8,7 +8,7 @@ use lib.Seq.{take-all, length-take-le}
 use Rattle.fields.specs.Overlay.{overlay}
 use Rattle.fields.proofs.Overlay.{overlay-whole}
 
--- the part that goes into the array is all of the packet
+-- The part that goes into the array is the whole packet.
 pub part-long : (n : ℕ) (src : List ℕ) → length src ≡ n → n ≡ length (take n src)
 part-long n src es = sym (length-take-le n src (omega (arith, es)))
 

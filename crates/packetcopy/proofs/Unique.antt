@@ -1,5 +1,5 @@
--- No second answer satisfies the promise: what the `ensures` says is true of one content of the slice at exit. `Post` is the contract itself,
--- as the check reads it. Assumes nothing.
+-- No second answer satisfies the promise: what the `ensures` says is true of only one content of the slice at exit. `Post` is the
+-- contract itself, as the check reads it. Assumes nothing.
 use mathlib.Core.Path.{refl, sym, _∙_}
 use denote.Ref.{now}
 use Rattle.fields.proofs.Only.{Only}

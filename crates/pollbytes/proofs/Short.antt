@@ -1,4 +1,5 @@
--- A poll that goes the short way is 01's poll: what the tests in front of it tell, and what the functions behind them leave. Assumes nothing.
+-- A poll that goes the short way is 01's poll, by what the tests before it tell and by what the functions after them leave. Assumes
+-- nothing.
 use mathlib.Core.Path.{_≡_, refl, sym, _∙_, subst}
 use mathlib.Core.Bool.{Bool, true}
 use mathlib.Core.List.{List}

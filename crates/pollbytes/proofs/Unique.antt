@@ -1,5 +1,5 @@
--- No second answer satisfies the promise: what the `ensures` of the poll says is true of one result alone, and of one content of each lent slice
--- at exit. `Post` is the contract itself, as the check reads it. Assumes nothing.
+-- No second answer satisfies the promise: what the `ensures` of the poll says is true of only one result, and of only one content of each
+-- lent slice at exit. `Post` is the contract itself, as the check reads it. Assumes nothing.
 use mathlib.Core.Path.{sym, _∙_}
 use denote.Ref.{now}
 use Rattle.fields.proofs.Only.{Only}

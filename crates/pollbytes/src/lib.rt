@@ -1,5 +1,5 @@
-// One poll of a record of bytes: in the midst of a transfer, or any other. The short way can be taken out: what is promised is what the
-// ring promises.
+// One poll of a record of bytes. A poll in the middle of a transfer goes a short way. That way can be taken out: the promise is the same
+// as that of the ring.
 use bbb::Turn;
 use onward::send_on;
 use onward::sends_on;
@@ -10,7 +10,8 @@ ghost use mathlib.Core.Path.{_≡_};
 ghost use Rattle.bbb.specs.Poll.{given};
 ghost use Rattle.ringbytes.specs.Poll.{polls, pollOn};
 
-// The two kinds of poll in the midst of a transfer, which most are; they are never 10 or 11. Then any other. Half its lines are parameters.
+// Looks first for the two kinds of poll in the middle of a transfer, since most polls are; these are never refused with 10 or 11. The
+// ring makes any other poll.
 pub fn poll(
     record: &mut [u8],
     io: &mut [u8],

@@ -1,4 +1,5 @@
--- The wrapper arrives: while fewer than 31 bytes came nothing is sent and nothing put in, whatever happens. Assumes nothing.
+-- While the wrapper arrives: as long as fewer than 31 bytes have come, nothing is sent and nothing is put in, whatever happens. Assumes
+-- nothing.
 use mathlib.Core.Path.{_≡_, refl, sym, ap, _∙_}
 use mathlib.Core.Bool.{true, false}
 use mathlib.Core.List.{List, [], _∷_, _++_, append-assoc, append-nil, flatten}
@@ -25,7 +26,7 @@ use Rattle.readout.specs.Demand.{waitsIn}
 use Rattle.readout.proofs.Rules.{bytesOf, packetsOf}
 use Rattle.readout.proofs.Waiting.{Arriving, waits-by, apart, From, from-count, Reads, idle, short, ripe, ripe-first, by-reading}
 
--- what an event does to a device that waits
+-- What an event that shows `o` does to a device that waits for a wrapper of which the bytes `m` have come.
 record Arrives (p : ℕ) (m : List ℕ) (o : Shows) : Type 0 where
   arriving : Arriving p (m ++ firstOf (o .taken)) (o .socket)
   sent : o .sent ≡ []
@@ -36,7 +37,7 @@ module _ (p : ℕ) (m : List ℕ) (s : Socket) (a : Arriving p m s) where
   -- ---- polls
 
   module _ (g : Given) where
-    -- where a poll leaves the device
+    -- Where a poll whose outcome is `o` leaves the device.
     record Shown (o : Polling) : Type 0 where
       state : waitsIn (o .device .state) ≡ true
       none-in-3 : o .device .state ≡ StatusTransfer → m ++ firstOf (packetsOf g o) ≡ []
@@ -60,7 +61,7 @@ module _ (p : ℕ) (m : List ℕ) (s : Socket) (a : Arriving p m s) where
     rule-shown : Fits (s .device .fixed .packetsize) (g .packet) (g .one) (g .two) → length (m ++ firstOf (packetsOf g (pollRule (s .device) (s .io) g))) < 31 → Shown (pollRule (s .device) (s .io) g)
     rule-shown fits few = by-reading p m s a g fits (λ x f r. shown x f (pollRule (s .device) (s .io) g) r few)
 
-    -- a poll, refused or not
+    -- This is so for a poll, refused or not.
     poll-arrives : length (m ++ firstOf (shows (poll g) s .taken)) < 31 → Arrives p m (shows (poll g) s)
     unfolding shows flatten
     poll-arrives few =
@@ -87,7 +88,7 @@ module _ (p : ℕ) (m : List ℕ) (s : Socket) (a : Arriving p m s) where
   unfolding flatten
   nothing-arrives n = record { arriving = rw append-nil a; sent = refl; put = refl; alone = refl }
 
-  -- entering 0 keeps what came
+  -- Entering 0 keeps the bytes that came.
   reset-arrives : (x : Answering) → Arrives p m (record { socket = socket (entering0 (s .device)) (s .io); answer = x; taken = []; sent = []; put = [] })
   unfolding flatten
   reset-arrives n = record {
@@ -103,7 +104,7 @@ module _ (p : ℕ) (m : List ℕ) (s : Socket) (a : Arriving p m s) where
     alone = refl;
   }
 
-  -- it is in no state in which a status is taken, or data
+  -- The device is in no state in which a status or data is taken.
   elsewhere : (k : ℕ) → (eqb 0 k ≡ false) → (eqb 3 k ≡ false) → isIn k (s .device) ≡ false
   unfolding isIn
   elsewhere k a0 a3 = waits-by (s .device .state) (a .waits) (λ e. rw e a0) (λ e. rw e a3)
@@ -126,13 +127,14 @@ module _ (p : ℕ) (m : List ℕ) (s : Socket) (a : Arriving p m s) where
 
 -- ---- a history
 
+-- The same for a history `h` that starts at the socket `s`.
 pub record Arrived (p : ℕ) (m : List ℕ) (h : List Event) (s : Socket) : Type 0 where
   pub arriving : Arriving p (m ++ arrivedIn h s) (run h s)
   pub sent : sentIn h s ≡ []
   pub put : putIn h s ≡ []
   pub alone : takenIn h s ≡ arrivedIn h s
 
--- while fewer than 31 bytes came
+-- It holds while fewer than 31 bytes have come.
 pub history-arrives : (p : ℕ) (h : List Event) (m : List ℕ) (s : Socket) → Arriving p m s → length (m ++ arrivedIn h s) < 31 → Arrived p m h s
 unfolding run all
 history-arrives p [] m s a few = record { arriving = rw append-nil a; sent = refl; put = refl; alone = refl }

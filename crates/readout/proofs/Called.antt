@@ -1,5 +1,5 @@
--- The demand for the calls themselves: what the code returned, call by call, where each call meets its contract. `Post` is the contract,
--- as the check reads it. Assumes nothing.
+-- The demand for the calls themselves: for what the code returned, call by call, where each call meets its contract. `Post` is the
+-- contract, as the check reads it. Assumes nothing.
 use mathlib.Core.Path.{_≡_, refl, ap, _∙_}
 use mathlib.Core.Bool.{true}
 use mathlib.Core.List.{List, [], _∷_, _++_}
@@ -36,9 +36,9 @@ use Rattle.readout.specs.History.{Socket, socket, Event, poll, status, w
 use Rattle.readout.specs.Demand.{Story, history, ended, host, servedSince, number, theData, theStatus, Between, Later, Supposed, NotYet, Ends, Demand}
 use Rattle.readout.proofs.Demand.{demand}
 
--- A call as it came back: with these arguments a (the record first, then the lent slices and what else it takes), this result x and the
--- slices z as the call left them, its contract holds. Then the event is the call, on the record and the IO buffer lent, and what it shows
--- is read off x and z.
+-- A call that returned. `a` are its arguments: the record first, then the lent slices and whatever else it takes. `x` is its result, and
+-- `z` are the slices as the call left them. Its contract holds of these. Then the event is this call, made with the record and the IO
+-- buffer that were lent, and what it shows is read from `x` and `z`.
 pub data Called : Event → Socket → Shows → Type 0 where
   poll-called : (κs : Lfts 4) (a : Dens κs poll-kinds.ps) (x : resT poll-kinds.r κs .Denot) (z : AtExit (endedOf 4 poll-kinds.ps poll-kinds.r) κs) → poll-reads.Post κs a x z
       → Called (poll (given (now (a .1 .1 .0)) (now (a .1 .1 .1 .0)) (now (a .1 .1 .1 .1 .0)) (a .1 .1 .1 .1 .1 .0))) (socket (a .0) (now (a .1 .0)))
@@ -60,7 +60,7 @@ pub data Called : Event → Socket → Shows → Type 0 where
   step-called : (κs : Lfts 1) (a : Dens κs step-kinds.ps) (x : resT step-kinds.r κs .Denot) (z : AtExit (endedOf 1 step-kinds.ps step-kinds.r) κs) → step-reads.Post κs a x z
       → Called commandStep (socket (a .0) (now (a .1 .0))) (ofLook (socket (a .0) (now (a .1 .0))) (steppedOf x .answer))
 
--- what a call showed is what its event shows
+-- What a call showed is what its event shows.
 called-shows : {e : Event} {s : Socket} {o : Shows} → Called e s o → o ≡ shows e s
 unfolding shows
 called-shows (poll-called κs a x z p) = ap (ofPoll (given (now (a .1 .1 .0)) (now (a .1 .1 .1 .0)) (now (a .1 .1 .1 .1 .0)) (a .1 .1 .1 .1 .1 .0))) p
@@ -73,13 +73,13 @@ called-shows (control-called κs a x z p) = ap (ofBus (now (a .1 .0))) p
 called-shows (command-called κs a x z p) = ap (λ (o : Showing). ofLook (socket (a .0) (now (a .1 .0))) (o .answer)) p
 called-shows (step-called κs a x z p) = ap (λ (o : Stepping). ofLook (socket (a .0) (now (a .1 .0))) (o .answer)) p
 
--- "the firmware keeps one device record": each call is made with the record and the IO buffer that the call before left. The last such
--- socket, and all bytes sent.
+-- "the firmware keeps one device record": each call is made with the record and the IO buffer that the call before left. The log has the
+-- last such socket, and all bytes sent.
 pub data Log : List Event → Socket → Socket → List ℕ → Type 0 where
   none : {s : Socket} → Log [] s s []
   then : {e : Event} {h : List Event} {s last : Socket} {o : Shows} {sent : List ℕ} → Called e s o → Log h (o .socket) last sent → Log (e ∷ h) s last (o .sent ++ sent)
 
--- it is the history's run
+-- The log of a history has the socket that the history leaves, and the bytes that it sends.
 log-run : {h : List Event} {s last : Socket} {sent : List ℕ} → Log h s last sent → (last ≡ run h s) × (sent ≡ sentIn h s)
 unfolding run all
 log-run none = (refl, refl)
@@ -88,7 +88,8 @@ log-run (then {e} {h} {s} {last} {o} {sent} c rest) =
     let more : (last ≡ run h (o .socket)) × (sent ≡ sentIn h (o .socket)) = log-run rest in
     (more .0 ∙ ap (λ (z : Shows). run h (z .socket)) same, ap (λ (l : List ℕ). o .sent ++ l) (more .1) ∙ ap (λ (z : Shows). z .sent ++ sentIn h (z .socket)) same)
 
--- A story whose calls were made: what they sent, and the poll that was called next.
+-- What is promised of a story `t` whose calls were made: they left the socket `last` and sent `sent`. `exactly` is about the poll that is
+-- called next.
 pub record Kept (t : Story) (last : Socket) (sent : List ℕ) : Type 0 where
   pub not-before : servedSince t < number t → (rest : List ℕ) × (0 < length rest) × (sent ++ rest ≡ theData t ++ theStatus t)
   pub exactly : servedSince t + 1 ≡ number t → {g : Given} {o : Shows} → Called (poll g) last o → Later (poll g) last → isServed (o .answer) ≡ true
@@ -98,6 +99,7 @@ served-called : {g : Given} {s : Socket} {o : Shows} → Called (poll g) s o →
 unfolding served isPoll
 served-called c does = rw (← called-shows c, does)
 
+-- Demand 3 for the calls: of every story that meets what is supposed, with the log of its calls.
 pub kept : (t : Story) → Supposed t → {last : Socket} {sent : List ℕ} → Log (history t) (t .start) last sent → Kept t last sent
 kept t u {last} {sent} l =
     let d : Demand t = demand t u in

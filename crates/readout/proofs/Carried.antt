@@ -1,4 +1,4 @@
--- The invariant of a transfer and the number that falls, carried through a history: up to the last accepted status, and behind it.
+-- The invariant of a transfer, and the number that falls, are carried through a history: up to the last accepted status, and after it.
 -- Assumes nothing.
 use mathlib.Core.Path.{_≡_, refl, sym, _∙_}
 use mathlib.Core.Bool.{true}
@@ -22,7 +22,7 @@ use Rattle.readout.proofs.Transfer.{Transfer, unreadIn, due, dueIn}
 use Rattle.readout.proofs.Rules.{still}
 use Rattle.readout.proofs.Steps.{Steps, event-steps}
 
--- where a status is taken, all that is left and a whole status are due
+-- In a state in which a status is taken, everything that is left and a whole status are due.
 pub takes-due : (σ : State) (p left n : ℕ) → takesStatus (stateNumber σ) ≡ true → dueIn σ p left n ≡ ceiling left p + ceiling 13 p
 unfolding takesStatus
 takes-due CommandTransfer p left n takes = refl
@@ -61,7 +61,7 @@ module _ (w : Wrapper) (p : ℕ) where
         wire = omega (arith, st .wire (f .same-command), b .wire, length-append (o .sent) (sentIn h (next e s)), length-append (flatten (o .taken)) (takenIn h (next e s)));
       }
 
-  -- ---- behind it
+  -- ---- after it
 
   pub record After (got put : List ℕ) (h : List Event) (s : Socket) : Type 0 where
     pub transfer : Transfer w p (got ++ sentIn h s) (put ++ putIn h s) (run h s)

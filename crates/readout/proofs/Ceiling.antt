@@ -1,4 +1,4 @@
--- The quotient rounded up, for every P above 0: none for none, and one less behind a packet. Assumes nothing.
+-- The quotient rounded up, for every P above 0: it is 0 for 0 bytes, and one packet makes it smaller by 1. Assumes nothing.
 use mathlib.Core.Path.{_≡_, refl, sym, ap, _∙_}
 use mathlib.Core.Bool.{Bool, true, false}
 use Prim.Native.Nat.{ℕ, _+_, _-_, _/_, _≤_, _<_, min}
@@ -12,7 +12,7 @@ pub ceiling-none : (p : ℕ) → 0 < p → ceiling 0 p ≡ 0
 unfolding ceiling
 ceiling-none p some = div-eq-of-lt (omega arith)
 
--- min(P, n) bytes go out of n
+-- Of `n` bytes min(P, n) go out, and `m` are left.
 pub ceiling-falls : (p n m : ℕ) → 0 < p → 0 < n → m ≡ n - min p n → ceiling m p + 1 ≡ ceiling n p
 unfolding ceiling
 ceiling-falls p n m some more e = ap (λ (q : ℕ). q + 1) (by (ltb n p) refl) ∙ sym (div-eq-sub-div some (omega arith))
@@ -25,6 +25,6 @@ ceiling-falls p n m some more e = ap (λ (q : ℕ). q + 1) (by (ltb n p) refl) �
         let many : p ≤ n = ltb-false n p h in
         ap (λ (q : ℕ). q / p) (omega arith)
 
--- something is due where something is left to send
+-- Where something is left to send, at least one poll is due.
 pub ceiling-some : (p n : ℕ) → 0 < p → 0 < n → 0 < ceiling n p
 ceiling-some p n some more = omega (arith, ceiling-falls p n (n - min p n) some more refl)

@@ -1,4 +1,4 @@
--- The mission's third demand, for every story that meets its premises. Assumes nothing.
+-- The mission's third demand is proved, for every story that meets its premises. Assumes nothing.
 use mathlib.Core.Path.{_≡_, refl, sym, ap, ap₂, _∙_}
 use mathlib.Core.Bool.{true}
 use mathlib.Core.List.{List, [], _∷_, _++_, append-assoc, append-nil, flatten}
@@ -40,7 +40,7 @@ use Rattle.readout.proofs.Owed.{bytesFor, Owes, owes, Rests, rests}
 
 -- ---- the wrapper
 
--- one event behind a history
+-- A history `h`, and one more event `e` after it.
 module _ (h : List Event) (e : Event) (s : Socket) where
   run-one : run (h ++ (e ∷ [])) s ≡ next e (run h s)
   unfolding run
@@ -50,7 +50,7 @@ module _ (h : List Event) (e : Event) (s : Socket) where
   unfolding all
   all-one what = all-append what h (e ∷ []) s ∙ ap (λ (l : List ℕ). all what h s ++ l) (append-nil (what (shows e (run h s))))
 
--- the bytes of data that the host is to get
+-- How many bytes of data the host gets.
 abbrev pub dataLength : DataDirection → ℕ → ℕ
 dataLength Out l = 0
 dataLength In l = l
@@ -65,7 +65,7 @@ waits-arriving s b = record {
   none-in-3 = λ _. refl;
 }
 
--- the first packet's bytes, and those of the others
+-- The length of all packets is that of the first packet and that of the others.
 first-rest : (packets : List (List ℕ)) → length (flatten packets) ≡ length (firstOf packets) + length (flatten (drop 1 packets))
 unfolding flatten
 first-rest [] = refl
@@ -73,13 +73,13 @@ first-rest (packet ∷ packets) = length-append packet (flatten packets)
 
 -- ---- a story
 
--- a poll puts nothing in
+-- A poll puts nothing in.
 poll-puts : (g : Given) (s : Socket) → shows (poll g) s .put ≡ []
 unfolding shows
 poll-puts g s = refl
 
 module _ (t : Story) (u : Supposed t) where
-  -- the socket before the wrapper's last packet, and what that packet's poll showed
+  -- The socket before the last packet of the wrapper, and what the poll of that packet showed.
   abbrev waiting-for : Socket
   waiting-for = run (t .arrival) (t .start)
 
@@ -132,7 +132,7 @@ module _ (t : Story) (u : Supposed t) where
   unfolding accepts isStatus shows
   here = status-accepted (reached t .device) (reached t .io) (t .given) (u .accepted)
 
-  -- the record with it
+  -- The record with the status in it.
   told-is : told t .device ≡ withFigure (t .given) (reached t .device)
   unfolding shows
   told-is = here .device
@@ -144,7 +144,7 @@ module _ (t : Story) (u : Supposed t) where
   takes : takesStatus (stateNumber (reached t .device .state)) ≡ true
   takes = rw reached-is (met-before .takes)
 
-  -- what is due with it
+  -- What is due when the status has come.
   told-due : due (told t) ≡ number t
   unfolding withFigure
   told-due =
@@ -154,12 +154,12 @@ module _ (t : Story) (u : Supposed t) where
       let same-size : told t .device .fixed .packetsize ≡ P t = ap (λ (d : Device). d .fixed .packetsize) told-is ∙ arrived-there .packetsize in
       takes-due (told t .device .state) (told t .device .fixed .packetsize) (told t .device .left .0) (length (unreadIn (told t))) (rw same-state takes) ∙ rw (same-left, same-size)
 
-  -- the transfer goes on with it
+  -- The invariant of the transfer still holds when the status has come.
   with-status : Transfer (wrapper t) (P t) (sentIn (toStatus t) (t .start) ++ shows (status (t .given)) (reached t) .sent) (putIn (toStatus t) (t .start) ++ shows (status (t .given)) (reached t) .put) (told t)
   unfolding isReset
   with-status = event-steps (wrapper t) (P t) _ _ few-before (reached t) arrived-there (some-due (wrapper t) (P t) (reached t) _ _ arrived-there takes) (status (t .given)) refl .transfer
 
-  -- ---- behind it
+  -- ---- after it
 
   ended-is : ended t ≡ run (t .after) (told t)
   unfolding run
@@ -172,7 +172,7 @@ module _ (t : Story) (u : Supposed t) where
   firmware-is : firmware t ≡ (putIn (toStatus t) (t .start) ++ shows (status (t .given)) (reached t) .put) ++ putIn (t .after) (told t)
   firmware-is = earlier-put ∙ sym (append-assoc (putIn (toStatus t) (t .start)) _ (putIn (t .after) (told t)))
 
-  -- The end of a story with fewer served polls: the invariant, the status, and what is due.
+  -- What holds at the end of a story with fewer served polls than the number: the invariant, the status, and what is still due.
   record Sum : Type 0 where
     transfer : Transfer (wrapper t) (P t) (host t) (firmware t) (ended t)
     status : ended t .device .status ≡ Present (statusOfNumber (t .given .status)) (residueOf (L t) (t .given .figure))
@@ -217,7 +217,7 @@ module _ (t : Story) (u : Supposed t) where
 
   -- ---- what is promised
 
-  -- the status that is promised is the one that is present
+  -- The status that is promised is the one that is present.
   the-status : bytesFor (wrapper t .tag) (Present (statusOfNumber (t .given .status)) (residueOf (L t) (t .given .figure))) ≡ theStatus t
   the-status = rw (status-number (t .given .status) (here .byte))
 
@@ -252,7 +252,7 @@ module _ (t : Story) (u : Supposed t) where
         again = record { whole = st .transfer .whole; waits = rw (r .state); nothing = sym (length-unread (bufferOf (o .device) (o .io)) (whole-sound (numbersOf (o .device)) (o .io) (st .transfer .whole))) ∙ ap length (r .none) };
       }
 
--- for a read L bytes and 13, otherwise 13
+-- The host is promised L bytes and 13 for a read, and 13 otherwise.
 pub promised-length : (t : Story) → length (firmware t) ≤ L t → length (theData t ++ theStatus t) ≡ dataLength (wrapper t .direction) (L t) + 13
 promised-length t few = length-append (theData t) (theStatus t) ∙ ap₂ _+_ (by (wrapper t .direction)) (length-status (wrapper t .tag) (residueOf (L t) (t .given .figure)) (t .given .status))
   where
@@ -261,6 +261,6 @@ promised-length t few = length-append (theData t) (theStatus t) ∙ ap₂ _+_ (b
     by In = length-filled _ (L t) (firmware t) few
     by NotExpected = refl
 
--- the mission's third demand
+-- The mission's third demand.
 pub demand : (t : Story) → Supposed t → Demand t
 demand t u = record { left = left-is t u; not-before = not-yet t u; exactly = ends t u; reachable = λ less g w. willing-served g (ended t) (sum t u less .transfer .whole) w }

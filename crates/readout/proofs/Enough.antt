@@ -1,4 +1,4 @@
--- Of the twelve premises of demand 3 ten suffice: `whole`, and `no-reset` up to the status, follow from the others.
+-- Of the twelve premises of demand 3 ten are enough: `whole`, and `no-reset` up to the status, follow from the others.
 --     whole-follows       a broken record takes no packet, so that no wrapper comes
 --     no-reset-follows    a reset of a whole record enters 0, where no status is taken, so that it leaves the command
 --     enough              the demand, without these two
@@ -35,7 +35,7 @@ WholeIn s = Whole (numbersOf (s .device)) (length (s .io))
 
 -- ---- a broken record
 
--- it stays as it is, and takes nothing
+-- An event at a broken record leaves it as it is, and takes no packet.
 refused : (e : Event) (s : Socket) → isWhole (numbersOf (s .device)) (length (s .io)) ≡ false → (next e s ≡ s) × (shows e s .taken ≡ [])
 unfolding shows pollCall setStatusCall worksIn resetCall controlCall unlessBroken
 refused (poll g) s h = (rw h, rw h)
@@ -62,7 +62,7 @@ whole-follows t valid =
 
 -- ---- a whole record
 
--- it stays whole
+-- A whole record stays whole.
 stays-whole : (e : Event) (s : Socket) → WholeIn s → WholeIn (next e s)
 unfolding shows
 stays-whole (poll g) s w = call-whole (s .device) (s .io) g w
@@ -80,7 +80,7 @@ unfolding run
 run-whole [] s w = w
 run-whole (e ∷ h) s w = run-whole h (next e s) (stays-whole e s w)
 
--- "its status": the device is where one would be taken
+-- "its status": the event leaves the device in a state in which a status is taken.
 abbrev SameCommand : Event → Socket → Type 0
 SameCommand e s = takesStatus (stateNumber (next e s .device .state)) ≡ true
 
@@ -105,7 +105,7 @@ earlier (e ∷ h) s w (same, rest) = (record { no-reset = no-reset-follows e s w
 
 -- ---- the demand
 
--- all that is supposed, without the two
+-- Everything that is supposed, without the two.
 pub record Enough (t : Story) : Type 0 where
   pub waits : waitsIn (t .start .device .state) ≡ true
   pub nothing : unread (bufferOf (t .start .device) (t .start .io)) ≡ 0

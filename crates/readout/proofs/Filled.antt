@@ -1,4 +1,4 @@
--- Bytes, and then a filler up to a number of them. Assumes nothing.
+-- Laws of bytes that are filled up with a filler to a given number. Assumes nothing.
 use mathlib.Core.Path.{_≡_, sym, ap, _∙_}
 use mathlib.Core.List.{List, _++_, append-assoc, append-nil}
 use Prim.Native.Nat.{ℕ, _+_, _-_, _≤_}
@@ -18,21 +18,21 @@ module _ (v : ℕ) where
   unfolding filledWith fillers
   length-filled n xs few = omega (arith, length-append xs (fillers (n - length xs)), length-fillers (n - length xs))
 
-  -- as many as there are: nothing is filled
+  -- Where there are enough bytes already, nothing is filled.
   pub filled-already : (n : ℕ) (xs : List ℕ) → n ≤ length xs → filledWith v n xs ≡ xs
   unfolding filledWith fillers
   filled-already n xs many =
       let none : n - length xs ≡ 0 = omega arith in
       ap (λ (k : ℕ). xs ++ fillers k) none ∙ append-nil xs
 
-  -- bytes in front count too
+  -- Bytes in front count too.
   pub filled-behind : (l n : ℕ) (front xs : List ℕ) → l + length front ≡ n → front ++ filledWith v l xs ≡ filledWith v n (front ++ xs)
   unfolding filledWith fillers
   filled-behind l n front xs e =
       let same : l - length xs ≡ n - length (front ++ xs) = omega (arith, length-append front xs) in
       sym (append-assoc front xs (fillers (l - length xs))) ∙ ap (λ (k : ℕ). front ++ xs ++ fillers k) same
 
-  -- filled a little already, with the same filler
+  -- Where some of the same filler is there already, the outcome is the same.
   pub filled-partly : (n k : ℕ) (xs : List ℕ) → length xs + k ≤ n → filledWith v n (xs ++ replicate k v) ≡ filledWith v n xs
   unfolding filledWith fillers
   filled-partly n k xs few =

@@ -1,4 +1,4 @@
--- A history that goes on: what it leaves and what it shows. Assumes nothing.
+-- What a history leaves and shows where more events follow it. Assumes nothing.
 use mathlib.Core.Path.{_≡_, refl, sym, ap, _∙_}
 use mathlib.Core.List.{List, [], _∷_, _++_, append-assoc}
 use Prim.Native.Nat.{ℕ}

@@ -1,19 +1,19 @@
 -- proofs.Ceiling      the quotient rounded up
--- proofs.Filled       bytes, and then a filler
+-- proofs.Filled       bytes that are filled up with a filler
 -- proofs.Transfer     a command's transfer: the invariant, and the number that falls at each served poll
 -- proofs.Rules        what each rule of a poll does to a transfer
 -- proofs.Steps        what each event does to it
--- proofs.Histories    a history that goes on
+-- proofs.Histories    a history that more events follow
 -- proofs.Carried      the invariant and the number, carried through a history
 -- proofs.Waiting      a device that waits for a wrapper, and a poll of it
 -- proofs.Arrival      while the wrapper arrives
 -- proofs.Opening      the poll that completes it
--- proofs.Owed         what the host is still to get
+-- proofs.Owed         what the host still has to get
 -- proofs.Willing      which polls are served
 -- proofs.Demand       demand 3
 -- proofs.Called       the same for the calls themselves
 -- proofs.Premises     what is supposed, as tests; it can be met
--- proofs.Enough       ten of the twelve premises suffice
+-- proofs.Enough       ten of the twelve premises are enough
 -- proofs.Needed       each of the ten is needed
 -- proofs.Computing    what cases compute with
 -- proofs.Cases        the cases of specs/Cases.antt hold

@@ -1,8 +1,8 @@
--- Each of ten premises of demand 3 is needed: in a story that breaks this one and no other the demand fails. The other two, `whole` and
--- `no-reset` up to the status, follow from the ten (Enough), so that no story breaks one of them alone.
---     without-..      a story that breaks the premise: that of the vector named with it, some with P 32 for P 8
---     needed-..       the demand fails in it
---     needed-table    what each story breaks: the one premise, and in two of them another with it
+-- Each of ten premises of demand 3 is needed: there is a story that breaks it, and in which the demand fails. The other two premises,
+-- `whole` and `no-reset` up to the status, follow from the ten (Enough), so that no story breaks one of them alone.
+--     without-..      a story that breaks the premise; it is that of the vector named with it, in some cases with P 32 for P 8
+--     needed-..       the demand fails in this story
+--     needed-table    what each story breaks: the one premise, and in two stories a second one with it
 -- Assumes nothing.
 use mathlib.Core.Path.{_≡_, refl, sym, ap, _∙_}
 use mathlib.Core.Bool.{true, false}
@@ -23,24 +23,25 @@ use Rattle.readout.specs.Demand.{Story, ended, host, servedSince, number
 use Rattle.readout.specs.Cases.{taking, takingTwo, sending, new, cbw, three, fourth}
 use Rattle.readout.proofs.Premises.{waits, nothing, unfinished, valid, no-reset-before, same-command, accepted, no-reset, no-status, full, few, broken, fills, poll-later, testing}
 
--- byte i, and 256 where there is none
+-- The byte of `bytes` at the index `i`, or 256 where there is none.
 abbrev byteAt : ℕ → List ℕ → ℕ
 byteAt i bytes = getD bytes i 256
 
--- Poll g is to end the story; but of all that the host got with it, byte i is another than the one promised.
+-- The poll that is given `g` should end the story `t`; but of all that the host got with it, the byte at the index `i` is not the one
+-- that is promised.
 fails : (t : Story) (g : Given) (i got due : ℕ) → servedSince t + 1 ≡ number t → fills (poll g) (ended t) ≡ true → served (poll g) (ended t) ≡ 1
     → byteAt i (host t ++ shows (poll g) (ended t) .sent) ≡ got → byteAt i (theData t ++ theStatus t) ≡ due → eqb got due ≡ false → Demand t → ⊥
 fails t g i got due last filled one is promised differ d =
     eqb-false got due differ (sym is ∙ ap (byteAt i) (d .exactly last g (poll-later g (ended t) filled) one .bytes) ∙ promised)
 
--- to unfold this is to unfold all that the stories compute with
+-- To unfold this is to unfold everything that the stories compute with.
 unfoldable calling : Unit {0}
 unfolding testing invalidRule writeAllIn entering resetCall bus.served controlCall
 calling = tt
 
 -- ---- wrappers, statuses and stories
 
--- a wrapper without data; one to the host, with tag 7; one from it, with tag 9
+-- A wrapper without data; one to the host, with tag 7; and one from the host, with tag 9.
 abbrev ready : ℕ → List ℕ
 ready tag = cbw tag 0 0
 
@@ -50,18 +51,18 @@ reading l = cbw 7 0x80 l
 abbrev writing : ℕ → List ℕ
 writing l = cbw 9 0 l
 
--- a status byte, and the number of bytes processed
+-- What the firmware says with a status: the status byte, and how many bytes it processed.
 abbrev figure : ℕ → ℕ → FirmwareStatus
 figure byte bytes = record { status = byte; figure = bytes }
 
--- P 32, where a wrapper is one packet: from some socket, and from a new device
+-- Stories with P 32, where a wrapper is one packet: from a given socket, and from a new device.
 abbrev from : Socket → List ℕ → List Event → FirmwareStatus → List Event → Story
 from s bytes before f after = record { start = s; arrival = []; completing = taking 32 bytes; before = before; given = f; after = after }
 
 abbrev in32 : List ℕ → List Event → FirmwareStatus → List Event → Story
 in32 = from (new 32 64)
 
--- P 8, where it is four
+-- Stories with P 8, where a wrapper is four packets.
 abbrev in8 : List ℕ → List Event → FirmwareStatus → List Event → Story
 in8 bytes before f after = record { start = new 8 64; arrival = three bytes; completing = fourth bytes; before = before; given = f; after = after }
 
@@ -133,7 +134,7 @@ pub needed-no-reset-before : Demand without-no-reset-before → ⊥
 unfolding calling without-no-reset-before
 needed-no-reset-before = fails without-no-reset-before (sending 32) 4 2 1 refl refl refl refl refl refl
 
--- A status goes out, byte 0, and then comes a wrapper with tag 2: the last accepted status, byte 1, is that one's.
+-- A status with byte 0 goes out, and then a wrapper with tag 2 comes. The last accepted status, with byte 1, belongs to that wrapper.
 -- premise-status-of-the-next-command-is-another
 unfoldable pub without-same-command : Story
 without-same-command = in32 (ready 1) (status (figure 0 0) ∷ poll (sending 32) ∷ poll (taking 32 (ready 2)) ∷ []) (figure 1 0) []
@@ -150,9 +151,9 @@ pub needed-accepted : Demand without-accepted → ⊥
 unfolding calling without-accepted
 needed-accepted = fails without-accepted (sending 32) 0 256 0x55 refl refl refl refl refl refl
 
--- ---- behind the status
+-- ---- after the status
 
--- A reset drops the status, and nothing goes out. The empty packet makes the poll a served one.
+-- A reset drops the status, and nothing goes out. With an empty packet on OUT the poll is a served one.
 -- premise-reset-behind-the-status-drops-it
 unfoldable pub without-no-reset : Story
 without-no-reset = in32 (ready 1) [] (figure 0 0) (reset ∷ [])
@@ -170,7 +171,7 @@ pub needed-no-reset-within : Demand without-no-reset-within → ⊥
 unfolding calling without-no-reset-within
 needed-no-reset-within = fails without-no-reset-within (taking 8 []) 8 256 0 refl refl refl refl refl refl
 
--- A status of byte 1 replaces that of byte 0.
+-- A status with byte 1 replaces the one with byte 0.
 -- status-set-again-replaces-the-first
 unfoldable pub without-no-status : Story
 without-no-status = in32 (ready 1) [] (figure 0 0) (status (figure 1 0) ∷ [])
@@ -179,7 +180,7 @@ pub needed-no-status : Demand without-no-status → ⊥
 unfolding calling without-no-status
 needed-no-status = fails without-no-status (sending 32) 12 1 0 refl refl refl refl refl refl
 
--- Two bytes are left, and the host sends them in two packets. The second poll, which is to send the status, takes a packet.
+-- Two bytes are left, and the host sends them in two packets. The second poll, which should send the status, takes a packet.
 -- premise-short-host-packet-takes-one-poll-more
 unfoldable pub without-full : Story
 without-full = in32 (writing 2) [] (figure 0 0) (poll (taking 32 (1 ∷ [])) ∷ [])
@@ -199,7 +200,7 @@ pub needed-few : Demand without-few → ⊥
 unfolding calling without-few
 needed-few = fails without-few (sending 8) 8 0x55 9 refl refl refl refl refl refl
 
--- L = 5, and `write_data` puts in 5 bytes and 4: the same.
+-- L = 5, and `write_data` puts in 5 bytes and then 4: the same happens.
 -- premise-two-writes-above-l-lose-a-byte
 unfoldable pub without-few-twice : Story
 without-few-twice = in8 (reading 5) (write (1 ∷ 2 ∷ 3 ∷ 4 ∷ 5 ∷ []) ∷ write (6 ∷ 7 ∷ 8 ∷ 9 ∷ []) ∷ []) (figure 0 5) (poll (sending 8) ∷ poll (sending 8) ∷ [])
@@ -208,7 +209,7 @@ pub needed-few-twice : Demand without-few-twice → ⊥
 unfolding calling without-few-twice
 needed-few-twice = fails without-few-twice (sending 8) 8 0x55 9 refl refl refl refl refl refl
 
--- ---- what each breaks
+-- ---- what each story breaks
 
 pub needed : List Case
 needed =

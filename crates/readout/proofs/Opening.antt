@@ -1,4 +1,5 @@
--- The poll that completes a valid wrapper starts its transfer: nothing was sent or put in for it, and a status is taken. Assumes nothing.
+-- The poll that completes a valid wrapper starts its transfer: nothing was sent or put in for it before, and a status is taken then.
+-- Assumes nothing.
 use mathlib.Core.Path.{_≡_, refl, sym, ap, _∙_, subst}
 use mathlib.Core.Bool.{true, false}
 use mathlib.Core.List.{List, [], _++_, flatten}
@@ -30,7 +31,7 @@ use Rattle.readout.proofs.Transfer.{Phase, toHost, waiting, toHostEndin
 use Rattle.readout.proofs.Rules.{bytesOf, packetsOf, poll-long, owing, Fit, Leads, leads-await, leads-to, leads-from}
 use Rattle.readout.proofs.Waiting.{Arriving, From, from-count, Reads, idle, short, ripe, ripe-first, by-reading}
 
--- without a status the device is where one is taken
+-- Without a status the device is in a state in which one is taken.
 absent-takes : {w : Wrapper} {got put : List ℕ} {σ : State} {st : Status} {left : ℕ} {xs : List ℕ} → Phase w got put σ st left xs → isPresent st ≡ false → statusFits σ (isPresent st) ≡ true → takesStatus (stateNumber σ) ≡ true
 unfolding takesStatus
 absent-takes (toHost e dir same sum) absent fits = rw e
@@ -40,9 +41,9 @@ absent-takes (fromHost e dir none) absent fits = rw e
 absent-takes (fromHostEnding e dir none) absent fits = absurd (clash (sym (rw (e, absent) at fits)))
 absent-takes (sending s r e here all) absent fits = absurd (clash (sym (rw (e, absent) at fits)))
 
--- ---- behind the packet that completed it
+-- ---- after the packet that completed it
 
--- the wrapper of a message, at a point where nothing is unread and no status is present
+-- The wrapper is that of the message `msg`, at a point `y` where nothing is unread and no status is present.
 module _ (msg : List ℕ) (g : Given) (y : Point) (fit : Fit (wrapperOf msg) (ordered (wrapperOf msg) y)) (none : unreadBytes (bufferAt y) ≡ []) (absent : isPresent (y .device .status) ≡ false) (once : y .taken ≤ 1) (small : length (g .one) ≤ P y) where
   abbrev w : Wrapper
   w = wrapperOf msg
@@ -65,14 +66,14 @@ module _ (msg : List ℕ) (g : Given) (y : Point) (fit : Fit (wrapperOf msg) (or
 
 -- ---- the poll
 
--- A transfer has begun: what was sent for it, and nothing was put in.
+-- A transfer has begun with the poll that shows `o`: what was sent and put in for it so far, and what is left.
 pub record Opened (p : ℕ) (msg : List ℕ) (o : Shows) : Type 0 where
   pub transfer : Transfer (wrapperOf msg) p (o .sent) (o .put) (o .socket)
   pub takes : takesStatus (stateNumber (o .socket .device .state)) ≡ true
   pub wire : o .socket .device .left .0 ≡ wrapperOf msg .length - (length (o .sent) + length (flatten (drop 1 (o .taken))))
 
 module _ (m : List ℕ) (g : Given) where
-  -- what a poll leads to that completes a message
+  -- Where a poll leads that completes a message.
   record Begins (o : Polling) : Type 0 where
     n : ℕ
     p : ℕ
@@ -133,7 +134,7 @@ module _ (m : List ℕ) (g : Given) where
         }
 
 module _ (p : ℕ) (m : List ℕ) (s : Socket) (a : Arriving p m s) (few : length m < 31) (g : Given) where
-  -- a refusal completes nothing
+  -- A refusal completes nothing.
   none-begins : (n : ℕ) → Valid (m ++ []) → Begins m g (refusing (s .device) (s .io) g n)
   none-begins n valid = absurd (omega (arith, length-append m [], valid .whole))
 

@@ -1,4 +1,5 @@
--- What the host is still to get in a transfer: where served polls are due, at least a byte; where none is, nothing. Assumes nothing.
+-- What the host still has to get in a transfer: at least one byte where served polls are due, and nothing where none is due. Assumes
+-- nothing.
 use mathlib.Core.Path.{_≡_, sym, ap, _∙_}
 use mathlib.Core.List.{List, [], _++_, append-assoc, append-nil}
 use Prim.Native.Nat.{ℕ, _+_, _<_}
@@ -23,18 +24,18 @@ use Rattle.readout.proofs.Ceiling.{ceiling-none, ceiling-some}
 use Rattle.readout.proofs.Filled.{filled-behind}
 use Rattle.readout.proofs.Transfer.{Phase, toHost, waiting, toHostEnding, fromHost, fromHostEnding, sending, dueIn}
 
--- the bytes of a status that is present
+-- The bytes of a status that is present.
 abbrev pub bytesFor : ℕ → Status → List ℕ
 bytesFor tag Absent = []
 bytesFor tag (Present s r) = statusBytes tag r (statusNumber s)
 
--- With got behind it, rest is still to come.
+-- The host got `got`, and `rest` is still to come.
 pub record Owes (w : Wrapper) (got put : List ℕ) (st : Status) : Type 0 where
   pub rest : List ℕ
   pub some : 0 < length rest
   pub whole : got ++ rest ≡ dataOf (w .direction) (w .length) put ++ bytesFor (w .tag) st
 
--- All is out: the device is in 3, and nothing is unread.
+-- Everything is out: the device is in 3, and nothing is unread.
 pub record Rests (w : Wrapper) (got put : List ℕ) (σ : State) (st : Status) (xs : List ℕ) : Type 0 where
   pub whole : got ≡ dataOf (w .direction) (w .length) put ++ bytesFor (w .tag) st
   pub state : σ ≡ StatusTransfer
@@ -44,7 +45,7 @@ module _ (w : Wrapper) (got put : List ℕ) (p : ℕ) (size : 0 < p) (σ : State
   thirteen : length (bytesFor (w .tag) st) ≡ 13
   thirteen = rw here (length-status (w .tag) r (statusNumber s))
 
-  -- the data goes on to its end, and the status follows
+  -- The rest of the data is still to come, and then the status.
   data-owed : w .direction ≡ In → got ++ filledTo left xs ≡ filledTo (w .length) put → Owes w got put st
   data-owed dir all = record {
     rest = filledTo left xs ++ bytesFor (w .tag) st;
@@ -52,7 +53,7 @@ module _ (w : Wrapper) (got put : List ℕ) (p : ℕ) (size : 0 < p) (σ : State
     whole = sym (append-assoc got (filledTo left xs) (bytesFor (w .tag) st)) ∙ rw (all, dir);
   }
 
-  -- the status follows
+  -- Only the status is still to come.
   status-owed : got ≡ dataOf (w .direction) (w .length) put → Owes w got put st
   status-owed all = record { rest = bytesFor (w .tag) st; some = omega (arith, thirteen); whole = rw all }
 
@@ -72,7 +73,7 @@ module _ (w : Wrapper) (got put : List ℕ) (p : ℕ) (size : 0 < p) (σ : State
         whole = rw there all;
       }
 
-  -- outside 3 a whole status is due
+  -- Outside 3 a whole status is due.
   not-done : ceiling left p + ceiling 13 p ≡ 0 → ⊥
   not-done e = omega (arith, ceiling-some p 13 size (omega arith))
 

@@ -1,7 +1,7 @@
--- What demand 3 supposes, as tests; and it can be met: document 01's three cases and one of ours are such stories, and one more served poll
--- ends each.
+-- What demand 3 supposes, as tests. It can be met: document 01's three cases and two of ours are such stories, and one more served poll
+-- ends each of them.
 --     broken     the premises that a story breaks
---     met-..     all that is supposed of the story
+--     met-..     everything that is supposed of the story
 --     ends-..    what the demand says of the poll that ends it
 -- Assumes nothing.
 use mathlib.Core.Path.{_≡_, refl, sym}
@@ -31,19 +31,19 @@ use Rattle.readout.proofs.Demand.{demand}
 
 -- ---- what is supposed of events, as tests that can be computed
 
--- it is no reset
+-- The event is no reset.
 keeps : Event → Socket → Bool
 keeps e s = not (isReset e)
 
--- behind it the device is where a status is taken
+-- The event leaves the device in a state in which a status is taken.
 stays : Event → Socket → Bool
 stays e s = takesStatus (stateNumber (next e s .device .state))
 
--- it is no accepted status
+-- The event is no accepted status.
 leaves : Event → Socket → Bool
 leaves e s = not (accepts e s)
 
--- the packets that it takes are full
+-- Each packet has `n` bytes.
 isFull : ℕ → List (List ℕ) → Bool
 isFull n [] = true
 isFull n (packet ∷ packets) = eqb (length packet) n && isFull n packets
@@ -56,7 +56,7 @@ is-full n (packet ∷ packets) h = (eqb-true _ _ (and-left (eqb (length packet) 
 pub fills : Event → Socket → Bool
 fills e s = isFull (min (s .device .fixed .packetsize) (s .device .left .0)) (shows e s .taken)
 
--- at each event of a history
+-- A test holds at each event of a history.
 throughout : (Event → Socket → Bool) → List Event → Socket → Bool
 throughout test [] s = true
 throughout test (e ∷ h) s = test e s && throughout test h (next e s)
@@ -82,14 +82,15 @@ is-later h s kept left filled =
     let quiet : Throughout (λ e s. (isReset e ≡ false) × (accepts e s ≡ false)) h s = both (λ e s a b. (not-true _ a, not-true _ b)) h s (is-throughout keeps h s kept) (is-throughout leaves h s left) in
     both (λ e s a b. record { no-reset = a .0; no-status = a .1; full = is-full _ _ b }) h s quiet (is-throughout fills h s filled)
 
--- a poll is no reset and no status
+-- A poll is no reset and no status.
 pub poll-later : (g : Given) (s : Socket) → fills (poll g) s ≡ true → Later (poll g) s
 unfolding fills isReset isStatus accepts
 poll-later g s filled = record { no-reset = refl; no-status = refl; full = is-full _ _ filled }
 
 -- ---- the premises
 
--- by their names in `Supposed`; of the two that are `no-reset` there, the one up to the status, and the one behind it
+-- The premises have their names in `Supposed`. Two are called `no-reset` there: `no-reset-before` is the one up to the status, and
+-- `no-reset` is the one after it.
 pub data Premise : Type 0 where
   whole : Premise
   waits : Premise
@@ -121,7 +122,7 @@ test t no-status = throughout leaves (t .after) (told t)
 test t full = throughout fills (t .after) (told t)
 test t few = leb (length (firmware t)) (L t)
 
--- of these the ones that a story breaks; and that it meets them
+-- Of a list of premises, those that a story breaks; and that a story meets them all.
 failing : Story → List Premise → List Premise
 failing t [] = []
 failing t (p ∷ ps) = cond (test t p) (failing t ps) (p ∷ failing t ps)
@@ -157,7 +158,7 @@ supposed-by t none = supposed-of t (meets t premises none)
 ends-by : (t : Story) → Supposed t → (g : Given) → servedSince t + 1 ≡ number t → fills (poll g) (ended t) ≡ true → served (poll g) (ended t) ≡ 1 → Ends t g
 ends-by t met g last filled one = demand t met .exactly last g (poll-later g (ended t) filled) one
 
--- to unfold this is to unfold all the tests
+-- To unfold this is to unfold all the tests.
 unfoldable pub testing : Unit {0}
 unfolding computing isReset isStatus accepts keeps stays leaves isFull fills throughout test failing broken
 testing = tt

@@ -1,5 +1,5 @@
--- What each rule of a poll does to a command's transfer: the bytes that it sends, the phase that it leads to, and, with a status
--- present, what is due then. For any point x from which a rule starts. Assumes nothing.
+-- What each rule of a poll does to a command's transfer: which bytes it sends, to which phase it leads, and, with a status present, what
+-- is due then. This holds for any point `x` from which a rule starts. Assumes nothing.
 use mathlib.Core.Path.{_≡_, refl, sym, ap, _∙_, subst}
 use mathlib.Core.Bool.{Bool, true, false, cond}
 use mathlib.Core.List.{List, [], _∷_, _++_, append-assoc, append-nil, flatten}
@@ -45,41 +45,42 @@ use Rattle.readout.proofs.Ceiling.{ceiling-none, ceiling-falls}
 use Rattle.readout.proofs.Filled.{filled-already, filled-behind, filled-partly}
 use Rattle.readout.proofs.Transfer.{Phase, toHost, waiting, toHostEnding, fromHost, fromHostEnding, sending, due}
 
--- the bytes that a poll sent, and the packets that it took
+-- The bytes that a poll sent, and the packets that it took.
 abbrev pub bytesOf : Polling → List ℕ
 bytesOf o = take (o .sent) (o .packet)
 
 abbrev pub packetsOf : Given → Polling → List (List ℕ)
 packetsOf g o = take (o .taken) (g .one ∷ g .two ∷ [])
 
--- the packet buffer holds all that a poll sent
+-- The packet buffer holds everything that a poll sent.
 pub poll-long : (d : Device) (io : List ℕ) (g : Given) → Whole (numbersOf d) (length io) → Fits (d .fixed .packetsize) (g .packet) (g .one) (g .two) → length (bytesOf (pollRule d io g)) ≡ pollRule d io g .sent
 poll-long d io g whole fits =
     let z : Sizes d (length io) (length (g .packet)) (pollRule d io g) = poll-sizes d io g whole (fits .into) in
     length-take-le (pollRule d io g .sent) (pollRule d io g .packet) (omega (arith, z .sent, z .packet, fits .into))
 
--- 1 for a served poll
+-- This is 1 for a served poll, and 0 otherwise.
 abbrev pub one : Polling → ℕ
 one o = cond (isServed (o .answer)) 1 0
 
--- served polls due where the status is not yet put in
+-- The served polls that are due where the status has not been written into the buffer yet.
 abbrev pub owing : Point → ℕ
 owing x = ceiling (x .device .left .0) (P x) + ceiling 13 (P x)
 
--- the bytes of the packets that a poll took behind the first n
+-- The bytes of the packets that a poll took after the first `n`.
 abbrev pub laterBytes : ℕ → Given → Polling → List ℕ
 laterBytes n g o = flatten (drop n (packetsOf g o))
 
--- What a poll leads to, where k packets were taken, P, the status and what was left were these, and n served polls were due.
+-- Where a poll leads whose outcome is `o`. Before its rule, `k` packets were taken, P was `p`, the status was `st`, `left` bytes were
+-- left, and `n` served polls were due.
 pub record Leads (w : Wrapper) (got put : List ℕ) (g : Given) (k p : ℕ) (st : Status) (left n : ℕ) (o : Polling) : Type 0 where
   pub wrapper : o .device .wrapper ≡ w
   pub status : o .device .status ≡ st
   pub phase : Phase w (got ++ bytesOf o) put (o .device .state) (o .device .status) (o .device .left .0) (unreadBytes (bufferAfter o))
   pub count : isPresent st ≡ true → Full (min p left) (packetsOf g o) → due (socket (o .device) (o .io)) + one o ≡ n
-  -- while a status is taken, left falls by the data that crosses the wire
+  -- In a state in which a status is taken, left has fallen by the data that crossed the wire.
   pub wire : takesStatus (stateNumber (o .device .state)) ≡ true → o .device .left .0 ≡ left - (length (bytesOf o) + length (laterBytes k g o))
 
--- A point of this wrapper, with sound marks, in a buffer that holds a packet and a status.
+-- A point with the wrapper `w` and sound marks, in a buffer that can hold a packet and can hold a status.
 pub record Fit (w : Wrapper) (x : Point) : Type 0 where
   pub sound : Sound (bufferAt x)
   pub some : 0 < P x
@@ -93,7 +94,7 @@ unserved Served h = absurd (clash h)
 unserved Busy h = refl
 unserved (Failed n) h = refl
 
--- behind the packets that were taken there is none
+-- After the packets that were taken there are no others.
 drop-taken : (n : ℕ) (l : List (List ℕ)) → drop n (take n l) ≡ []
 drop-taken zero l = refl
 drop-taken (suc n) [] = refl
@@ -103,11 +104,11 @@ no-later : (g : Given) (n : ℕ) → length (flatten (drop n (take n (g .one ∷
 unfolding flatten
 no-later g n = rw drop-taken
 
--- where nothing crosses the wire, left stays
+-- Where nothing crosses the wire, left stays.
 pub still : (l : ℕ) {n : ℕ} → n ≡ 0 → l ≡ l - (0 + n)
 still l none = omega arith
 
--- one more was taken, or none
+-- One more packet was taken, or none.
 later-is : (g : Given) (took : Bool) (n : ℕ) → n ≤ 1 → length (flatten (drop n (take (cond took (n + 1) n) (g .one ∷ g .two ∷ [])))) ≡ cond took (length (offers n (g .one) (g .two))) 0
 unfolding flatten offers
 later-is g true zero once = rw append-nil
@@ -120,7 +121,7 @@ unfolding brought takesOne handed
 brought-is p e packet s = cases (lacksRoom p s) (λ full. rw full) (λ room. cases (serves e) (λ serving. rw (room, serving)) (λ idle. rw (room, idle)))
 
 module _ (w : Wrapper) (got put : List ℕ) (g : Given) where
-  -- where the packet buffer holds all that was sent
+  -- The packet buffer holds everything that was sent.
   abbrev Long : Polling → Type 0
   Long o = length (bytesOf o) ≡ o .sent
 
@@ -200,7 +201,7 @@ module _ (w : Wrapper) (got put : List ℕ) (g : Given) where
       topped-sound : Sound (bufferAt (topped x))
       topped-sound = follows-filled (P x) (x .device .left) (bufferAt x) (fit .sound) .sound
 
-      -- the bytes of the packet, those unread behind it, and how many they are
+      -- The bytes of the packet, the bytes that are still unread after it, and how many they are.
       topped-split : bytesOf (sendData g (topped x)) ++ unreadBytes (bufferAfter (sendData g (topped x))) ≡ xs ++ replicate fill 0xFF
       topped-split = send-unread true g (topped x) topped-sound ∙ topped-unread
 
@@ -261,7 +262,7 @@ module _ (w : Wrapper) (got put : List ℕ) (g : Given) where
             wire = λ takes. absurd (clash (sym takes));
           }
 
-    -- with nothing left nothing is unread, and the host got it all
+    -- Where nothing is left nothing is unread, and the host got all its data.
     all-got : x .device .left .0 ≡ 0 → got ≡ dataOf (w .direction) (w .length) put
     all-got none =
         let done : filledTo (x .device .left .0) (unreadBytes (bufferAt x)) ≡ [] =
@@ -325,7 +326,7 @@ module _ (w : Wrapper) (got put : List ℕ) (g : Given) where
     no-data : got ≡ dataOf (w .direction) (w .length) put
     no-data = rw dir none
 
-    -- the point at which 8 reads
+    -- The point at which the rule of 8 reads a packet.
     abbrev dropped : Point
     dropped = reaching DataTransferFromHostEnding (leaving (buffer (x .io) (at 0 0)) x)
 
@@ -368,7 +369,7 @@ module _ (w : Wrapper) (got put : List ℕ) (g : Given) where
       wire = λ _. ap (λ (n : ℕ). x .device .left .0 - n) (brought-is (P x) (outFor g x) (offered g x) (bufferAt x) ∙ sym (zero-add _ ∙ later-is g (takesOne (P x) (outFor g x) (bufferAt x)) (x .taken) once));
     }
 
-    -- with a status present the poll has taken no packet before; else one at most
+    -- With a status present the poll has taken no packet before; without one it has taken at most one.
     pub leads-from : (isPresent (x .device .status) ≡ true → x .taken ≡ 0) → x .taken ≤ 1 → length (g .one) ≤ P x → Goes x (owing x) (fromHostRule g x)
     unfolding fromHostRule
     leads-from first once small =

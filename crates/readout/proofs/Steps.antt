@@ -1,5 +1,5 @@
--- What each event does to a command's transfer, whatever the endpoints answer and whether the call is accepted or refused.
--- Assumes nothing.
+-- What each event does to a command's transfer, whatever the endpoints answer, and whether the call is accepted or refused. Assumes
+-- nothing.
 use mathlib.Core.Path.{_≡_, refl, sym, ap, ap₂, _∙_}
 use mathlib.Core.Bool.{Bool, true, false, cond, _&&_}
 use mathlib.Core.List.{List, [], _++_, append-assoc, append-nil, flatten}
@@ -39,15 +39,16 @@ use Rattle.readout.proofs.Ceiling.{ceiling-none}
 use Rattle.readout.proofs.Transfer.{Phase, toHost, waiting, toHostEnding, fromHost, fromHostEnding, sending, Transfer, unreadIn, due, dueIn}
 use Rattle.readout.proofs.Rules.{bytesOf, poll-long, still, Fit, Leads, leads-status, leads-await, leads-to-ending, leads-to, leads-from-ending, leads-from}
 
--- From a socket to what an event shows, with k served polls: the invariant holds behind it, only an accepted status changes the status,
--- with one present what is due falls by the served polls; and, where a status is taken, left by what crosses the wire.
+-- What holds after an event at the socket `s` that shows `o`; `k` is 1 for a served poll and 0 otherwise. The invariant holds. Only an
+-- accepted status changes the status. With a status present, what is due has fallen by `k`. In a state in which a status is taken, left
+-- has fallen by what crossed the wire.
 pub record Steps (w : Wrapper) (p : ℕ) (got put : List ℕ) (s : Socket) (accepted : Bool) (k : ℕ) (o : Shows) : Type 0 where
   pub transfer : Transfer w p (got ++ o .sent) (put ++ o .put) (o .socket)
   pub status : accepted ≡ false → o .socket .device .status ≡ s .device .status
   pub count : isPresent (s .device .status) ≡ true → Full (min (s .device .fixed .packetsize) (s .device .left .0)) (o .taken) → due (o .socket) + k ≡ due s
   pub wire : takesStatus (stateNumber (o .socket .device .state)) ≡ true → o .socket .device .left .0 ≡ s .device .left .0 - (length (o .sent) + length (flatten (o .taken)))
 
--- where nothing crosses the wire, left stays
+-- Where nothing crosses the wire, left stays.
 nothing-moved : (l : ℕ) → l ≡ l - (0 + length {A = ℕ} (flatten []))
 unfolding flatten
 nothing-moved l = still l refl
@@ -73,9 +74,9 @@ module _ (w : Wrapper) (p : ℕ) (got put : List ℕ) (few : length put ≤ w .l
         wrapper = t .wrapper;
       }
 
-  -- by the state in which it starts
+  -- What a poll does, by the state in which it starts.
   module _ (fits : Fits (s .device .fixed .packetsize) (g .packet) (g .one) (g .two)) where
-    -- in 3 something is unread
+    -- In 3 something is unread.
     unread-some : s .device .state ≡ StatusTransfer → 0 < length (unreadIn s)
     unread-some e =
         let n : ℕ = length (unreadIn s) in
@@ -86,7 +87,7 @@ module _ (w : Wrapper) (p : ℕ) (got put : List ℕ) (few : length put ≤ w .l
         absurd (omega (arith, ceiling-none (s .device .fixed .packetsize) (fit .some))))
         (λ h. omega (arith, eqb-false n 0 h))
 
-    -- the poll as a rule of the state σ
+    -- The poll is the rule of the state `σ`.
     abbrev GoesIn : State → Type 0
     GoesIn σ = length (bytesOf (ruleIn σ g start)) ≡ ruleIn σ g start .sent
         → Leads w got put g 0 (s .device .fixed .packetsize) (s .device .status) (s .device .left .0) (dueIn σ (s .device .fixed .packetsize) (s .device .left .0) (length (unreadIn s))) (ruleIn σ g start)
@@ -111,7 +112,7 @@ module _ (w : Wrapper) (p : ℕ) (got put : List ℕ) (few : length put ≤ w .l
     unfolding pollRule
     poll-leads = rule-leads (s .device .state) (t .phase) refl (poll-long (s .device) (s .io) g (t .whole) fits)
 
-  -- a refusal is not served, and all is as before
+  -- A refused poll is not served, and everything is as before.
   refused-leads : (n : ℕ) → isServed (answer n) ≡ false → GoesOn (refusing (s .device) (s .io) g n)
   refused-leads n unserved = record { wrapper = t .wrapper; status = refl; phase = rw append-nil (t .phase); count = λ _ _. rw unserved (add-zero _); wire = λ _. nothing-moved (s .device .left .0) }
 
@@ -138,11 +139,11 @@ module _ (w : Wrapper) (p : ℕ) (got put : List ℕ) (few : length put ≤ w .l
 -- ---- the other calls
 
 module _ (w : Wrapper) (p : ℕ) (got put : List ℕ) (s : Socket) (t : Transfer w p got put s) where
-  -- a call that changes nothing
+  -- A call that changes nothing.
   unchanged : (n : Answering) (accepted : Bool) → Steps w p got put s accepted 0 (record { socket = s; answer = n; taken = []; sent = []; put = [] })
   unchanged n accepted = record { transfer = rw (append-nil, append-nil) t; status = λ _. refl; count = λ _ _. add-zero _; wire = λ _. nothing-moved (s .device .left .0) }
 
-  -- 3 takes no status; where one is taken, no phase speaks of it
+  -- In 3 no status is taken. In the states in which one is taken, the phase does not depend on the status.
   restated : (σ : State) (st : Status) → takesStatus (stateNumber σ) ≡ true → Phase w got put σ (s .device .status) (s .device .left .0) (unreadIn s) → Phase w got put σ st (s .device .left .0) (unreadIn s)
   unfolding takesStatus
   restated σ st takes (toHost e dir same sum) = toHost e dir same sum
@@ -173,7 +174,7 @@ module _ (w : Wrapper) (p : ℕ) (got put : List ℕ) (s : Socket) (t : Transfer
       (λ n _. unchanged n false)
       (λ counts ff. absurd (clash (sym (ap₂ _&&_ counts ff) ∙ kept)))
 
-  -- of the record only marks change
+  -- A call that changes only the marks of the record.
   module _ (d : Device) (io : List ℕ) (keeps : withMarks (s .device .marks) d ≡ s .device) (whole : Whole (numbersOf d) (length io)) where
     same-state : d .state ≡ s .device .state
     same-state = ap (λ (x : Device). x .state) keeps
@@ -201,7 +202,7 @@ module _ (w : Wrapper) (p : ℕ) (got put : List ℕ) (s : Socket) (t : Transfer
       wire = λ _. same-left ∙ nothing-moved (s .device .left .0);
     }
 
-    -- in 4: ys are put in behind what is unread
+    -- In 4 the bytes `ys` are put in after the unread ones.
     put-in : isIn 4 (s .device) ≡ true → (n : Answering) (ys : List ℕ) → unreadBytes (bufferOf d io) ≡ unreadIn s ++ ys → (σ : State) → s .device .state ≡ σ → Phase w got put σ (s .device .status) (s .device .left .0) (unreadIn s)
         → Steps w p got put s false 0 (record { socket = socket d io; answer = n; taken = []; sent = []; put = ys })
     unfolding isIn
@@ -213,7 +214,7 @@ module _ (w : Wrapper) (p : ℕ) (got put : List ℕ) (s : Socket) (t : Transfer
     put-in in4 n ys behind σ at-σ (fromHostEnding e dir none) = absurd (clash (sym (rw (at-σ, e) at in4)))
     put-in in4 n ys behind σ at-σ (sending c r e here all) = absurd (clash (sym (rw (at-σ, e) at in4)))
 
-    -- in 7: what is unread does not matter
+    -- In 7 the unread bytes do not matter.
     read-off : isIn 7 (s .device) ≡ true → (n : Answering) → (σ : State) → s .device .state ≡ σ → Phase w got put σ (s .device .status) (s .device .left .0) (unreadIn s)
         → Steps w p got put s false 0 (record { socket = socket d io; answer = n; taken = []; sent = []; put = [] })
     unfolding isIn
@@ -259,7 +260,7 @@ module _ (w : Wrapper) (p : ℕ) (got put : List ℕ) (s : Socket) (t : Transfer
       (write-all-unread d io (t .whole) src in4 ∙ cases (lacksRoom (length src) (bufferOf d io)) (λ full. rw (counted, full) (sym (append-nil (unreadIn s)))) (λ room. rw (counted, room, take-length))) (d .state) refl (t .phase))
       (λ elsewhere. rw (data-elsewhere 4 d io io _ (t .whole) elsewhere) (unchanged (answer 3) false))
 
--- every event but a reset
+-- This holds for every event but a reset.
 pub event-steps : (w : Wrapper) (p : ℕ) (got put : List ℕ) → length put ≤ w .length → (s : Socket) → Transfer w p got put s → 0 < due s → (e : Event) → isReset e ≡ false → Steps w p got put s (accepts e s) (served e s) (shows e s)
 unfolding isReset shows served isPoll accepts isStatus
 event-steps w p got put few s t unfinished (poll g) kept = poll-steps w p got put few s t g unfinished

@@ -1,5 +1,5 @@
 -- A command's transfer, from its parsed wrapper to its last status byte.
---     Transfer    the invariant: what the host got and the firmware put in so far, against the record and the unread bytes
+--     Transfer    the invariant: what the host got and the firmware put in so far, compared with the record and the unread bytes
 --     due         the number that falls by one at each served poll, once a status is set
 -- Assumes nothing.
 use mathlib.Core.Path.{_≡_}
@@ -22,32 +22,35 @@ use Rattle.calls.specs.Checks.{bufferOf}
 use Rattle.readout.specs.History.{Socket}
 use Rattle.readout.specs.Demand.{ceiling, filledTo, dataOf}
 
--- The host got `got`, the firmware put in `put`; then, by the state that the device is in, with so many bytes left and these unread:
+-- The host got `got`, and the firmware put in `put`. The device is in `state`, with `left` bytes left and the bytes `unread` unread. Then
+-- this holds, state by state:
 pub data Phase (w : Wrapper) (got put : List ℕ) (state : State) (status : Status) (left : ℕ) (unread : List ℕ) : Type 0 where
-  -- 4: got and unread are what was put in, and got and left make L
+  -- 4: `got` and `unread` are together what was put in, and the bytes got and those left are L in number.
   toHost : state ≡ DataTransferToHost → w .direction ≡ In → got ++ unread ≡ put → left + length got ≡ w .length → Phase w got put state status left unread
-  -- 5: the host got all its data
+  -- 5: the host got all its data.
   waiting : state ≡ DataTransferToHostStatusAwait → left ≡ 0 → got ≡ dataOf (w .direction) (w .length) put → Phase w got put state status left unread
-  -- 6: got, unread and then 0xFF up to what is left make all the data
+  -- 6: `got`, `unread` and then 0xFF, up to what is left, are together all the data.
   toHostEnding : state ≡ DataTransferToHostEnding → w .direction ≡ In → got ++ filledTo left unread ≡ filledTo (w .length) put → length unread ≤ left → Phase w got put state status left unread
-  -- 7 and 8: the host gets no data
+  -- 7 and 8: the host gets no data.
   fromHost : state ≡ DataTransferFromHost → w .direction ≡ Out → got ≡ [] → Phase w got put state status left unread
   fromHostEnding : state ≡ DataTransferFromHostEnding → w .direction ≡ Out → got ≡ [] → Phase w got put state status left unread
-  -- 3: got and unread are the data and the status
+  -- 3: `got` and `unread` are together the data and the status.
   sending : (s : CommandStatus) (r : Residue) → state ≡ StatusTransfer → status ≡ Present s r → got ++ unread ≡ dataOf (w .direction) (w .length) put ++ statusBytes (w .tag) r (statusNumber s)
       → Phase w got put state status left unread
 
--- the unread bytes
+-- The unread bytes of the socket `s`.
 abbrev pub unreadIn : Socket → List ℕ
 unreadIn s = unreadBytes (bufferOf (s .device) (s .io))
 
+-- The invariant: the record of the socket `s` is whole and has the packet size `p` and the wrapper `w`, and the phase is as above.
 pub record Transfer (w : Wrapper) (p : ℕ) (got put : List ℕ) (s : Socket) : Type 0 where
   pub whole : Whole (numbersOf (s .device)) (length (s .io))
   pub packetsize : s .device .fixed .packetsize ≡ p
   pub wrapper : s .device .wrapper ≡ w
   pub phase : Phase w got put (s .device .state) (s .device .status) (s .device .left .0) (unreadIn s)
 
--- Served polls still to come: in 3 for the status bytes that are unread; else for what is left, and for the status.
+-- The served polls that are still to come: in 3 they are for the status bytes that are unread; in other states they are for what is left,
+-- and for the status.
 abbrev pub dueIn : State → ℕ → ℕ → ℕ → ℕ
 dueIn CommandTransfer p left unread = ceiling left p + ceiling 13 p
 dueIn CommandTransferInvalid p left unread = ceiling left p + ceiling 13 p

@@ -1,4 +1,4 @@
--- A device that waits for a wrapper, and a poll of it: from where it reads, and what comes of the packet. Assumes nothing.
+-- A device that waits for a wrapper, and a poll of it: from which point it reads, and what happens with the packet. Assumes nothing.
 use mathlib.Core.Path.{_≡_, refl, sym, ap, _∙_, subst}
 use mathlib.Core.Bool.{Bool, true, false}
 use mathlib.Core.List.{List, [], _∷_}
@@ -28,7 +28,7 @@ use Rattle.readout.specs.Demand.{waitsIn}
 use Rattle.readout.proofs.Transfer.{unreadIn}
 use Rattle.readout.proofs.Rules.{packetsOf}
 
--- Of a wrapper m came so far: it is unread, in 0; in 3, with the whole status out, nothing came.
+-- The bytes `m` of a wrapper have come so far. In 0 they are the unread bytes; in 3, where the whole status is out, none have come.
 pub record Arriving (p : ℕ) (m : List ℕ) (s : Socket) : Type 0 where
   pub whole : Whole (numbersOf (s .device)) (length (s .io))
   pub packetsize : s .device .fixed .packetsize ≡ p
@@ -36,7 +36,7 @@ pub record Arriving (p : ℕ) (m : List ℕ) (s : Socket) : Type 0 where
   pub unread : unreadIn s ≡ m
   pub none-in-3 : s .device .state ≡ StatusTransfer → m ≡ []
 
--- it waits in 0 or in 3
+-- The device waits in 0 or in 3.
 pub waits-by : {A : Type 0} (σ : State) → waitsIn σ ≡ true → (σ ≡ CommandTransfer → A) → (σ ≡ StatusTransfer → A) → A
 waits-by CommandTransfer h a b = a refl
 waits-by CommandTransferInvalid h a b = absurd (clash (sym h))
@@ -48,13 +48,13 @@ waits-by DataTransferToHostEnding h a b = absurd (clash (sym h))
 waits-by DataTransferFromHost h a b = absurd (clash (sym h))
 waits-by DataTransferFromHostEnding h a b = absurd (clash (sym h))
 
--- 0 is not 3
+-- 0 is not 3.
 pub apart : {σ : State} → σ ≡ CommandTransfer → σ ≡ StatusTransfer → ⊥
 apart e f = clash (ap (λ (σ : State). eqb (stateNumber σ) 0) (sym e ∙ f))
 
 -- ---- a packet that is read
 
--- A point from which a poll reads in 0, with m unread.
+-- A point `x` from which a poll reads in 0, with the bytes `m` unread.
 pub record From (m : List ℕ) (g : Given) (x : Point) : Type 0 where
   pub sound : Sound (bufferAt x)
   pub small : length (g .one) ≤ P x
@@ -69,7 +69,8 @@ pub record From (m : List ℕ) (g : Given) (x : Point) : Type 0 where
 pub from-count : {m : List ℕ} {g : Given} {x : Point} → From m g x → unread (bufferAt x) ≡ length m
 from-count {x = x} f = sym (length-unread (bufferAt x) (f .sound)) ∙ ap length (f .unread)
 
--- What comes of it: nothing; a packet, and fewer than 31 bytes are unread; or as many, and they are parsed.
+-- What the read does: it takes nothing; it takes a packet, and fewer than 31 bytes are unread; or it takes a packet, 31 or more bytes are
+-- unread, and they are parsed.
 pub data Reads (g : Given) (x : Point) (o : Polling) : Type 0 where
   idle : Idle g x o → Reads g x o
   short : lacksRoom (P x) (bufferAt x) ≡ false → serves (firstFor g) ≡ true → o ≡ ends g (arrived g x) (answer 0) → unread (bufferAt x) + length (g .one) < 31 → Reads g x o
@@ -90,7 +91,7 @@ first-of : (n : ℕ) (one two : List ℕ) → 1 ≤ n → firstOf (take n (one �
 first-of zero one two h = absurd (omega arith)
 first-of (suc n) one two h = refl
 
--- a packet that completes 31 bytes is the first that the poll took
+-- A packet that completes 31 bytes is the first one that the poll took.
 pub ripe-first : (g : Given) (x : Point) (o : Polling) → o ≡ parseRule g (arrived g x) → firstOf (packetsOf g o) ≡ g .one
 ripe-first g x o e = first-of (o .taken) (g .one) (g .two) (rw e (parse-taken g 1 (arrived g x) (omega arith)))
 
@@ -106,7 +107,7 @@ module _ (p : ℕ) (m : List ℕ) (s : Socket) (a : Arriving p m s) (g : Given) 
   marks-sound : Sound (bufferOf (s .device) (s .io))
   marks-sound = whole-sound (numbersOf (s .device)) (s .io) (a .whole)
 
-  -- a point with the record's marks reads what is unread
+  -- A point with the marks of the record reads what is unread.
   from : (d : Device) (unstalled : Bool) → d .fixed .packetsize ≡ s .device .fixed .packetsize → d .marks ≡ s .device .marks → d .state ≡ CommandTransfer → isPresent (d .status) ≡ false → From m g (point d (s .io) 0 unstalled)
   from d unstalled size marks state absent =
       let n = numbersOf (s .device) in
@@ -123,12 +124,12 @@ module _ (p : ℕ) (m : List ℕ) (s : Socket) (a : Arriving p m s) (g : Given) 
         taken = refl;
       }
 
-  -- the poll reads where it starts
+  -- In 0 the poll reads where it starts.
   rule-0 : s .device .state ≡ CommandTransfer → polled ≡ readCbwRule g start
   unfolding pollRule ruleIn
   rule-0 e = subst (λ (σ : State). ruleIn σ g start ≡ readCbwRule g start) (sym e) refl
 
-  -- or behind entering 0
+  -- In 3 it reads after entering 0.
   rule-3 : s .device .state ≡ StatusTransfer → polled ≡ readCbwRule g (entering start)
   unfolding pollRule ruleIn statusTransferRule
   rule-3 e =

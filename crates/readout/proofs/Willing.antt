@@ -1,4 +1,4 @@
--- A poll of a whole record is served where its packets fit and all endpoints do their part: so the number of served polls can be reached.
+-- A poll of a whole record is served where its packets fit and all endpoints do their part. So the number of served polls can be reached.
 -- Assumes nothing.
 use mathlib.Core.Path.{_≡_, refl}
 use mathlib.Core.Bool.{Bool, true, false, _&&_}
@@ -22,12 +22,12 @@ use Rattle.bbb.proofs.After.{P, firstFor, outFor, topped, stated, send-answer}
 use Rattle.readout.specs.History.{Socket, poll, shows, isServed, isPoll, served}
 use Rattle.readout.specs.Demand.{Willing}
 
--- it answers 0, 1 or 4
+-- The poll is served.
 abbrev Does : Polling → Type 0
 Does o = isServed (o .answer) ≡ true
 
 module _ (g : Given) (first : serves (endpointOf (g .turn .first)) ≡ true) (second : serves (endpointOf (g .turn .second)) ≡ true) (into : serves (endpointOf (g .turn .write)) ≡ true) where
-  -- a read answers 0 or 1
+  -- A read of a packet answers 0 or 1.
   read-does : (p : ℕ) (e : Endpoint) (s : Buffer) → serves e ≡ true → isServed (readAnswer p e s) ≡ true
   unfolding readAnswer isServed
   read-does p e s serving = of-picked (λ (t : Answering). isServed t ≡ true) (lacksRoom p s) (λ _. refl) (λ _. rw (answers-0 e serving))

@@ -1,5 +1,5 @@
--- Document 01's cases of demand 3, and one of ours: stories and tables. proofs/Cases.antt has the statement that each holds. Assumes nothing:
--- these are definitions.
+-- Document 01's cases of demand 3, and cases of ours: the stories, and the tables of what they show. proofs/Cases.antt has the statement
+-- that each case holds. Assumes nothing: these are definitions.
 use mathlib.Core.List.{List, [], _∷_, _++_}
 use Prim.Native.Nat.{ℕ, _+_}
 use lib.ListN.{length, replicate, take, drop}
@@ -11,45 +11,50 @@ use Rattle.readout.specs.Demand.{Story, told, ended, L, R, number, firmw
 
 -- ---- the polls
 
--- a poll with a packet on OUT, one with two, and one with none, where IN does its part: the packet buffer has n bytes of 7
+-- A poll with a packet buffer of `n` bytes of 7, in which OUT offers one packet, `packet`, and IN does its part.
 abbrev pub taking : ℕ → List ℕ → Given
 taking n packet = given (replicate n 7) packet [] (record { first = 0; second = 1; write = 0 })
 
+-- A poll like that in which OUT offers two packets, `one` and `two`.
 abbrev pub takingTwo : ℕ → List ℕ → List ℕ → Given
 takingTwo n one two = given (replicate n 7) one two (record { first = 0; second = 0; write = 0 })
 
+-- A poll like that in which OUT is busy.
 abbrev pub sending : ℕ → Given
 sending n = given (replicate n 7) [] [] (record { first = 1; second = 1; write = 0 })
 
--- one in which every endpoint is busy
+-- A poll with a packet buffer of `n` bytes of 7 in which every endpoint is busy.
 abbrev busy : ℕ → Given
 busy n = given (replicate n 7) [] [] (record { first = 1; second = 1; write = 1 })
 
 -- ---- the stories
 
--- a new device, and an IO buffer of zeros
+-- A new device with packet size `p` and max LUN 0, and an IO buffer of `size` zeros.
 abbrev pub new : ℕ → ℕ → Socket
 new p size = socket (newDevice (fixed p 0 size)) (replicate size 0)
 
--- a wrapper with this tag and these flags, LUN 0 and a block of 6 zeros, which declares L below 256 bytes
+-- A wrapper with the tag `tag`, the flags `flags`, LUN 0 and a block of 6 zeros, which declares `l` bytes. Each of the three numbers has
+-- one byte here.
 abbrev pub cbw : ℕ → ℕ → ℕ → List ℕ
 cbw tag flags l = 0x55 ∷ 0x53 ∷ 0x42 ∷ 0x43 ∷ tag ∷ 0 ∷ 0 ∷ 0 ∷ l ∷ 0 ∷ 0 ∷ 0 ∷ flags ∷ 0 ∷ 6 ∷ replicate 16 0
 
--- one to the host, with tag 1; with L = 0 the flags do not count
+-- A wrapper to the host with tag 1, which declares `l` bytes. Where `l` is 0 the flags do not count.
 abbrev wrapper : ℕ → List ℕ
 wrapper l = cbw 1 0x80 l
 
--- at P 8 it comes in packets of 8, 8, 8 and 7 bytes: three of them, with a poll between them in which OUT is busy, and the fourth
+-- At P 8 the 31 bytes of a wrapper, `bytes`, come in packets of 8, 8, 8 and 7 bytes. These are the polls of the first three, and between
+-- them a poll in which OUT is busy.
 abbrev pub three : List ℕ → List Event
 three bytes = poll (taking 8 (take 8 bytes)) ∷ poll (taking 8 (take 8 (drop 8 bytes))) ∷ poll (sending 8) ∷ poll (taking 8 (take 8 (drop 16 bytes))) ∷ []
 
+-- The poll of the fourth packet.
 abbrev pub fourth : List ℕ → Given
 fourth bytes = taking 8 (drop 24 bytes)
 
--- Each story ends one served poll before the last status byte. Polls that are not served stand between: one where IN is busy, and one
--- whose packet buffer is a byte below P.
+-- Each story ends one served poll before the last status byte. In the stories of 01's cases two polls after the status are not served: in
+-- one of them IN is busy, and in the other the packet buffer is one byte shorter than P.
 
--- P 64, L = 130, nothing put in
+-- P is 64 and L is 130, and the firmware puts nothing in.
 unfoldable pub read64 : Story
 read64 = record {
   start = new 64 64;
@@ -60,7 +65,7 @@ read64 = record {
   after = poll (sending 64) ∷ poll (busy 64) ∷ poll (sending 64) ∷ poll (sending 63) ∷ poll (sending 64) ∷ [];
 }
 
--- P 8, no data
+-- P is 8, and the command has no data.
 unfoldable pub bare8 : Story
 bare8 = record {
   start = new 8 40;
@@ -71,7 +76,7 @@ bare8 = record {
   after = poll (busy 8) ∷ poll (sending 8) ∷ poll (sending 7) ∷ [];
 }
 
--- P 8, L = 10, four bytes put in
+-- P is 8 and L is 10, and the firmware puts four bytes in.
 unfoldable pub short8 : Story
 short8 = record {
   start = new 8 40;
@@ -82,11 +87,12 @@ short8 = record {
   after = poll (sending 8) ∷ poll (busy 8) ∷ poll (sending 8) ∷ poll (sending 7) ∷ poll (sending 8) ∷ [];
 }
 
--- ours: the command behind that one, from where it ended. P 8, a write of L = 20 whose first data packet comes with the wrapper's last;
--- the firmware reads two bytes, and its second status replaces the first
+-- A wrapper from the host with tag 9, which declares `l` bytes.
 abbrev from-host : ℕ → List ℕ
 from-host l = cbw 9 0 l
 
+-- This one is ours: the command after `short8`, from where that ended. P is 8, and it is a write of L = 20, whose first data packet comes
+-- in the same poll as the last packet of the wrapper. The firmware reads two bytes, and its second status replaces the first.
 unfoldable pub write8 : Story
 write8 = record {
   start = next (poll (sending 8)) (ended short8);
@@ -97,8 +103,8 @@ write8 = record {
   after = poll (taking 8 (replicate 8 3)) ∷ poll (sending 8) ∷ poll (taking 8 (replicate 4 3)) ∷ poll (sending 8) ∷ [];
 }
 
--- ours: the plain read of all that L asks for. P 8, L = 20: the firmware puts in 8 bytes, a poll sends them, the same once more, and its
--- last 4 come behind the status, of which nothing is missing
+-- This one is ours: a plain read of all that L asks for. P is 8 and L is 20. The firmware puts 8 bytes in, a poll sends them, and the
+-- same happens once more. It puts its last 4 bytes in after the status, which says that nothing is missing.
 unfoldable pub full8 : Story
 full8 = record {
   start = new 8 40;
@@ -111,34 +117,37 @@ full8 = record {
 
 -- ---- what they show
 
--- what each event of a history answered
+-- The answer of each event of the history `h`, where it starts at the socket `s`.
 unfoldable pub answersIn : List Event → Socket → List ℕ
 answersIn h s = all (λ (o : Shows). o .answer .number ∷ []) h s
 
--- what each poll sent that sent something
+-- The list of `packets` with one packet in front of it, unless that has no bytes.
 unfoldable pub behind : List ℕ → List (List ℕ) → List (List ℕ)
 behind [] packets = packets
 behind (b ∷ bs) packets = (b ∷ bs) ∷ packets
 
+-- What each poll of a history sent that sent something, where the history starts at the socket `s`.
 unfoldable pub packetsIn : List Event → Socket → List (List ℕ)
 packetsIn [] s = []
 packetsIn (e ∷ h) s = behind (shows e s .sent) (packetsIn h (next e s))
 
--- since the status, with a last poll; and all that the host got with it
+-- The packets sent since the status of the story `t`, with those of one more poll at its end, which is given `g`.
 unfoldable pub packets : Story → Given → List (List ℕ)
 packets t g = packetsIn (t .after ++ (poll g ∷ [])) (told t)
 
+-- All that the host got in the story `t`, and in one more poll at its end, which is given `g`.
 unfoldable pub whole : Story → Given → List ℕ
 whole t g = host t ++ shows (poll g) (ended t) .sent
 
+-- 01's starred cases of demand 3.
 unfoldable pub starred : List Case
 starred =
-    -- "P 64, R 130: 4 served polls*.": three are over, with a busy poll (6) and a refused one (11) between them, and the fourth ends it
+    -- "P 64, R 130: 4 served polls*.": three are over, with a busy poll (6) and a refused poll (11) between them, and the fourth ends it.
     case (R read64) 130
     ∷ case (number read64) 4
     ∷ case (servedSince read64) 3
     ∷ case (answersIn (read64 .after) (told read64)) (0 ∷ 6 ∷ 0 ∷ 11 ∷ 0 ∷ [])
-    -- all that L = 130 asks for is filler; then 13 status bytes, with a residue of 130
+    -- All that L = 130 asks for is filler; then come 13 status bytes, with a residue of 130.
     ∷ case (packets read64 (sending 64)) (replicate 64 0xFF ∷ replicate 64 0xFF ∷ (0xFF ∷ 0xFF ∷ []) ∷ (0x55 ∷ 0x53 ∷ 0x42 ∷ 0x53 ∷ 1 ∷ 0 ∷ 0 ∷ 0 ∷ 130 ∷ 0 ∷ 0 ∷ 0 ∷ 0 ∷ []) ∷ [])
     ∷ case (whole read64 (sending 64)) (replicate 130 0xFF ++ (0x55 ∷ 0x53 ∷ 0x42 ∷ 0x53 ∷ 1 ∷ 0 ∷ 0 ∷ 0 ∷ 130 ∷ 0 ∷ 0 ∷ 0 ∷ 0 ∷ []))
     ∷ case (theData read64 ++ theStatus read64) (replicate 130 0xFF ++ (0x55 ∷ 0x53 ∷ 0x42 ∷ 0x53 ∷ 1 ∷ 0 ∷ 0 ∷ 0 ∷ 130 ∷ 0 ∷ 0 ∷ 0 ∷ 0 ∷ []))
@@ -147,33 +156,34 @@ starred =
     ∷ case (number bare8) 2
     ∷ case (servedSince bare8) 1
     ∷ case (answersIn (bare8 .after) (told bare8)) (6 ∷ 0 ∷ 11 ∷ [])
-    -- no data; 8 status bytes, and 5
+    -- There is no data. The status goes out as 8 bytes and 5.
     ∷ case (packets bare8 (sending 8)) ((0x55 ∷ 0x53 ∷ 0x42 ∷ 0x53 ∷ 1 ∷ 0 ∷ 0 ∷ 0 ∷ []) ∷ (0 ∷ 0 ∷ 0 ∷ 0 ∷ 0 ∷ []) ∷ [])
     ∷ case (whole bare8 (sending 8)) (0x55 ∷ 0x53 ∷ 0x42 ∷ 0x53 ∷ 1 ∷ 0 ∷ 0 ∷ 0 ∷ 0 ∷ 0 ∷ 0 ∷ 0 ∷ 0 ∷ [])
     ∷ case (theData bare8 ++ theStatus bare8) (0x55 ∷ 0x53 ∷ 0x42 ∷ 0x53 ∷ 1 ∷ 0 ∷ 0 ∷ 0 ∷ 0 ∷ 0 ∷ 0 ∷ 0 ∷ 0 ∷ [])
-    -- "P 8, L 10, four bytes put in, then status": 10 are left then, and 2 polls are for them
+    -- "P 8, L 10, four bytes put in, then status": 10 bytes are left then, and they take 2 polls.
     ∷ case (R short8) 10
     ∷ case (number short8) 4
     ∷ case (servedSince short8) 3
     ∷ case (answersIn (short8 .after) (told short8)) (0 ∷ 6 ∷ 0 ∷ 11 ∷ 0 ∷ [])
-    -- "4 bytes and four FF, two FF, 8 status bytes, 5*.": the residue is 6
+    -- "4 bytes and four FF, two FF, 8 status bytes, 5*.": The residue is 6.
     ∷ case (packets short8 (sending 8)) ((1 ∷ 2 ∷ 3 ∷ 4 ∷ 0xFF ∷ 0xFF ∷ 0xFF ∷ 0xFF ∷ []) ∷ (0xFF ∷ 0xFF ∷ []) ∷ (0x55 ∷ 0x53 ∷ 0x42 ∷ 0x53 ∷ 1 ∷ 0 ∷ 0 ∷ 0 ∷ []) ∷ (6 ∷ 0 ∷ 0 ∷ 0 ∷ 0 ∷ []) ∷ [])
     ∷ case (whole short8 (sending 8)) (1 ∷ 2 ∷ 3 ∷ 4 ∷ 0xFF ∷ 0xFF ∷ 0xFF ∷ 0xFF ∷ 0xFF ∷ 0xFF ∷ 0x55 ∷ 0x53 ∷ 0x42 ∷ 0x53 ∷ 1 ∷ 0 ∷ 0 ∷ 0 ∷ 6 ∷ 0 ∷ 0 ∷ 0 ∷ 0 ∷ [])
     ∷ case (theData short8 ++ theStatus short8) (1 ∷ 2 ∷ 3 ∷ 4 ∷ 0xFF ∷ 0xFF ∷ 0xFF ∷ 0xFF ∷ 0xFF ∷ 0xFF ∷ 0x55 ∷ 0x53 ∷ 0x42 ∷ 0x53 ∷ 1 ∷ 0 ∷ 0 ∷ 0 ∷ 6 ∷ 0 ∷ 0 ∷ 0 ∷ 0 ∷ [])
     ∷ []
 
+-- Cases of ours: those of the stories `write8` and `full8`, and the number of polls for the largest L.
 unfoldable pub ours : List Case
 ours =
-    -- 12 of 20 are left at the second status: two packets of them, 8 bytes and 4, with a busy OUT between, and two of the status
+    -- 12 of 20 bytes are left at the second status. They come in packets of 8 and 4 bytes, with a busy OUT between.
     case (R write8) 12
     ∷ case (crossed write8) 8
     ∷ case (number write8) 4
     ∷ case (servedSince write8) 3
     ∷ case (answersIn (write8 .after) (told write8)) (0 ∷ 6 ∷ 0 ∷ 0 ∷ [])
-    -- the status of byte 1, with the tag of this wrapper and a residue of 12
+    -- The status has byte 1, the tag of this wrapper and a residue of 12.
     ∷ case (whole write8 (sending 8)) (0x55 ∷ 0x53 ∷ 0x42 ∷ 0x53 ∷ 9 ∷ 0 ∷ 0 ∷ 0 ∷ 12 ∷ 0 ∷ 0 ∷ 0 ∷ 1 ∷ [])
     ∷ case (theData write8 ++ theStatus write8) (0x55 ∷ 0x53 ∷ 0x42 ∷ 0x53 ∷ 9 ∷ 0 ∷ 0 ∷ 0 ∷ 12 ∷ 0 ∷ 0 ∷ 0 ∷ 1 ∷ [])
-    -- 16 of 20 bytes are over before the status: 4 are left, in one poll, and two polls are for the status; the residue is 0
+    -- 16 of 20 bytes are over before the status. The 4 that are left take one poll, and the status takes two; the residue is 0.
     ∷ case (R full8) 4
     ∷ case (crossed full8) 16
     ∷ case (length (firmware full8)) (L full8)
@@ -181,7 +191,7 @@ ours =
     ∷ case (servedSince full8) 2
     ∷ case (answersIn (full8 .after) (told full8)) (0 ∷ 0 ∷ 6 ∷ 0 ∷ [])
     ∷ case (whole full8 (sending 8)) ((1 ∷ 2 ∷ 3 ∷ 4 ∷ 5 ∷ 6 ∷ 7 ∷ 8 ∷ 9 ∷ 10 ∷ 11 ∷ 12 ∷ 13 ∷ 14 ∷ 15 ∷ 16 ∷ 17 ∷ 18 ∷ 19 ∷ 20 ∷ []) ++ (0x55 ∷ 0x53 ∷ 0x42 ∷ 0x53 ∷ 1 ∷ 0 ∷ 0 ∷ 0 ∷ 0 ∷ 0 ∷ 0 ∷ 0 ∷ 0 ∷ []))
-    -- the largest L, all of it left
+    -- The largest L, with all of it left, takes this many polls, at P 64 and at P 8.
     ∷ case (ceiling 4294967295 64 + ceiling 13 64) 67108865
     ∷ case (ceiling 4294967295 8 + ceiling 13 8) 536870914
     ∷ []

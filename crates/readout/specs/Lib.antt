@@ -1,6 +1,7 @@
--- specs.History   the calls as events, and what a history of them leaves and shows
--- specs.Demand    the mission's third demand: what is supposed, and what is promised
--- specs.Cases     document 01's cases of it
+-- What a reader of demand 3 must believe.
+--     History    the calls as events, and what a history of them leaves and shows
+--     Demand     the mission's third demand: what is supposed, and what is promised
+--     Cases      document 01's cases of it, and cases of ours
 pub mod History
 pub mod Demand
 pub mod Cases

@@ -1,4 +1,5 @@
--- A poll through the whole ring: what the functions of a round owe (`ways`), a round, and the call that tests first. Assumes nothing.
+-- A poll through the whole ring: what the functions of a round owe (`ways`), the round itself, and the call, which tests first. Assumes
+-- nothing.
 use mathlib.Core.Path.{_≡_, refl, sym, ap, _∙_, subst}
 use mathlib.Core.Bool.{Bool, true, false, not, cond}
 use mathlib.Core.List.{List}
@@ -59,7 +60,7 @@ pub keeps : (c : Change) (r : List ℕ) {a b d l : List ℕ} → a ≡ cond (c .
 unfolding keptChange
 keeps c r ea eb ed el = rw (← ea, ← eb, ← ed, el)
 
--- a wrapper in two parts
+-- A wrapper that is stored in two parts, head and block.
 halves : (m : List ℕ) {h : Head} → h ≡ headOf (wrapperOf m) → joined h (take 16 (drop 15 m)) ≡ wrapperOf m
 unfolding wrapperOf bytesAt
 halves m e = rw e
@@ -89,7 +90,7 @@ module _ (r io : List ℕ) (g : Given) (known : isKnown r ≡ true) {n : Numbers
   whole : Whole (numbersOf d) (length io)
   whole = rw en at w
 
-  -- the parts stored one by one are the device
+  -- Where its parts are stored one by one, the device is stored.
   parts-stored : (v b : Bool) (x : Wrapper) → (v ≡ true → length (x .block) ≡ 16) → (s : State) (m : Marks) (l : Left)
       → storeLeft l (storeMarks m (storeState s (cond b (storeStatus Absent (cond v (storeWrapper x r) r)) (cond v (storeWrapper x r) r))))
       ≡ storeDevice (rebuilt d s m (cond v x (d .wrapper)) (cond b Absent (d .status)) l) r
@@ -101,7 +102,7 @@ module _ (r io : List ℕ) (g : Given) (known : isKnown r ≡ true) {n : Numbers
 
   module _ (o : Opened) (io′ : List ℕ) (x : Opens (opened n io (g .one) (endpointOf (g .turn .first))) (openedIo n io (g .one) (endpointOf (g .turn .first))) o io′)
       (c : Change) {io″ packet′ : List ℕ} (y : endedOf c io″ packet′ ≡ goneOn n (openOf o) io′ g) where
-    -- the wrapper in the record then, and the device that holds it
+    -- The wrapper that is then in the record, and the device that holds it.
     abbrev w′ : Wrapper
     w′ = wrapperThen (openOf o) io′ (d .wrapper)
 
@@ -119,7 +120,7 @@ module _ (r io : List ℕ) (g : Given) (known : isKnown r ≡ true) {n : Numbers
           sent = omega (arith, sent, packet-bounds (d .fixed .packetsize) (packet-known (numbersOf d) (length io) whole) .1);
         }
 
-    -- the wrapper found has a block of 16 bytes
+    -- The wrapper that was found has a block of 16 bytes.
     sixteen : isValidFound (o .found) ≡ true → length (wrapperOf (justRead io′ (o .marks)) .block) ≡ 16
     unfolding wrapperOf bytesAt justRead
     sixteen q =

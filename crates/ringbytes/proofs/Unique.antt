@@ -1,5 +1,5 @@
--- No second answer satisfies the promise: what the `ensures` of the poll says is true of one result alone, and of one content of each lent slice
--- at exit. `Post` is the contract itself, as the check reads it. Assumes nothing.
+-- No second answer satisfies the promise: what the `ensures` of the poll says is true of only one result, and of only one content of each
+-- lent slice at exit. `Post` is the contract itself, as the check reads it. Assumes nothing.
 use mathlib.Core.Path.{_≡_, sym, ap, _∙_}
 use mathlib.Core.List.{List}
 use Prim.Native.Nat.{ℕ}
@@ -9,7 +9,7 @@ use Rattle.ringbytes.specs.Poll.{Polled, polls}
 use Rattle.ringbytes.proofs.poll.Kinds as poll-kinds
 use Rattle.ringbytes.proofs.poll.Reads as poll
 
--- what a poll leaves tells each part of it; record and buffers are looked at together, beside the result 0
+-- What a poll leaves tells each of its parts. The record and the buffers are looked at together, with 0 in place of the result.
 pub polled-once : {x y : ℕ} {r r′ io io′ p p′ : List ℕ} → polls x r io p ≡ polls y r′ io′ p′ → (x ≡ y) × (polls 0 r io p ≡ polls 0 r′ io′ p′)
 polled-once e = (ap (λ (o : Polled). o .result) e, ap (λ (o : Polled). polls 0 (o .bytes) (o .io) (o .packet)) e)
 

@@ -1,3 +1,3 @@
 -- What only inner functions promise or require: no public contract and no public theorem rests on it (checks/believed).
---     Poll    what is stored of a poll through the ring
+--     Poll    what a poll through the ring stores in the record
 pub mod Poll

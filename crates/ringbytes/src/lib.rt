@@ -1,4 +1,4 @@
-// One poll of a record of bytes: the checks, and then the whole ring.
+// One poll of a record of bytes: first the checks, and then the whole ring.
 use answers::answer_number;
 use answers::carried;
 use bbb::Change;
@@ -38,7 +38,7 @@ ghost use Rattle.border.specs.Word as spec;
 ghost use Rattle.ringbytes.specs.Poll.{polls, pollOn};
 ghost use Rattle.ringbytes.specs.Inner.Poll.{Keepable, keptChange};
 
-// The wrapper that opening found, if it is valid: it stands in the IO buffer, just in front of the read mark.
+// Stores the wrapper that opening found, if it found a valid one. Its bytes stand in the IO buffer, right before the read mark.
 fn keep_wrapper(record: &mut [u8], o: Opened, io: &[u8])
     requires { ⌜ (length (now «record») ≡ recordSize) × Sound (buffer (now io) (o .marks)) × InFront o ⌝ }
     ensures { λ _. ⌜ now («record» .exit) ≡ cond (isValidFound (o .found)) (storeWrapper (wrapperOf (justRead (now (io .entry)) (o .marks))) (now («record» .entry))) (now («record» .entry)) ⌝ }
@@ -53,7 +53,7 @@ fn keep_wrapper(record: &mut [u8], o: Opened, io: &[u8])
     }
 }
 
-// Entering 0 clears the status.
+// Clears the status where 0 was entered.
 fn clear(record: &mut [u8], cleared: bool)
     requires { ⌜ length (now «record») ≡ recordSize ⌝ }
     ensures { λ _. ⌜ now («record» .exit) ≡ cond cleared (storeStatus Absent (now («record» .entry))) (now («record» .entry)) ⌝ }
@@ -63,7 +63,7 @@ fn clear(record: &mut [u8], cleared: bool)
     }
 }
 
-// What else changed of the record.
+// Stores everything that `c` changed in the record but the wrapper.
 fn keep(record: &mut [u8], c: Change)
     requires { ⌜ (length (now «record») ≡ recordSize) × Keepable c ⌝ }
     ensures { λ _. ⌜ now («record» .exit) ≡ keptChange c (now («record» .entry)) ⌝ }
@@ -77,6 +77,7 @@ fn keep(record: &mut [u8], c: Change)
     store::left(record, left);
 }
 
+// Puts the parts of a report into one number.
 fn result(report: Report) -> u64
     requires { ⌜ report .sent < 2 ^ 32 ⌝ }
     ensures { λ x. ⌜ x ≡ spec.word (answers.answerOf (report .answer) .number) (answers.answerOf (report .answer) .carried) (spec.stallsNumber (report .stalls)) (report .taken) (report .sent) ⌝ }
@@ -92,7 +93,7 @@ fn result(report: Report) -> u64
     )
 }
 
-// The poll of a record that is whole, with offers that fit.
+// Makes the poll of a record that is whole, where what was offered fits. `n` are the numbers in `record`.
 fn go_round(
     record: &mut [u8],
     n: Numbers,
@@ -113,7 +114,7 @@ fn go_round(
     result(report)
 }
 
-// 10, then 11, then a round.
+// Tests for 10, then for 11, and then makes the poll.
 pub fn poll(
     record: &mut [u8],
     io: &mut [u8],

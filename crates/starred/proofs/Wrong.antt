@@ -1,4 +1,4 @@
--- The starred table says something: with another value expected in one row it does not hold. Assumes nothing.
+-- The starred table is not true of just any values: with another value expected in one row it does not hold. Assumes nothing.
 use mathlib.Core.Path.{_≡_, sym, _∙_}
 use mathlib.Core.Bool.{Bool, true, false}
 use mathlib.Core.List.{List, _∷_, _++_}
@@ -16,22 +16,23 @@ use Rattle.scsi.specs.Cases as scsi
 use Rattle.starred.specs.Starred.{table}
 use Rattle.starred.proofs.Hold.{hold}
 
--- "Block length 0 .. invalid*", the first row of `wrapper`: whether such a message is valid, and the rows behind it
+-- "Block length 0 .. invalid*" is the first row of `wrapper`: whether such a message is valid; and the rows after it.
 abbrev computed : Bool
 computed = parsed (message 0x80 0 0) .valid
 
 abbrev behind : List Case
 behind = drop 1 wrapper.starred ++ (bbb.starred ++ (readout.starred ++ scsi.starred))
 
--- the table, where this is expected in that row
+-- The table with `expected` as the value that is expected in that row.
 abbrev expecting : Bool → List Case
 expecting expected = device.starred ++ case computed expected ∷ behind
 
--- with what 01 says it is the starred table, which holds
+-- With 01's value it is the starred table, which holds.
 pub right : AllHold (expecting false)
 unfolding table wrapper.starred AllHold
 right = hold
 
+-- With the other value it does not hold.
 pub wrong : AllHold (expecting true) → ⊥
 wrong = bites device.starred computed true behind (λ (valid : computed ≡ true). clash (sym valid ∙ invalid))
   where

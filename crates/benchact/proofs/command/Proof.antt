@@ -1,4 +1,4 @@
--- `benchact::command` meets its contract: what the step offers is put in front. Assumes nothing.
+-- `benchact::command` meets its contract: what the step offers is put at the front of the lent bytes. Assumes nothing.
 use borrow.Author.Needs.{needs}
 use Rattle.benchact.proofs.Laws.{ways}
 use Rattle.benchact.proofs.command.Statement.{statement}

@@ -1,4 +1,4 @@
--- `benchact::control` meets its contract: the answer is put in front. Assumes nothing.
+-- `benchact::control` meets its contract: the reply is put at the front of the lent bytes. Assumes nothing.
 use borrow.Author.Needs.{needs}
 use Rattle.benchact.proofs.Laws.{ways}
 use Rattle.benchact.proofs.control.Statement.{statement}

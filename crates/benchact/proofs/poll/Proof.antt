@@ -1,4 +1,4 @@
--- `benchact::poll` meets its contract: both packets lie in the n bytes, the second behind the first. Assumes nothing.
+-- `benchact::poll` meets its contract: both packets lie in the body, the second one after the first. Assumes nothing.
 use borrow.Author.Needs.{needs}
 use Rattle.benchact.proofs.Laws.{ways}
 use Rattle.benchact.proofs.poll.Statement.{statement}

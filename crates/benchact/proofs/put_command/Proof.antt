@@ -1,4 +1,4 @@
--- `benchact::put_command` meets its contract: nothing is put in front, or the LUN with the block behind it. Assumes nothing.
+-- `benchact::put_command` meets its contract: nothing is put at the front, or the LUN and the block after it. Assumes nothing.
 use native.Mathlib.Omega.{arith}
 use lib.ListN.{length-set}
 use borrow.Author.Needs.{needs}

@@ -1,4 +1,4 @@
--- `benchact::put_reply` meets its contract: nothing is put in front, or one byte. Assumes nothing.
+-- `benchact::put_reply` meets its contract: nothing is put at the front, or one byte. Assumes nothing.
 use borrow.Author.Needs.{needs}
 use Rattle.benchact.proofs.Laws.{ways}
 use Rattle.benchact.proofs.put_reply.Statement.{statement}

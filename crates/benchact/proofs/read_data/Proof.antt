@@ -1,4 +1,5 @@
--- `benchact::read_data` meets its contract: a room of two bytes is at most 65535, so the destination lies in the lent bytes. Assumes nothing.
+-- `benchact::read_data` meets its contract: a room of two bytes is at most 65535, so the destination lies within the lent bytes. Assumes
+-- nothing.
 use mathlib.Core.Path.{sym}
 use native.Mathlib.Omega.{arith}
 use lib.Seq.{length-take-le}

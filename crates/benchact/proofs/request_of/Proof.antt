@@ -1,4 +1,4 @@
--- `benchact::request_of` meets its contract: two fields of the n bytes. Assumes nothing.
+-- `benchact::request_of` meets its contract: it reads two fields of the body. Assumes nothing.
 use borrow.Author.Needs.{needs}
 use Rattle.benchact.proofs.Laws.{ways}
 use Rattle.benchact.proofs.request_of.Statement.{statement}

@@ -1,4 +1,4 @@
--- `benchact::reset` meets its contract: the answer is put in front. Assumes nothing.
+-- `benchact::reset` meets its contract: the reply is put at the front of the lent bytes, as for a control request. Assumes nothing.
 use borrow.Author.Needs.{needs}
 use Rattle.benchact.proofs.Laws.{ways}
 use Rattle.benchact.proofs.reset.Statement.{statement}

@@ -1,4 +1,4 @@
--- `benchact::status_of` meets its contract: two fields of the n bytes. Assumes nothing.
+-- `benchact::status_of` meets its contract: it reads two fields of the body. Assumes nothing.
 use borrow.Author.Needs.{needs}
 use Rattle.benchact.proofs.Laws.{ways}
 use Rattle.benchact.proofs.status_of.Statement.{statement}

@@ -1,4 +1,4 @@
--- `benchact::turn_of` meets its contract: three fields of the n bytes. Assumes nothing.
+-- `benchact::turn_of` meets its contract: it reads three fields of the body. Assumes nothing.
 use borrow.Author.Needs.{needs}
 use Rattle.benchact.proofs.Laws.{ways}
 use Rattle.benchact.proofs.turn_of.Statement.{statement}

@@ -1,4 +1,5 @@
--- `benchfile::walk` meets its contract: behind each turn it has read events, and all that fill the bytes begin with them. Assumes nothing.
+-- `benchfile::walk` meets its contract: after each turn it has read events, and any events that fill the bytes begin with these. Assumes
+-- nothing.
 use Prim.Native.Nat.{_-_}
 use native.Mathlib.Omega.{arith}
 use lib.ListN.{length}

@@ -7,7 +7,8 @@ use lib.ListN.{length, take, drop}
 use Rattle.fields.specs.Field.{get}
 use Rattle.benchfile.specs.Event.{kindByte, bodyOf, eventAt}
 
--- Event e stands at an offset of the events xs, is read there, and the next one stands behind it.
+-- The event `e` stands at the offset `at` of the events `xs`: its head and its body are read there, and the next event starts right after
+-- it.
 pub record ReadAt (xs : List ℕ) (at : ℕ) (e : List ℕ) : Type 0 where
   pub head : eventAt xs at ≡ record { whole = true; kind = get kindByte e; length = length (bodyOf e) }
   pub body : take (length (bodyOf e)) (drop (at + 3) xs) ≡ bodyOf e

@@ -1,4 +1,4 @@
--- What the walk over the events counts, and what it is compared with. Only contracts of inner functions cite these definitions; `File`
+-- What the walk over the events counts, and what that is compared with. Only contracts of inner functions cite these definitions; `File`
 -- says what a good file is. Assumes nothing: these are definitions.
 use Prim.Native.Nat.{ℕ}
 use mathlib.Core.Path.{_≡_}
@@ -10,25 +10,26 @@ use Rattle.fields.specs.Field.{oneByte, get}
 use Rattle.benchfile.specs.declared.Tally.{Tally}
 use Rattle.benchfile.specs.File.{joined, areEvents, lastOffset, countField, lastField}
 
--- the tally of these events
+-- The tally of the events `es`: how many they are, and where the last one stands.
 abbrev pub tallyOf : List (List ℕ) → Tally
 tallyOf es = record { filled = true; count = length es; last = lastOffset es }
 
--- xs is these events, one behind the other
+-- `xs` consists of the events `es`, one after the other.
 pub record Fills (es : List (List ℕ)) (xs : List ℕ) : Type 0 where
   pub bytes : xs ≡ joined es
   pub are : areEvents true es ≡ true
 
--- The tally of xs: it is of events that fill xs, and of any that do.
+-- `t` is the tally of `xs`. Where it says that events fill `xs`, it is the tally of events that do; and it is the tally of any events
+-- that do.
 pub record Tallies (t : Tally) (xs : List ℕ) : Type 0 where
   pub found : t .filled ≡ true → (es : List (List ℕ)) × Fills es xs × (t ≡ tallyOf es)
   pub only : (es : List (List ℕ)) → Fills es xs → t ≡ tallyOf es
 
--- the four bytes `BOT1`
+-- Whether the first four bytes of `m` are `BOT1`.
 unfoldable pub isMagic : List ℕ → Bool
 isMagic m = eqb (get (oneByte 0) m) 0x42 && (eqb (get (oneByte 1) m) 0x4F && (eqb (get (oneByte 2) m) 0x54 && eqb (get (oneByte 3) m) 0x31))
 
--- Whether a trailer has the tally's numbers.
+-- Whether `t` is a tally of events, and `trailer` has its numbers and `BOT1`.
 unfoldable pub agreesWith : Tally → List ℕ → Bool
 agreesWith t trailer =
     t .filled

@@ -1,5 +1,5 @@
--- `benchline::put_decimal` meets its contract: it calls itself for the digits before the last, those of n / 10, and n is the measure.
--- Assumes nothing.
+-- `benchline::put_decimal` meets its contract. It calls itself for the digits before the last, which are those of n / 10; the measure is
+-- n. Assumes nothing.
 use Prim.Native.Nat.{ℕ, _<_}
 use native.Mathlib.Omega.{arith}
 use borrow.Author.Needs.{needs}
@@ -15,7 +15,7 @@ use Rattle.benchline.proofs.+put_decimal.Tie.{close}
 abbrev μ : Measures 1 kinds.ps ℕ
 μ κs a = a .1 .1 .0
 
--- what is given at the measure t, and what a call asks below t
+-- What is given at the measure t, and what a call asks for below t.
 abbrev given : ℕ → In 1 kinds.ps
 given t = and 1 kinds.ps (is 1 kinds.ps μ t) reads.Pre
 

@@ -1,4 +1,4 @@
--- `benchline::put_bytes` meets its contract: `-`, or what `put_hex` put. Assumes nothing.
+-- `benchline::put_bytes` meets its contract: it puts `-`, or what `put_hex` puts. Assumes nothing.
 use borrow.Author.Needs.{needs}
 use Rattle.benchline.proofs.Ways.{ways}
 use Rattle.benchline.proofs.put_bytes.Statement.{statement}

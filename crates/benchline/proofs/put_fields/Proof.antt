@@ -1,4 +1,4 @@
--- `benchline::put_fields` meets its contract: numbers, stalls, and a store behind them. Assumes nothing.
+-- `benchline::put_fields` meets its contract: numbers, stalls, and a store after them. Assumes nothing.
 use native.Mathlib.Omega.{arith}
 use borrow.Author.Needs.{needs}
 use lib.ListN.{length-set}

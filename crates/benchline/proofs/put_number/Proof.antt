@@ -1,4 +1,4 @@
--- `benchline::put_number` meets its contract: a store right behind the digits. Assumes nothing.
+-- `benchline::put_number` meets its contract: a space is stored right after the digits. Assumes nothing.
 use native.Mathlib.Omega.{arith}
 use borrow.Author.Needs.{needs}
 use Rattle.benchline.proofs.Ways.{ways}

@@ -1,4 +1,4 @@
--- `benchline::put_numbers` meets its contract: six texts, one behind the other. Assumes nothing.
+-- `benchline::put_numbers` meets its contract: six texts are put one after the other. Assumes nothing.
 use borrow.Author.Needs.{needs}
 use Rattle.benchline.proofs.Ways.{ways}
 use Rattle.benchline.proofs.put_numbers.Statement.{statement}

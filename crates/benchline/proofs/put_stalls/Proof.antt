@@ -1,4 +1,4 @@
--- `benchline::put_stalls` meets its contract: one or two stores for each variant. Assumes nothing.
+-- `benchline::put_stalls` meets its contract: there are one or two stores for each variant. Assumes nothing.
 use borrow.Author.Needs.{needs}
 use Rattle.benchline.proofs.Ways.{ways}
 use Rattle.benchline.proofs.put_stalls.Statement.{statement}

@@ -7,7 +7,7 @@ use Rattle.fields.specs.Overlay.{overlay}
 use Rattle.benchline.specs.declared.Line.{Line}
 use Rattle.benchline.specs.Line.{number}
 
--- how long these are
+-- How long the numbers of the line `l` are, with their spaces.
 abbrev pub numbersLength : Line → ℕ
 numbersLength l =
     length (number (l .index))
@@ -17,11 +17,13 @@ numbersLength l =
     + length (number (l .unread))
     + length (number (l .count))
 
--- the most that a line with n bytes takes: six numbers of 20 digits, the spaces behind them, stalls, a space, the bytes, the end of the line
+-- Enough room for any line with `n` bytes: six numbers of 20 digits, a space after each, two letters for the stalls, a space, a dash or
+-- two digits for each byte, and the end of the line.
 unfoldable pub roomFor : ℕ → ℕ
 roomFor n = 131 + 2 * n
 
--- A text was put in at an index, everything else stayed, and it ends there.
+-- The text `ys` was put into the list `before` at the index `at`, and the list is `after` then: everything else stayed. The text ends at
+-- the index `end`.
 pub record Puts (at : ℕ) (ys before after : List ℕ) (end : ℕ) : Type 0 where
   pub ends : end ≡ at + length ys
   pub text : after ≡ overlay before at ys

@@ -1,4 +1,4 @@
--- `benchrun::print` is safe and ends: each array is as long as it has to be. Assumes nothing.
+-- `benchrun::print` is safe and ends: each array has the length that it needs. Assumes nothing.
 use native.Mathlib.Omega.{arith}
 use Rattle.benchrun.proofs.After.{both-roomy}
 use borrow.Author.Needs.{needs}

@@ -1,4 +1,5 @@
--- `commandbytes::command` meets its contract: other than 16 bytes lent, refused, or the call by value on what the bytes hold. Assumes nothing.
+-- `commandbytes::command` meets its contract: the lent bytes are not 16, the record is refused, or the call by value is made on the
+-- device that the bytes hold. Assumes nothing.
 use borrow.Author.Needs.{needs}
 use Rattle.commandbytes.proofs.Ways.{ways}
 use Rattle.commandbytes.proofs.command.Statement.{statement}

@@ -1,4 +1,5 @@
--- `commandbytes::command_step` meets its contract: other than six numbers lent, refused, or the call by value on what the bytes hold. Assumes nothing.
+-- `commandbytes::command_step` meets its contract: the lent numbers are not six, the record is refused, or the call by value is made on
+-- the device that the bytes hold. Assumes nothing.
 use borrow.Author.Needs.{needs}
 use Rattle.commandbytes.proofs.Ways.{ways}
 use Rattle.commandbytes.proofs.command_step.Statement.{statement}

@@ -1,4 +1,4 @@
--- `commandbytes::offer` meets its contract: the command in its six numbers, or nothing. Assumes nothing.
+-- `commandbytes::offer` meets its contract: the command goes into the six numbers, or nothing does. Assumes nothing.
 use Rattle.commandbytes.proofs.Ways.{ways}
 use borrow.Author.Needs.{needs}
 use Rattle.commandbytes.proofs.offer.Statement.{statement}

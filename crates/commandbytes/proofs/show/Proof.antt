@@ -1,4 +1,4 @@
--- `commandbytes::show` meets its contract: the block laid over all 16 bytes, or nothing. Assumes nothing.
+-- `commandbytes::show` meets its contract: the block takes the place of all 16 bytes, or nothing does. Assumes nothing.
 use Rattle.commandbytes.proofs.Ways.{ways}
 use native.Mathlib.Omega.{arith}
 use borrow.Author.Needs.{needs}

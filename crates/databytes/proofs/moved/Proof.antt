@@ -1,4 +1,4 @@
--- `databytes::moved` meets its contract: the marks stored, answer and count in one number. Assumes nothing.
+-- `databytes::moved` meets its contract: the marks are stored, and answer and count are put into one number. Assumes nothing.
 use Rattle.databytes.proofs.Ways.{ways}
 use borrow.Author.Needs.{needs}
 use Rattle.databytes.proofs.moved.Statement.{statement}

@@ -1,4 +1,5 @@
--- `databytes::write_data` meets its contract: refused, or the call by value on what the bytes hold; marks and count fit into 32 bits. Assumes nothing.
+-- `databytes::write_data` meets its contract: it refuses, or makes the call by value on the device that the bytes hold. Marks and count
+-- fit into 32 bits. Assumes nothing.
 use Rattle.databytes.proofs.Ways.{write-fits, ways}
 use borrow.Author.Needs.{needs}
 use Rattle.databytes.proofs.write_data.Statement.{statement}

@@ -1,9 +1,9 @@
--- `listing::play` is safe and ends: the IO buffer stays as long. Assumes nothing.
+-- `listing::play` is safe and ends: the IO buffer keeps its length. Assumes nothing.
 use borrow.Author.Needs.{needs}
 use Rattle.listing.proofs.play.Statement.{statement}
 use Rattle.listing.proofs.play.Tie as tie
 
--- that the buffer was as long behind the first poll lies too far back to be found
+-- That the buffer had this length after the first poll is too far back for the search, so it is written out.
 same-length : tie.Need-same-length
 same-length c =
     let second = c .before .before .before .before .before .before in

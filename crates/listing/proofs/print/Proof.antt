@@ -1,4 +1,4 @@
--- `listing::print` is safe and ends: a line of at most 64 bytes fits the text. Assumes nothing.
+-- `listing::print` is safe and ends: a line with at most 64 bytes fits into the text. Assumes nothing.
 use mathlib.Core.Path.{_≡_, sym}
 use mathlib.Core.List.{List, []}
 use Prim.Native.Nat.{ℕ, _≤_}
@@ -13,7 +13,7 @@ use borrow.Author.Needs.{needs}
 use Rattle.listing.proofs.print.Statement.{statement}
 use Rattle.listing.proofs.print.Tie as tie
 
--- what was put in ends before the text does
+-- What was put in ends before the text does.
 fits-text : (l : Line) (bytes : List ℕ) {before after : List ℕ} {end : ℕ} → Puts 0 (lineOf l bytes) before after end → roomFor (length bytes) ≤ 259 → length after ≡ 259
     → end ≤ length after
 fits-text l bytes p h e = omega (arith, p .ends, line-fits l bytes, h, e)

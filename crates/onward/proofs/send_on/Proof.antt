@@ -1,4 +1,5 @@
--- `onward::send_on` meets its contract: marks and left go into the record, a packet from the read mark on into the packet buffer. Assumes nothing.
+-- `onward::send_on` meets its contract: state, marks and left are stored in the record, and a packet from the read mark on goes into the
+-- packet buffer. Assumes nothing.
 use native.Mathlib.Omega.{arith}
 use borrow.Author.Needs.{needs}
 use Rattle.onward.proofs.Going.{mark-fits, count-fits, ways}

@@ -1,4 +1,4 @@
--- `onward::sends_in` meets its contract: 6, or 4. Assumes nothing.
+-- `onward::sends_in` meets its contract: the state is 6 or 4. Assumes nothing.
 use borrow.Author.Needs.{needs}
 use Rattle.onward.proofs.Going.{ways}
 use Rattle.onward.proofs.sends_in.Statement.{statement}

@@ -1,4 +1,4 @@
--- `onward::take_on` meets its contract: marks and left go into the record, the packet behind the write mark. Assumes nothing.
+-- `onward::take_on` meets its contract: marks and left are stored in the record, and the packet goes to the write mark. Assumes nothing.
 use native.Mathlib.Omega.{arith}
 use borrow.Author.Needs.{needs}
 use Rattle.onward.proofs.Going.{mark-fits, ways}

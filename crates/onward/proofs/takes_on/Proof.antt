@@ -1,4 +1,4 @@
--- `onward::takes_on` meets its contract: each test in turn. Assumes nothing.
+-- `onward::takes_on` meets its contract, test by test. Assumes nothing.
 use borrow.Author.Needs.{needs}
 use Rattle.onward.proofs.Going.{fails, ways}
 use Rattle.onward.proofs.takes_on.Statement.{statement}

@@ -1,4 +1,4 @@
--- `packetcopy::put32` meets its contract: through an array of 32 bytes. Assumes nothing.
+-- `packetcopy::put32` meets its contract: the bytes go through an array of 32 bytes. Assumes nothing.
 use borrow.Author.Needs.{needs}
 use Rattle.packetcopy.proofs.Through.{ways}
 use Rattle.packetcopy.proofs.put32.Statement.{statement}

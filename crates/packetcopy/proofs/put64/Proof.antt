@@ -1,4 +1,4 @@
--- `packetcopy::put64` meets its contract: through an array of 64 bytes. Assumes nothing.
+-- `packetcopy::put64` meets its contract: the bytes go through an array of 64 bytes. Assumes nothing.
 use borrow.Author.Needs.{needs}
 use Rattle.packetcopy.proofs.Through.{ways}
 use Rattle.packetcopy.proofs.put64.Statement.{statement}

@@ -1,4 +1,4 @@
--- `packetcopy::put8` meets its contract: through an array of 8 bytes. Assumes nothing.
+-- `packetcopy::put8` meets its contract: the bytes go through an array of 8 bytes. Assumes nothing.
 use borrow.Author.Needs.{needs}
 use Rattle.packetcopy.proofs.Through.{ways}
 use Rattle.packetcopy.proofs.put8.Statement.{statement}

@@ -1,4 +1,5 @@
--- `pollbytes::poll` meets its contract: a packet in the midst of a transfer, or any other poll. Assumes nothing.
+-- `pollbytes::poll` meets its contract: a poll in the middle of a transfer goes the short way, and the ring makes any other. Assumes
+-- nothing.
 use borrow.Author.Needs.{needs}
 use Rattle.pollbytes.proofs.Short.{send-long, send-needs, poll-sends, take-long, take-needs, poll-takes}
 use Rattle.pollbytes.proofs.poll.Statement.{statement}

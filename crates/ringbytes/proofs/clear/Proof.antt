@@ -1,4 +1,4 @@
--- `ringbytes::clear` meets its contract: the status goes, or stays. Assumes nothing.
+-- `ringbytes::clear` meets its contract: the status is cleared, or it stays. Assumes nothing.
 use Rattle.ringbytes.proofs.Round.{ways}
 use borrow.Author.Needs.{needs}
 use Rattle.ringbytes.proofs.clear.Statement.{statement}

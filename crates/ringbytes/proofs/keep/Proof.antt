@@ -1,4 +1,4 @@
--- `ringbytes::keep` meets its contract: the parts of a change, stored in turn. Assumes nothing.
+-- `ringbytes::keep` meets its contract: the parts of a change are stored one after the other. Assumes nothing.
 use Rattle.ringbytes.proofs.Round.{ways}
 use borrow.Author.Needs.{needs}
 use Rattle.ringbytes.proofs.keep.Statement.{statement}

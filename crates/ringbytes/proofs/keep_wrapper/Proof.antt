@@ -1,4 +1,4 @@
--- `ringbytes::keep_wrapper` meets its contract: the wrapper in front of the read mark, or none. Assumes nothing.
+-- `ringbytes::keep_wrapper` meets its contract: the wrapper right before the read mark is stored, or nothing is. Assumes nothing.
 use Rattle.ringbytes.proofs.Round.{ways}
 use Rattle.bbb.proofs.Polling.{found-31, found-part}
 use native.Mathlib.Omega.{arith}

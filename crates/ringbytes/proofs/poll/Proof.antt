@@ -1,4 +1,4 @@
--- `ringbytes::poll` meets its contract: 10, 11, or a whole round. Assumes nothing.
+-- `ringbytes::poll` meets its contract: the answer is 10 or 11, or a whole round is made. Assumes nothing.
 use borrow.Author.Needs.{needs}
 use Rattle.border.proofs.Lending.{known-then, long-then}
 use Rattle.ringbytes.proofs.Round.{whole-there, fits-there, poll-unknown, poll-broken, poll-refused}

@@ -1,4 +1,4 @@
--- `ringbytes::result` meets its contract: the parts of a report in one number. Assumes nothing.
+-- `ringbytes::result` meets its contract: the parts of a report are put into one number. Assumes nothing.
 use Rattle.ringbytes.proofs.Round.{ways}
 use borrow.Author.Needs.{needs}
 use Rattle.ringbytes.proofs.result.Statement.{statement}

@@ -1,4 +1,4 @@
--- `benchrun::open::refuse` meets its contract: three stores, and no device. Assumes nothing.
+-- `benchrun::open::refuse` meets its contract: there are three stores, and no device. Assumes nothing.
 use denote.Ref.{now}
 use Rattle.benchrun.proofs.Laws.{refuses-first, refuses-second, refuses-third, refuses}
 use borrow.Author.Needs.{needs}

@@ -1,5 +1,5 @@
--- `benchrun::play::play` meets its contract: behind each event the loop has come one turn further, the lent bytes and the text are as long
--- as before, and fewer bytes of events are ahead. Assumes nothing.
+-- `benchrun::play::play` meets its contract: after each event the loop has come one turn further, the lent bytes and the text have the
+-- same lengths as before, and fewer bytes of events are ahead. Assumes nothing.
 use mathlib.Core.Path.{sym}
 use lib.Seq.{length-take-le}
 use Rattle.benchrun.specs.Run.{runningOf}

@@ -1,4 +1,4 @@
--- `benchrun::step::created` meets its contract: the numbers of the first event. Assumes nothing.
+-- `benchrun::step::created` meets its contract: it reads the numbers of the first event. Assumes nothing.
 use borrow.Author.Needs.{needs}
 use Rattle.benchrun.proofs.Laws.{ways}
 use Rattle.benchrun.proofs.step.created.Statement.{statement}

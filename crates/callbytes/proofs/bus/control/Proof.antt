@@ -1,4 +1,5 @@
--- `callbytes::bus::control` meets its contract: refused, or the call by value on what the bytes hold; status, state and left alone changed. Assumes nothing.
+-- `callbytes::bus::control` meets its contract: it refuses, or makes the call by value on the device that the bytes hold. Only status,
+-- state and left can change. Assumes nothing.
 use Rattle.callbytes.proofs.Ways.{ways}
 use borrow.Author.Needs.{needs}
 use Rattle.callbytes.proofs.bus.control.Statement.{statement}

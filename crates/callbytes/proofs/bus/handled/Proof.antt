@@ -1,4 +1,5 @@
--- `callbytes::bus::handled` meets its contract: three parts stored in order, the rest in one number. Assumes nothing.
+-- `callbytes::bus::handled` meets its contract: three parts are stored one after the other, and the rest is put into one number. Assumes
+-- nothing.
 use Rattle.callbytes.proofs.Ways.{ways}
 use borrow.Author.Needs.{needs}
 use Rattle.callbytes.proofs.bus.handled.Statement.{statement}

@@ -1,4 +1,4 @@
--- `callbytes::bus::replied` meets its contract: no byte, or max LUN as the count with flag 1. Assumes nothing.
+-- `callbytes::bus::replied` meets its contract: there is no byte, or max LUN is the count and the flag is 1. Assumes nothing.
 use Rattle.callbytes.proofs.Ways.{ways}
 use borrow.Author.Needs.{needs}
 use Rattle.callbytes.proofs.bus.replied.Statement.{statement}

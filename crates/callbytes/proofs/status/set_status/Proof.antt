@@ -1,4 +1,5 @@
--- `callbytes::status::set_status` meets its contract: refused, or the call by value on what the bytes hold; the status alone changed. Assumes nothing.
+-- `callbytes::status::set_status` meets its contract: it refuses, or makes the call by value on the device that the bytes hold. Only the
+-- status can change. Assumes nothing.
 use Rattle.callbytes.proofs.Ways.{ways}
 use borrow.Author.Needs.{needs}
 use Rattle.callbytes.proofs.status.set_status.Statement.{statement}
