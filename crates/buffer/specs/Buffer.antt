@@ -9,7 +9,7 @@ use Rattle.fields.specs.Overlay.{overlay}
 use Rattle.buffer.specs.declared.Marks.{Marks}
 
 -- A buffer has its bytes and two marks: the read mark is the index of the next byte to read, and the write mark that of the next byte to
--- write. `buffer b m` is the buffer with the bytes `b` and the marks `m`.
+-- write. `buffer` makes one from the bytes `b` and the marks `m`.
 pub record Buffer : Type 0 where
   pub bytes : List ℕ
   pub marks : Marks
@@ -17,38 +17,38 @@ pub record Buffer : Type 0 where
 abbrev pub buffer : List ℕ → Marks → Buffer
 buffer b m = record { bytes = b; marks = m }
 
--- The marks with the read mark `r` and the write mark `w`.
+-- These are the marks with the read mark `r` and the write mark `w`.
 abbrev pub at : ℕ → ℕ → Marks
 at r w = record { read = r; write = w }
 
--- Whether the marks `m` are sound in a buffer of `len` bytes: the read mark is at most the write mark, and the write mark is at most
+-- This tests whether the marks `m` are sound in a buffer of `len` bytes: the read mark is at most the write mark, and that is at most
 -- `len`.
 unfoldable pub isSound : ℕ → Marks → Bool
 isSound len m = leb (m .read) (m .write) && leb (m .write) len
 
--- The number of unread bytes in `s`: "Unread is write mark minus read mark."
+-- This is how many bytes of `s` are unread: "Unread is write mark minus read mark."
 abbrev pub unread : Buffer → ℕ
 unread s = s .marks .write - s .marks .read
 
--- The unread bytes of `s`: those from the read mark up to the write mark.
+-- These are the unread bytes of `s`: those from the read mark up to the write mark.
 unfoldable pub unreadBytes : Buffer → List ℕ
 unreadBytes s = take (unread s) (drop (s .marks .read) (s .bytes))
 
--- The "room behind the write mark" of `s`: how many bytes there are from the write mark to the end.
+-- This is the "room behind the write mark" of `s`: how many bytes there are from the write mark to the end.
 abbrev pub room : Buffer → ℕ
 room s = length (s .bytes) - s .marks .write
 
--- The buffer `s` after the move: "unread bytes move to the front (both marks go to 0 if none)". The new write mark is the number of
--- unread bytes.
+-- This is `s` after the move: "unread bytes move to the front (both marks go to 0 if none)". The new write mark is how many bytes are
+-- unread.
 unfoldable pub moved : Buffer → Buffer
 moved s = buffer (overlay (s .bytes) 0 (unreadBytes s)) (at 0 (unread s))
 
--- The buffer `s` after room for `n` bytes was asked for. "If room behind the write mark is too small" for them, the move is made;
--- otherwise `s` stays as it is.
+-- This is `s` after room for `n` bytes was asked for. "If room behind the write mark is too small" for them, the move is made; otherwise
+-- `s` stays as it is.
 unfoldable pub withRoom : ℕ → Buffer → Buffer
 withRoom n s = cond (ltb (room s) n) (moved s) s
 
--- The buffer `s` with the bytes `ys` written at the write mark, which then stands after them.
+-- This is `s` with the bytes `ys` written at the write mark, which then stands after them.
 unfoldable pub appended : List ℕ → Buffer → Buffer
 appended ys s = buffer (overlay (s .bytes) (s .marks .write) ys) (at (s .marks .read) (s .marks .write + length ys))
 
@@ -56,12 +56,12 @@ appended ys s = buffer (overlay (s .bytes) (s .marks .write) ys) (at (s .marks .
 unfoldable pub fitting : ℕ → Buffer → ℕ
 fitting n s = min (room (withRoom n s)) n
 
--- What `write` leaves of `s`: room for all of `ys` is asked for, and then as many bytes from the front of `ys` are appended as fit.
+-- This is what `write` leaves of `s`: room for all of `ys` is asked for, and then as many bytes from the front of `ys` are appended as fit.
 unfoldable pub written : List ℕ → Buffer → Buffer
 written ys s = appended (take (fitting (length ys) s) ys) (withRoom (length ys) s)
 
--- What `fill_up_to` leaves of `s`: room for `n` bytes is asked for, and then the byte `v` is appended as often as it fits, at most `n`
--- times.
+-- This is what `fill_up_to` leaves of `s`: room for `n` bytes is asked for, and then the byte `v` is appended as often as it fits, at most
+-- `n` times.
 unfoldable pub filled : ℕ → ℕ → Buffer → Buffer
 filled v n s = appended (replicate (fitting n s) v) (withRoom n s)
 
@@ -69,26 +69,26 @@ filled v n s = appended (replicate (fitting n s) v) (withRoom n s)
 unfoldable pub lacksRoom : ℕ → Buffer → Bool
 lacksRoom n s = ltb (room (withRoom n s)) n
 
--- What `write_all` leaves of `s`. Room is asked for the larger of `want` (a packet may have that many bytes) and the length of `ys`. If
--- there is too little, nothing is written, but a move that was made stays; otherwise all of `ys` is appended.
+-- This is what `write_all` leaves of `s`. Room is asked for the larger of `want` (a packet may have that many bytes) and the length of
+-- `ys`. If there is too little, nothing is written, but the move stays; otherwise all of `ys` is appended.
 unfoldable pub writtenAll : ℕ → List ℕ → Buffer → Buffer
 writtenAll want ys s =
     cond (lacksRoom (max want (length ys)) s)
     (withRoom (max want (length ys)) s)
     (appended ys (withRoom (max want (length ys)) s))
 
--- How many bytes a read from `s` gives to a destination of `n` bytes: all that are unread, but at most `n`.
+-- This is how many bytes a read from `s` gives to a destination of `n` bytes: all that are unread, but at most `n`.
 unfoldable pub ready : ℕ → Buffer → ℕ
 ready n s = min (unread s) n
 
--- The bytes that such a read gives: the first unread bytes of `s`.
+-- These are the bytes that such a read gives: the first unread bytes of `s`, as many as the destination of `n` bytes can take.
 unfoldable pub given : ℕ → Buffer → List ℕ
 given n s = take (ready n s) (unreadBytes s)
 
--- What such a read leaves of `s`. "Reading advances the read mark only": by the number of bytes given.
+-- This is what such a read leaves of `s`. "Reading advances the read mark only": it goes up by the number of bytes given.
 unfoldable pub readOff : ℕ → Buffer → Buffer
 readOff n s = buffer (s .bytes) (at (s .marks .read + ready n s) (s .marks .write))
 
--- The buffer `s` emptied: both marks are 0, and the bytes stay.
+-- This is `s` emptied: both marks are 0, and the bytes stay.
 unfoldable pub emptied : Buffer → Buffer
 emptied s = buffer (s .bytes) (at 0 0)

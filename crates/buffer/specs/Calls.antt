@@ -1,5 +1,5 @@
--- What each public call on the buffer `s` answers and leaves, for any marks: document 01's answer number, a count, and the buffer.
--- Assumes nothing: these are definitions.
+-- Each public call on the buffer `s`, whatever its marks, answers with document 01's number and a count, and leaves a buffer. Assumes
+-- nothing: these are definitions.
 use Prim.Native.Nat.{ℕ, max}
 use mathlib.Core.Bool.{cond}
 use mathlib.Core.List.{List}
@@ -10,8 +10,8 @@ use Rattle.buffer.specs.declared.Marks.{Marks}
 use Rattle.buffer.specs.declared.Answer.{Answer}
 use Rattle.buffer.specs.declared.Answer.the-variants.{Done, Overflow, Broken}
 
--- What a call answers and leaves: `answer` is the number of 01's table, `count` is how many bytes the call took, gave or found, and
--- `leaves` is the buffer after it.
+-- A call has this outcome: `answer` is the number of 01's table, `count` is how many bytes the call took, gave or found, and `leaves` is
+-- the buffer after it.
 pub record Answering : Type 0 where
   pub answer : ℕ
   pub count : ℕ
@@ -20,8 +20,8 @@ pub record Answering : Type 0 where
 abbrev pub answering : ℕ → ℕ → Buffer → Answering
 answering answer count leaves = record { answer = answer; count = count; leaves = leaves }
 
--- The numbers and the buffer for each answer of the code. `m` are the marks at the call, and `b` are the bytes after it; an answer
--- carries the count `n` and the marks `t` after the call.
+-- This is the outcome that each answer of the code stands for. `m` are the marks at the call, and `b` are the bytes after it; an answer
+-- carries the marks `t` after the call, and the count `n` where there is one.
 abbrev pub answerOf : Marks → Answer → List ℕ → Answering
 answerOf m (Done n t) b = answering 0 n (buffer b t)
 answerOf m (Overflow t) b = answering 1 0 (buffer b t)
@@ -31,7 +31,7 @@ answerOf m Broken b = answering 10 0 (buffer b m)
 unfoldable pub unlessBroken : {A : Type 0} → Buffer → A → A → A
 unlessBroken s done refused = cond (isSound (length (s .bytes)) (s .marks)) done refused
 
--- A call that would answer `done` first checks the marks of `s`: if `s` is broken it answers 10 instead, and leaves "all as before".
+-- A call whose outcome would be `done` first checks the marks of `s`: if `s` is broken it answers 10 instead, and leaves "all as before".
 abbrev pub checked : Buffer → Answering → Answering
 checked s done = unlessBroken s done (answering 10 0 s)
 
@@ -68,7 +68,7 @@ writeAllCall want ys s =
 unfoldable pub readCall : ℕ → Buffer → Answering
 readCall n s = checked s (answering 0 (ready n s) (readOff n s))
 
--- What `read` leaves in the destination `d`: the bytes given stand at its front, and the rest is as before. If `s` is broken, all of `d`
--- is as before.
+-- This is what `read` leaves in the destination `d`: the bytes given stand at its front, and the rest is as before. If `s` is broken, all
+-- of `d` is as before.
 unfoldable pub readInto : List ℕ → Buffer → List ℕ
 readInto d s = unlessBroken s (overlay d 0 (given (length d) s)) d

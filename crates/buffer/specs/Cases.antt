@@ -1,4 +1,4 @@
--- One table of cases of the buffer's calls. proofs/Cases.antt states that each case holds. Assumes nothing.
+-- One table has the cases of the buffer's calls. proofs/Cases.antt states that each case holds. Assumes nothing.
 use mathlib.Core.List.{List, [], _∷_}
 use Prim.Native.Nat.{ℕ}
 use lib.ListN.{length, replicate}
@@ -7,7 +7,7 @@ use Rattle.fields.specs.Case as table-of
 use Rattle.buffer.specs.Buffer.{Buffer, buffer, at}
 use Rattle.buffer.specs.Calls.{Answering, answering, availableCall, cleanCall, shiftCall, writeCall, writeAllCall, fillCall, readCall, readInto}
 
--- A call of the buffer with its arguments. The argument of `read` is the destination as it is before the call.
+-- A call of the buffer comes with its arguments. The argument of `read` is the destination as it is before the call.
 pub data Call : Type 0 where
   available clean shift : Call
   write : List ℕ → Call
@@ -15,8 +15,8 @@ pub data Call : Type 0 where
   fillUpTo : ℕ → ℕ → Call
   read : List ℕ → Call
 
--- What is seen after a call: what it answers and leaves, and the destination of a read, which is empty for the other calls. `seen o d`
--- has the outcome `o` and the destination `d`.
+-- This is seen after a call: its outcome, and the destination of a read, which is empty for the other calls. `seen` makes one from the
+-- outcome `o` and the destination `d`.
 pub record Seen : Type 0 where
   pub answering : Answering
   pub destination : List ℕ
@@ -24,7 +24,7 @@ pub record Seen : Type 0 where
 abbrev seen : Answering → List ℕ → Seen
 seen o d = record { answering = o; destination = d }
 
--- What is seen after a call on the buffer `s`.
+-- This is seen after each call on the buffer `s`.
 unfoldable pub after : Call → Buffer → Seen
 after available s = seen (availableCall s) []
 after clean s = seen (cleanCall s) []
@@ -34,13 +34,13 @@ after (writeAll want ys) s = seen (writeAllCall want ys s) []
 after (fillUpTo v n) s = seen (fillCall v n s) []
 after (read d) s = seen (readCall (length d) s) (readInto d s)
 
--- A case of any call but `read`. On the bytes `b` with the read mark `r` and the write mark `w`, the call `c` answers the number `n` with
--- the count `k`, and leaves the bytes `b′` with the marks `r′` and `w′`.
+-- This is a case of any call but `read`. On the bytes `b` with the read mark `r` and the write mark `w`, the call `c` answers the number
+-- `n` with the count `k`, and leaves the bytes `b′` with the marks `r′` and `w′`.
 abbrev case : List ℕ → ℕ → ℕ → Call → ℕ → ℕ → List ℕ → ℕ → ℕ → Case
 case b r w c n k b′ r′ w′ = table-of.case (after c (buffer b (at r w))) (seen (answering n k (buffer b′ (at r′ w′))) [])
 
--- A case of `read`. On the bytes `b` with the marks `r` and `w`, a read into the destination `d` answers the number `n` with the count
--- `k`, and leaves the bytes as they were, the marks `r′` and `w′`, and the destination `d′`.
+-- This is a case of `read`. On the bytes `b` with the marks `r` and `w`, a read into the destination `d` answers the number `n` with the
+-- count `k`, and leaves the bytes as they were, the marks `r′` and `w′`, and the destination `d′`.
 abbrev reading : List ℕ → ℕ → ℕ → List ℕ → ℕ → ℕ → ℕ → ℕ → List ℕ → Case
 reading b r w d n k r′ w′ d′ = table-of.case (after (read d) (buffer b (at r w))) (seen (answering n k (buffer b (at r′ w′))) d′)
 

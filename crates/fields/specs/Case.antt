@@ -1,11 +1,11 @@
--- A table of cases. Each case pairs a value that the definitions compute with the value that is expected of them, by document 01 or by
--- the author of the case. The cases of one table may be of any kinds, so that tables of several crates can be joined under one statement.
--- Assumes nothing: these are definitions.
+-- A table of cases pairs values that the definitions compute with the values that are expected, by document 01 or by the author of the
+-- case. The cases of one table may be of any kinds, so that tables of several crates can be joined under one statement. Assumes nothing:
+-- these are definitions.
 use mathlib.Core.Path.{_≡_}
 use mathlib.Core.List.{List, [], _∷_}
 
--- A case has a kind, `Kind`, and two values of that kind: `computed` is what the definitions compute, `expected` is what is expected.
--- `case x y` is the case with `x` computed and `y` expected.
+-- A case has a kind, `Kind`, and two values of that kind: `computed` is what the definitions compute, and `expected` is what is expected.
+-- `case` makes one from the computed `x` and the expected `y`.
 pub record Case : Type 1 where
   pub Kind : Type 0
   pub computed : Kind

@@ -1,5 +1,4 @@
--- One table of cases, which shows what the definitions of specs/Field.antt mean. proofs/Cases.antt states that each case holds. Assumes
--- nothing.
+-- One table of cases shows what the definitions of specs/Field.antt mean. proofs/Cases.antt states that each case holds. Assumes nothing.
 use mathlib.Core.Bool.{true, false}
 use mathlib.Core.List.{List, [], _∷_}
 use Rattle.fields.specs.Field.{littleEndian, bigEndian, oneByte, get, put, tile, bits, getBits}

@@ -1,4 +1,4 @@
--- What a caller in C or Rust sees of the wrapper and the status. Assumes nothing: these are definitions.
+-- A caller in C or Rust sees this of the wrapper and the status. Assumes nothing: these are definitions.
 use Prim.Native.Nat.{ℕ}
 use mathlib.Core.Bool.{Bool, cond, _&&_}
 use mathlib.Core.List.{List, [], _∷_}
@@ -9,12 +9,12 @@ use Rattle.wrapper.specs.Counters.{residueOf}
 use Rattle.wrapper.specs.Status.{statusBytes}
 use Rattle.wrapper.specs.Wrapper.{isValid, directionNumber, wrapperOf}
 
--- The wrapper `w` in five numbers: tag, L, direction, LUN and block length.
+-- These are the five numbers of the wrapper `w`: tag, L, direction, LUN and block length.
 abbrev pub numbers : Wrapper → List ℕ
 numbers w = w .tag ∷ w .length ∷ directionNumber (w .direction) ∷ w .lun ∷ w .blocklength ∷ []
 
--- What a parse leaves: `number` is 1 for a valid message, 0 for an invalid one and 10 for a broken record; `fields` are the five lent
--- numbers, and `block` are the 16 lent bytes for the command block. `parse n f b` has these three.
+-- A parse leaves this: `number` is 1 for a valid message, 0 for an invalid one and 10 for a broken record; `fields` are the five lent
+-- numbers, and `block` are the 16 lent bytes for the command block. `parse` makes one from these three, `n`, `f` and `b`.
 pub record Parse : Type 0 where
   pub number : ℕ
   pub fields : List ℕ
@@ -23,18 +23,19 @@ pub record Parse : Type 0 where
 abbrev pub parse : ℕ → List ℕ → List ℕ → Parse
 parse n f b = record { number = n; fields = f; block = b }
 
--- Whether `fields` are five numbers and `block` is 16 bytes. If not, what the caller lent is a broken record.
+-- This tests whether `fields` are five numbers and `block` is 16 bytes. If not, what the caller lent is a broken record.
 unfoldable pub fits : List ℕ → List ℕ → Bool
 fits fields block = eqb (length fields) 5 && eqb (length block) 16
 
--- What the caller of a parse of the message `m` sees, with the lent `fields` and `block`. Only a valid message changes these.
+-- The caller of a parse of the message `m` sees this, with the lent `fields` and `block`. Only a valid message changes these.
 unfoldable pub shownParse : List ℕ → List ℕ → List ℕ → Parse
 shownParse m fields block =
     cond (fits fields block)
     (cond (isValid m) (parse 1 (numbers (wrapperOf m)) (wrapperOf m .block)) (parse 0 fields block))
     (parse 10 fields block)
 
--- What writing a status leaves: `number` is 01's answer number, and `bytes` are the lent bytes. `status n b` has these two.
+-- Writing a status leaves this: `number` is 01's answer number, and `bytes` are the lent bytes. `status` makes one from these two, `n` and
+-- `b`.
 pub record Status : Type 0 where
   pub number : ℕ
   pub bytes : List ℕ
@@ -42,9 +43,9 @@ pub record Status : Type 0 where
 abbrev pub status : ℕ → List ℕ → Status
 status n b = record { number = n; bytes = b }
 
--- What the caller who asks for a status sees, with the lent bytes `was`. The status is for a wrapper with the tag `tag` and the length
--- `L`, and for the firmware's figure `figure` and status byte `byte`. A `byte` above 2 is answered 12. If `was` are not 13 bytes, they
--- are a broken record, which is answered 10. Either refusal leaves `was` as they are.
+-- A caller who asks for a status sees this, with the lent bytes `was`. The status is for a wrapper with the tag `tag` and the length `L`,
+-- and for the firmware's figure `figure` and status byte `byte`. A `byte` above 2 is answered 12. If `was` are not 13 bytes, they are a
+-- broken record, which is answered 10. Either refusal leaves `was` as they are.
 unfoldable pub shownStatus : ℕ → ℕ → ℕ → ℕ → List ℕ → Status
 shownStatus tag L figure byte was =
     cond (eqb (length was) 13)

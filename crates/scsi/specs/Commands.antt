@@ -1,4 +1,4 @@
--- The fields of each command, where SPC, SBC and MMC place them in its command descriptor block `b`. "Fields are big-endian." Assumes
+-- The fields of each command are where SPC, SBC and MMC place them in its command descriptor block `b`. "Fields are big-endian." Assumes
 -- nothing: these are definitions.
 use Prim.Native.Nat.{ℕ}
 use mathlib.Core.Bool.{Bool}
@@ -13,26 +13,26 @@ use Rattle.scsi.specs.declared.ScsiCommand.the-variants.{Inquiry, TestUn
 
 -- ---- the three kinds of field
 
--- Whether the bit `bit` of the byte `byte` is set in `b`.
+-- This tests whether the bit `bit` of the byte `byte` is set in `b`.
 unfoldable pub flag : ℕ → ℕ → List ℕ → Bool
 flag byte bit b = eqb (getBits (bits byte bit 1) b) 1
 
--- The big-endian number in the `width` bytes of `b` from the byte `first` on.
+-- This is the big-endian number in the `width` bytes of `b` from the byte `first` on.
 abbrev pub number : ℕ → ℕ → List ℕ → ℕ
 number first width b = get (bigEndian first width) b
 
--- The byte of `b` at index `at`.
+-- This is the byte of `b` at index `at`.
 abbrev pub byte : ℕ → List ℕ → ℕ
 byte at b = get (oneByte at) b
 
--- What the number `n` means as SPC's PAGE CONTROL: 0 current, 1 changeable, 2 default, 3 saved. A number above 3, which its two bits
--- cannot hold, means current.
+-- This is what the number `n` means as SPC's PAGE CONTROL: 0 current, 1 changeable, 2 default, 3 saved. A number above 3, which its two
+-- bits cannot hold, means current.
 unfoldable pub pageControl : ℕ → PageControl
 pageControl n = getD (CurrentValues ∷ ChangeableValues ∷ DefaultValues ∷ SavedValues ∷ []) n CurrentValues
 
 -- ---- SPC
 
--- TEST UNIT READY has no field that is read.
+-- No field of TEST UNIT READY is read.
 abbrev pub testUnitReady : List ℕ → ScsiCommand
 testUnitReady b = TestUnitReady
 
@@ -55,7 +55,7 @@ modeSense10 b = ModeSense10 (flag 1 3 b) (pageControl (getBits (bits 2 6 2) b)) 
 
 -- ---- SBC
 
--- READ CAPACITY (10) has no field that is read.
+-- No field of READ CAPACITY (10) is read.
 abbrev pub readCapacity10 : List ℕ → ScsiCommand
 readCapacity10 b = ReadCapacity10
 

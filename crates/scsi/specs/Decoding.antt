@@ -11,8 +11,8 @@ use Rattle.scsi.specs.declared.ScsiCommand.{ScsiCommand}
 use Rattle.scsi.specs.declared.ScsiCommand.the-variants.{Unknown}
 use Rattle.scsi.specs.Commands.{testUnitReady, requestSense, inquiry, modeSense6, modeSense10, readCapacity10, readCapacity16, read10, write10, read16, write16, readFormatCapacities}
 
--- A row of the table: `opcode`, the length `shortest` of its shortest block, and `fields`, the command that a block with this opcode
--- decodes to. `row o n f` has these three.
+-- A row of the table has `opcode`; `shortest`, the length of its shortest block; and `fields`, which gives the command of a block with this
+-- opcode. `row` makes one from these three, `o`, `n` and `f`.
 pub record Layout : Type 0 where
   pub opcode : ℕ
   pub shortest : ℕ
@@ -21,7 +21,7 @@ pub record Layout : Type 0 where
 abbrev row : ℕ → ℕ → (List ℕ → ScsiCommand) → Layout
 row o n f = record { opcode = o; shortest = n; fields = f }
 
--- "Opcode and shortest block length stand in a constant table": this one.
+-- "Opcode and shortest block length stand in a constant table": it is this one.
 abbrev pub rows : List Layout
 rows =
     row 0x00 1 testUnitReady
@@ -42,23 +42,24 @@ rows =
 abbrev pub opcodeOf : List ℕ → ℕ
 opcodeOf b = get (oneByte 0) b
 
--- Whether a table lists `opcode` with a block of `n` bytes: the first row that has the opcode decides, by its shortest block. `r` is the
--- first row of the table, and `rs` are the others.
+-- This tests whether a table lists `opcode` with a block of `n` bytes: the first row that has the opcode decides, by its shortest block.
+-- `r` is the first row of the table, and `rs` are the others.
 unfoldable pub lists : List Layout → ℕ → ℕ → Bool
 lists [] opcode n = false
 lists (r ∷ rs) opcode n = cond (eqb (r .opcode) opcode) (leb (r .shortest) n) (lists rs opcode n)
 
--- "88 and 8A count only with extended addressing": whether `opcode` counts, where `extended` says whether extended addressing is on.
+-- "88 and 8A count only with extended addressing": this tests whether `opcode` counts, and `extended` says whether extended addressing is
+-- on.
 unfoldable pub counts : Bool → ℕ → Bool
 counts extended opcode = extended || not (eqb opcode 0x88 || eqb opcode 0x8A)
 
--- Whether a block of `n` bytes with `opcode` is a listed command: the opcode counts with `extended`, and the table lists it with that
--- length.
+-- This tests whether a block of `n` bytes with `opcode` is a listed command: the opcode counts, with extended addressing on or off as
+-- `extended` says, and the table lists it with that length.
 unfoldable pub isListed : Bool → ℕ → ℕ → Bool
 isListed extended opcode n = counts extended opcode && lists rows opcode n
 
--- The command that the block `b` is by the first row that has `opcode`, and Unknown if no row has it. `r` is the first row, and `rs` are
--- the others.
+-- This is the command that the block `b` stands for by the first row that has `opcode`, and Unknown if no row has it. `r` is the first row,
+-- and `rs` are the others.
 unfoldable pub fieldsBy : List Layout → ℕ → List ℕ → ScsiCommand
 fieldsBy [] opcode b = Unknown opcode
 fieldsBy (r ∷ rs) opcode b = cond (eqb (r .opcode) opcode) (r .fields b) (fieldsBy rs opcode b)
@@ -68,7 +69,8 @@ fieldsBy (r ∷ rs) opcode b = cond (eqb (r .opcode) opcode) (r .fields b) (fiel
 unfoldable pub decoded : Bool → List ℕ → ScsiCommand
 decoded extended b = cond (isListed extended (opcodeOf b) (length b)) (fieldsBy rows (opcodeOf b) b) (Unknown (opcodeOf b))
 
--- What decoding answers: `answer` is 01's answer number, and `commands` has the command, or nothing in a refusal.
+-- Decoding has this outcome: `answer` is 01's answer number, and `commands` has the command, or nothing in a refusal. `answering` makes one
+-- from the number `n` and the commands `c`.
 pub record Answering : Type 0 where
   pub answer : ℕ
   pub commands : List ScsiCommand
@@ -76,16 +78,16 @@ pub record Answering : Type 0 where
 abbrev answering : ℕ → List ScsiCommand → Answering
 answering n c = record { answer = n; commands = c }
 
--- 01's number and the command for each answer of the code; `c` is the command that it carries.
+-- This is the outcome that each answer of the code stands for; `c` is the command that it carries.
 abbrev pub answerOf : Decoded → Answering
 answerOf (Command c) = answering 0 (c ∷ [])
 answerOf Empty = answering 13 []
 
--- What decoding the block `b` answers: 13 for "decoding an empty block", otherwise 0 with the command. `extended` says whether extended
+-- Decoding the block `b` has this outcome: 13 for "decoding an empty block", otherwise 0 with the command. `extended` says whether extended
 -- addressing is on.
 unfoldable pub decodeCall : Bool → List ℕ → Answering
 decodeCall extended b = cond (eqb (length b) 0) (answering 13 []) (answering 0 (decoded extended b ∷ []))
 
--- What the plain entry answers for the block `b`: "the plain entry has it off".
+-- The plain entry has this outcome for the block `b`: "the plain entry has it off".
 unfoldable pub plainCall : List ℕ → Answering
 plainCall b = decodeCall false b

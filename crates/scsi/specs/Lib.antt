@@ -1,4 +1,4 @@
--- The definitions that a reader of the decoder has to believe: document 01, section Decoding.
+-- A reader of the decoder has to believe these definitions: document 01, section Decoding.
 --     Commands    the standards' fields of each command
 --     Decoding    the table of opcodes and shortest lengths, and what a block decodes to
 --     Numbers     a command as six numbers, for callers in C and Rust

@@ -1,4 +1,4 @@
--- One table of cases of the wrapper, the status, the residue and the verdict. proofs/Cases.antt states that each case holds. Assumes
+-- One table has the cases of the wrapper, the status, the residue and the verdict. proofs/Cases.antt states that each case holds. Assumes
 -- nothing.
 use mathlib.Core.Bool.{true, false}
 use mathlib.Core.List.{List, [], _∷_, _++_}
@@ -14,7 +14,7 @@ use Rattle.wrapper.specs.Status.{statusTable, statusSignature, statusNum
 use Rattle.wrapper.specs.Wrapper.{wrapperTable, wrapperSignature, directionOf, wrapperOf, blank, parsed}
 use Rattle.wrapper.specs.Verdict.{verdictOf}
 
--- A wrapper with tag 01020304 and L = 512, in which `flags`, `lun` and `blocklength` are the bytes 12, 13 and 14.
+-- This is a wrapper with tag 01020304 and L = 512, in which `flags`, `lun` and `blocklength` are the bytes 12, 13 and 14.
 abbrev pub message : ℕ → ℕ → ℕ → List ℕ
 message flags lun blocklength =
     0x55 ∷ 0x53 ∷ 0x42 ∷ 0x43 ∷ 4 ∷ 3 ∷ 2 ∷ 1 ∷ 0 ∷ 2 ∷ 0 ∷ 0 ∷ flags ∷ lun ∷ blocklength ∷ 0x28 ∷ replicate 15 0

@@ -1,4 +1,4 @@
--- The definitions that a reader of the wrapper and the status has to believe.
+-- A reader of the wrapper and the status has to believe these definitions.
 --     Counters    the count left on the wire, and the residue
 --     Status      BOT's table of the status (CSW), its status byte, and the 13 bytes
 --     Wrapper     BOT's table of the wrapper (CBW), which wrappers are valid, and what a valid one says

@@ -13,12 +13,12 @@ use Rattle.wrapper.specs.declared.verdict.Verdict.the-variants.{Invalid,
 unfoldable pub isMeaningful : ℕ → List ℕ → Bool
 isMeaningful maxLun m = leb (getBits bCBWLUN m) maxLun && isBlockLength (get bCBWCBLength m)
 
--- The verdict on the message `m` for a device with the max LUN `maxLun`: "invalid unless 31 bytes with the signature; meaningful if also
--- ..; otherwise valid only".
+-- This is the verdict on the message `m` for a device with the max LUN `maxLun`: "invalid unless 31 bytes with the signature; meaningful if
+-- also ..; otherwise valid only".
 unfoldable pub verdictOf : ℕ → List ℕ → Verdict
 verdictOf maxLun m = cond (isSigned m) (cond (isMeaningful maxLun m) Meaningful ValidOnly) Invalid
 
--- Our numbers for the three verdicts, since 01 gives none.
+-- These are our numbers for the three verdicts, since 01 gives none.
 abbrev pub verdictNumber : Verdict → ℕ
 verdictNumber Invalid = 0
 verdictNumber ValidOnly = 1

@@ -11,19 +11,20 @@ use Rattle.wrapper.specs.declared.DataDirection.the-variants.{Out, In, N
 use Rattle.wrapper.specs.declared.Wrapper.{Wrapper}
 use Rattle.wrapper.specs.declared.Parsed.{Parsed}
 
--- The fields of BOT's table by their names there: each has its first byte and its number of bytes. All numbers in BOT are little-endian.
+-- These are the fields of BOT's table by their names there, each with its first byte and its number of bytes. All numbers in BOT are
+-- little-endian.
 abbrev pub dCBWSignature : Field
 dCBWSignature = littleEndian 0 4
 
--- "4 to 7 tag"
+-- 01 says of it: "4 to 7 tag".
 abbrev pub dCBWTag : Field
 dCBWTag = littleEndian 4 4
 
--- "8 to 11 length L, little-endian"
+-- 01 says of it: "8 to 11 length L, little-endian".
 abbrev pub dCBWDataTransferLength : Field
 dCBWDataTransferLength = littleEndian 8 4
 
--- "12 flags"
+-- 01 says of it: "12 flags".
 abbrev pub bmCBWFlags : Field
 bmCBWFlags = oneByte 12
 
@@ -31,20 +32,20 @@ bmCBWFlags = oneByte 12
 abbrev pub direction : Bits
 direction = bits 12 7 1
 
--- "13 LUN, low four bits"; BOT reserves the others.
+-- 01 says of it: "13 LUN, low four bits". BOT reserves the other four.
 abbrev pub bCBWLUN : Bits
 bCBWLUN = bits 13 0 4
 
--- For the block length BOT has bits 0 to 4 of this byte and reserves the others. 01 and the Rust look at the whole byte, which is above
--- 16 if a reserved bit is set.
+-- For the block length BOT has bits 0 to 4 of this byte and reserves the others. 01 and the Rust look at the whole byte, which is above 16
+-- if a reserved bit is set.
 abbrev pub bCBWCBLength : Field
 bCBWCBLength = oneByte 14
 
--- "15 to 30 the command block". It is not a number: only its bytes are used, and its order never counts.
+-- 01 says of it: "15 to 30 the command block". It is not a number: only its bytes are used, and its order never counts.
 abbrev pub CBWCB : Field
 CBWCB = littleEndian 15 16
 
--- BOT's whole table, in order. The byte at 13 stands here as a whole; `bCBWLUN` is a part of it.
+-- This is BOT's whole table, in order. The byte at 13 stands here as a whole; `bCBWLUN` is a part of it.
 abbrev pub wrapperTable : List Field
 wrapperTable = dCBWSignature ∷ dCBWTag ∷ dCBWDataTransferLength ∷ bmCBWFlags ∷ oneByte 13 ∷ bCBWCBLength ∷ CBWCB ∷ []
 
@@ -52,16 +53,16 @@ wrapperTable = dCBWSignature ∷ dCBWTag ∷ dCBWDataTransferLength ∷ bmCBWFla
 abbrev pub wrapperSignature : ℕ
 wrapperSignature = 0x43425355
 
--- Whether the message `m` has 31 bytes, and the signature.
+-- This tests whether the message `m` has 31 bytes, and the signature.
 unfoldable pub isSigned : List ℕ → Bool
 isSigned m = eqb (length m) 31 && eqb (get dCBWSignature m) wrapperSignature
 
--- "14 block length, 1 to 16": whether `n` is such a length.
+-- This tests whether `n` is a block length as 01 has it: "14 block length, 1 to 16".
 unfoldable pub isBlockLength : ℕ → Bool
 isBlockLength n = leb 1 n && leb n 16
 
--- "A wrong signature or block length is invalid, all else valid; the demands mean this sense." `Valid m` says as a fact, and `isValid m`
--- as a test, that the message `m` has 31 bytes, the signature, and a block length of 1 to 16.
+-- "A wrong signature or block length is invalid, all else valid; the demands mean this sense." `Valid` says as a fact, and `isValid` as a
+-- test, that the message `m` has 31 bytes, the signature, and a block length of 1 to 16.
 pub record Valid (m : List ℕ) : Type 0 where
   pub whole : length m ≡ 31
   pub signature : get dCBWSignature m ≡ wrapperSignature
@@ -75,17 +76,17 @@ isValid m = isSigned m && isBlockLength (get bCBWCBLength m)
 unfoldable pub directionOf : ℕ → ℕ → DataDirection
 directionOf length toHost = cond (eqb length 0) NotExpected (cond (eqb toHost 1) In Out)
 
--- Our numbers for the directions, for callers in C and Rust: 0 is no data, 1 is to the host, 2 is from the host.
+-- These are our numbers for the directions, for callers in C and Rust: 0 is no data, 1 is to the host, 2 is from the host.
 abbrev pub directionNumber : DataDirection → ℕ
 directionNumber Out = 2
 directionNumber In = 1
 directionNumber NotExpected = 0
 
--- The direction whose number is `n`. A number above 2 belongs to no direction; for it this gives `Out`.
+-- This is the direction whose number is `n`. A number above 2 belongs to no direction; for it this gives `Out`.
 unfoldable pub directionOfNumber : ℕ → DataDirection
 directionOfNumber n = cond (eqb n 0) NotExpected (cond (eqb n 1) In Out)
 
--- What the message `m` says, field by field, if it is a valid wrapper.
+-- This is what the message `m` says, field by field, if it is a valid wrapper.
 unfoldable pub wrapperOf : List ℕ → Wrapper
 wrapperOf m = record {
   tag = get dCBWTag m;
@@ -96,14 +97,14 @@ wrapperOf m = record {
   block = bytesAt CBWCB m;
 }
 
--- The wrapper that stands where there is none: all its numbers are 0, and no data is expected.
+-- This wrapper stands where there is none: all its numbers are 0, and no data is expected.
 unfoldable pub blank : Wrapper
 blank = record { tag = 0; length = 0; direction = NotExpected; lun = 0; blocklength = 0; block = replicate 16 0 }
 
--- What parsing gives for a valid message: it is valid, and `w` is its wrapper.
+-- Parsing a valid message with the wrapper `w` gives this.
 abbrev pub taken : Wrapper → Parsed
 taken w = record { valid = true; wrapper = w }
 
--- What parsing gives for any message `m`: if it is valid, all its fields; otherwise only that it is invalid, with the blank wrapper.
+-- Parsing any message `m` gives this: if it is valid, all its fields; otherwise only that it is invalid, with the blank wrapper.
 unfoldable pub parsed : List ℕ → Parsed
 parsed m = cond (isValid m) (taken (wrapperOf m)) (record { valid = false; wrapper = blank })

@@ -1,4 +1,4 @@
--- Sound marks as a fact, where `isSound` is a test. The inner forms of the calls require and promise it. Assumes nothing: these are
+-- Sound marks are a fact here; `isSound` is the test. The inner forms of the calls require and promise the fact. Assumes nothing: these are
 -- definitions.
 use mathlib.Core.Path.{_≡_}
 use Prim.Native.Nat.{_≤_}
@@ -10,7 +10,7 @@ pub record Sound (s : Buffer) : Type 0 where
   pub order : s .marks .read ≤ s .marks .write
   pub within : s .marks .write ≤ length (s .bytes)
 
--- What a call on sound marks promises of the buffer `s` that it leaves: `s` is `t`, and the marks of `s` are sound again.
+-- A call on sound marks promises this of the buffer `s` that it leaves: `s` is `t`, and the marks of `s` are sound again.
 pub record Leaves (s t : Buffer) : Type 0 where
   pub same : s ≡ t
   pub sound : Sound s
