@@ -18,8 +18,8 @@ pub record Answering : Type 0 where
 abbrev pub answer : ℕ → Answering
 answer n = record { number = n; carried = 0 }
 
--- This is the table's number for each answer of the code. "7 other endpoint error, its number carried": `n` is that number, and no other
--- answer carries one.
+-- This is the table's number for each answer of the code. "7 other endpoint error, its number carried": `n`
+-- is that number, and no other answer carries one.
 abbrev pub answerOf : Answer → Answering
 answerOf Done = answer 0
 answerOf IoBufferOverflow = answer 1
@@ -46,8 +46,8 @@ serves Served = true
 serves Busy = false
 serves (Failed n) = false
 
--- A call answers this, by what the endpoint that it asks does. 6: "the endpoint asked is busy". 7: "other endpoint error, its number
--- carried".
+-- A call answers this, by what the endpoint that it asks does.
+-- 6: "the endpoint asked is busy". 7: "other endpoint error, its number carried".
 abbrev pub answeredBy : Endpoint → Answering
 answeredBy Served = answer 0
 answeredBy Busy = answer 6

@@ -21,8 +21,8 @@ buffer b m = record { bytes = b; marks = m }
 abbrev pub at : ℕ → ℕ → Marks
 at r w = record { read = r; write = w }
 
--- This tests whether the marks `m` are sound in a buffer of `len` bytes: the read mark is at most the write mark, and that is at most
--- `len`.
+-- This tests whether the marks `m` are sound in a buffer of `len` bytes: the read mark is at
+-- most the write mark, and that is at most `len`.
 unfoldable pub isSound : ℕ → Marks → Bool
 isSound len m = leb (m .read) (m .write) && leb (m .write) len
 
@@ -38,13 +38,13 @@ unreadBytes s = take (unread s) (drop (s .marks .read) (s .bytes))
 abbrev pub room : Buffer → ℕ
 room s = length (s .bytes) - s .marks .write
 
--- This is `s` after the move: "unread bytes move to the front (both marks go to 0 if none)". The new write mark is how many bytes are
--- unread.
+-- This is `s` after the move: "unread bytes move to the front (both marks go to 0 if none)".
+-- The new write mark is how many bytes are unread.
 unfoldable pub moved : Buffer → Buffer
 moved s = buffer (overlay (s .bytes) 0 (unreadBytes s)) (at 0 (unread s))
 
--- This is `s` after room for `n` bytes was asked for. "If room behind the write mark is too small" for them, the move is made; otherwise
--- `s` stays as it is.
+-- This is `s` after room for `n` bytes was asked for. "If room behind the write mark is too small" for them,
+-- the move is made; otherwise `s` stays as it is.
 unfoldable pub withRoom : ℕ → Buffer → Buffer
 withRoom n s = cond (ltb (room s) n) (moved s) s
 
@@ -60,8 +60,8 @@ fitting n s = min (room (withRoom n s)) n
 unfoldable pub written : List ℕ → Buffer → Buffer
 written ys s = appended (take (fitting (length ys) s) ys) (withRoom (length ys) s)
 
--- This is what `fill_up_to` leaves of `s`: room for `n` bytes is asked for, and then the byte `v` is appended as often as it fits, at most
--- `n` times.
+-- This is what `fill_up_to` leaves of `s`: room for `n` bytes is asked for, and then the byte `v` is
+-- appended as often as it fits, at most `n` times.
 unfoldable pub filled : ℕ → ℕ → Buffer → Buffer
 filled v n s = appended (replicate (fitting n s) v) (withRoom n s)
 

@@ -1,5 +1,5 @@
--- Each public call on the buffer `s`, whatever its marks, answers with document 01's number and a count, and leaves a buffer. Assumes
--- nothing: these are definitions.
+-- Each public call on the buffer `s`, whatever its marks, answers with document 01's number and a count, and leaves a buffer.
+-- Assumes nothing: these are definitions.
 use Prim.Native.Nat.{ℕ, max}
 use mathlib.Core.Bool.{cond}
 use mathlib.Core.List.{List}
@@ -10,8 +10,8 @@ use Rattle.buffer.specs.declared.Marks.{Marks}
 use Rattle.buffer.specs.declared.Answer.{Answer}
 use Rattle.buffer.specs.declared.Answer.the-variants.{Done, Overflow, Broken}
 
--- A call has this outcome: `answer` is the number of 01's table, `count` is how many bytes the call took, gave or found, and `leaves` is
--- the buffer after it.
+-- A call has this outcome: `answer` is the number of 01's table, `count` is how many bytes the call took,
+-- gave or found, and `leaves` is the buffer after it.
 pub record Answering : Type 0 where
   pub answer : ℕ
   pub count : ℕ
@@ -55,8 +55,8 @@ writeCall ys s = checked s (answering 0 (fitting (length ys) s) (written ys s))
 unfoldable pub fillCall : ℕ → ℕ → Buffer → Answering
 fillCall v n s = checked s (answering 0 (fitting n s) (filled v n s))
 
--- `write_all` takes all of `ys` into `s`, and the count is their number; or it answers 1, "room, after moving, is below P (packet read)
--- or the source". `want` is that P where a packet is read, and the source is `ys`.
+-- `write_all` takes all of `ys` into `s`, and the count is their number; or it answers 1, because
+-- "room, after moving, is below P (packet read) or the source". `want` is that P where a packet is read, and the source is `ys`.
 unfoldable pub writeAllCall : ℕ → List ℕ → Buffer → Answering
 writeAllCall want ys s =
     checked s
@@ -68,7 +68,7 @@ writeAllCall want ys s =
 unfoldable pub readCall : ℕ → Buffer → Answering
 readCall n s = checked s (answering 0 (ready n s) (readOff n s))
 
--- This is what `read` leaves in the destination `d`: the bytes given stand at its front, and the rest is as before. If `s` is broken, all
--- of `d` is as before.
+-- This is what `read` leaves in the destination `d`: the bytes given stand at its front, and the rest is as
+-- before. If `s` is broken, all of `d` is as before.
 unfoldable pub readInto : List ℕ → Buffer → List ℕ
 readInto d s = unlessBroken s (overlay d 0 (given (length d) s)) d

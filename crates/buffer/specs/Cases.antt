@@ -15,8 +15,8 @@ pub data Call : Type 0 where
   fillUpTo : ℕ → ℕ → Call
   read : List ℕ → Call
 
--- This is seen after a call: its outcome, and the destination of a read, which is empty for the other calls. `seen` makes one from the
--- outcome `o` and the destination `d`.
+-- This is seen after a call: its outcome, and the destination of a read, which is empty for the other calls. `seen` makes
+-- one from the outcome `o` and the destination `d`.
 pub record Seen : Type 0 where
   pub answering : Answering
   pub destination : List ℕ

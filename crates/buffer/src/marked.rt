@@ -1,5 +1,5 @@
-// These are the buffer's calls for marks that are known to be sound: read mark ≤ write mark ≤ length. Each call promises sound marks again,
-// so that a caller has to test only once.
+// These are the buffer's calls for marks that are known to be sound: read mark ≤ write mark ≤ length. Each call promises sound
+// marks again, so that a caller has to test only once.
 use crate::Marks;
 use crate::span::fill;
 use crate::span::move_front;

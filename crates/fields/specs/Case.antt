@@ -1,6 +1,6 @@
 -- A table of cases pairs values that the definitions compute with the values that are expected, by document 01 or by the author of the
--- case. The cases of one table may be of any kinds, so that tables of several crates can be joined under one statement. Assumes nothing:
--- these are definitions.
+-- case. The cases of one table may be of any kinds, so that tables of several crates can be joined under one statement.
+-- Assumes nothing: these are definitions.
 use mathlib.Core.Path.{_≡_}
 use mathlib.Core.List.{List, [], _∷_}
 

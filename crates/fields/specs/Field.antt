@@ -7,13 +7,13 @@ use lib.Dec.{eqb}
 use lib.ListN.{take, drop, getD}
 use Rattle.fields.specs.Overlay.{overlay}
 
--- A number's bytes stand in one of two orders: `little` (little-endian) has the least significant byte first, `big` (big-endian) the most
--- significant one.
+-- A number's bytes stand in one of two orders: `little` (little-endian) has the least significant byte
+-- first, `big` (big-endian) the most significant one.
 pub data Order : Type 0 where
   little big : Order
 
--- A field of whole bytes has an order of its bytes, `order`; `start` is the index of its first byte in the message, and `width` is the
--- number of its bytes.
+-- A field of whole bytes has an order of its bytes, `order`; `start` is the index of its first byte in the
+-- message, and `width` is the number of its bytes.
 pub record Field : Type 0 where
   pub order : Order
   pub start : ℕ
@@ -34,8 +34,8 @@ oneByte start = littleEndian start 1
 unfoldable pub bytesAt : Field → List ℕ → List ℕ
 bytesAt f m = take (f .width) (drop (f .start) m)
 
--- This is the number that bytes stand for, with the least significant byte first: the first byte, `b`, counts once, and what the others,
--- `bs`, stand for counts 256 times.
+-- This is the number that bytes stand for, with the least significant byte first: the first byte, `b`, counts once, and
+-- what the others, `bs`, stand for counts 256 times.
 unfoldable pub counted : List ℕ → ℕ
 counted [] = 0
 counted (b ∷ bs) = b + 256 * counted bs
@@ -45,8 +45,8 @@ unfoldable pub digits : ℕ → ℕ → List ℕ
 digits zero n = []
 digits (suc w) n = n % 256 ∷ digits w (n / 256)
 
--- The bytes `bs` stand in the given order. This turns them so that the least significant byte comes first. Turned twice they are `bs`
--- again, so both `get` and `put` use it.
+-- The bytes `bs` stand in the given order. This turns them so that the least significant byte comes first. Turned twice they
+-- are `bs` again, so both `get` and `put` use it.
 unfoldable pub ordered : Order → List ℕ → List ℕ
 ordered little bs = bs
 ordered big bs = reverse bs

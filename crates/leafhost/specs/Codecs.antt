@@ -34,8 +34,8 @@ shownParse m fields block =
     (cond (isValid m) (parse 1 (numbers (wrapperOf m)) (wrapperOf m .block)) (parse 0 fields block))
     (parse 10 fields block)
 
--- Writing a status leaves this: `number` is 01's answer number, and `bytes` are the lent bytes. `status` makes one from these two, `n` and
--- `b`.
+-- Writing a status leaves this: `number` is 01's answer number, and `bytes` are the lent bytes.
+-- `status` makes one from these two, `n` and `b`.
 pub record Status : Type 0 where
   pub number : ℕ
   pub bytes : List ℕ

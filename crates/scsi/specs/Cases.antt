@@ -28,8 +28,8 @@ starred =
     ∷ plain (0x1A ∷ 0x08 ∷ 0xBF ∷ 0x00 ∷ 0xC0 ∷ []) (ModeSense6 true DefaultValues 63 0 192)
     ∷ []
 
--- These cases are ours. Rows are tried at their shortest length, and some with a byte less; in most of them the bytes show the place and
--- the order of each field.
+-- These cases are ours. Rows are tried at their shortest length, and some with a byte less; in most of them the
+-- bytes show the place and the order of each field.
 unfoldable pub ours : List Case
 ours =
     -- "four bytes: Unknown"

@@ -1,5 +1,5 @@
--- The fields of each command are where SPC, SBC and MMC place them in its command descriptor block `b`. "Fields are big-endian." Assumes
--- nothing: these are definitions.
+-- The fields of each command are where SPC, SBC and MMC place them in its command descriptor block `b`. "Fields are big-endian."
+-- Assumes nothing: these are definitions.
 use Prim.Native.Nat.{ℕ}
 use mathlib.Core.Bool.{Bool}
 use mathlib.Core.List.{List, [], _∷_}
@@ -25,8 +25,8 @@ number first width b = get (bigEndian first width) b
 abbrev pub byte : ℕ → List ℕ → ℕ
 byte at b = get (oneByte at) b
 
--- This is what the number `n` means as SPC's PAGE CONTROL: 0 current, 1 changeable, 2 default, 3 saved. A number above 3, which its two
--- bits cannot hold, means current.
+-- This is what the number `n` means as SPC's PAGE CONTROL: 0 current, 1 changeable, 2 default, 3 saved. A number above
+-- 3, which its two bits cannot hold, means current.
 unfoldable pub pageControl : ℕ → PageControl
 pageControl n = getD (CurrentValues ∷ ChangeableValues ∷ DefaultValues ∷ SavedValues ∷ []) n CurrentValues
 
@@ -44,8 +44,8 @@ requestSense b = RequestSense (flag 1 0 b) (byte 4 b)
 abbrev pub inquiry : List ℕ → ScsiCommand
 inquiry b = Inquiry (flag 1 0 b) (byte 2 b) (number 3 2 b)
 
--- MODE SENSE (6): DBD is byte 1 bit 3, PC is byte 2 bits 6 to 7, PAGE CODE is byte 2 bits 0 to 5, SUBPAGE CODE is byte 3, ALLOCATION
--- LENGTH is byte 4.
+-- MODE SENSE (6): DBD is byte 1 bit 3, PC is byte 2 bits 6 to 7, PAGE CODE is byte 2 bits 0 to 5,
+-- SUBPAGE CODE is byte 3, ALLOCATION LENGTH is byte 4.
 abbrev pub modeSense6 : List ℕ → ScsiCommand
 modeSense6 b = ModeSense6 (flag 1 3 b) (pageControl (getBits (bits 2 6 2) b)) (getBits (bits 2 0 6) b) (byte 3 b) (byte 4 b)
 

@@ -48,8 +48,8 @@ unfoldable pub lists : List Layout → ℕ → ℕ → Bool
 lists [] opcode n = false
 lists (r ∷ rs) opcode n = cond (eqb (r .opcode) opcode) (leb (r .shortest) n) (lists rs opcode n)
 
--- "88 and 8A count only with extended addressing": this tests whether `opcode` counts, and `extended` says whether extended addressing is
--- on.
+-- "88 and 8A count only with extended addressing": this tests whether `opcode` counts, and
+-- `extended` says whether extended addressing is on.
 unfoldable pub counts : Bool → ℕ → Bool
 counts extended opcode = extended || not (eqb opcode 0x88 || eqb opcode 0x8A)
 
@@ -58,19 +58,19 @@ counts extended opcode = extended || not (eqb opcode 0x88 || eqb opcode 0x8A)
 unfoldable pub isListed : Bool → ℕ → ℕ → Bool
 isListed extended opcode n = counts extended opcode && lists rows opcode n
 
--- This is the command that the block `b` stands for by the first row that has `opcode`, and Unknown if no row has it. `r` is the first row,
--- and `rs` are the others.
+-- This is the command that the block `b` stands for by the first row that has `opcode`, and Unknown if no row has
+-- it. `r` is the first row, and `rs` are the others.
 unfoldable pub fieldsBy : List Layout → ℕ → List ℕ → ScsiCommand
 fieldsBy [] opcode b = Unknown opcode
 fieldsBy (r ∷ rs) opcode b = cond (eqb (r .opcode) opcode) (r .fields b) (fieldsBy rs opcode b)
 
--- "Anything else, or shorter, is Unknown with its opcode." This is the command that the block `b` decodes to; `extended` says whether
--- extended addressing is on.
+-- "Anything else, or shorter, is Unknown with its opcode." This is the command that the block `b` decodes to;
+-- `extended` says whether extended addressing is on.
 unfoldable pub decoded : Bool → List ℕ → ScsiCommand
 decoded extended b = cond (isListed extended (opcodeOf b) (length b)) (fieldsBy rows (opcodeOf b) b) (Unknown (opcodeOf b))
 
--- Decoding has this outcome: `answer` is 01's answer number, and `commands` has the command, or nothing in a refusal. `answering` makes one
--- from the number `n` and the commands `c`.
+-- Decoding has this outcome: `answer` is 01's answer number, and `commands` has the command, or nothing in a refusal. `answering`
+-- makes one from the number `n` and the commands `c`.
 pub record Answering : Type 0 where
   pub answer : ℕ
   pub commands : List ScsiCommand
@@ -83,8 +83,8 @@ abbrev pub answerOf : Decoded → Answering
 answerOf (Command c) = answering 0 (c ∷ [])
 answerOf Empty = answering 13 []
 
--- Decoding the block `b` has this outcome: 13 for "decoding an empty block", otherwise 0 with the command. `extended` says whether extended
--- addressing is on.
+-- Decoding the block `b` has this outcome: 13 for "decoding an empty block", otherwise 0 with the command.
+-- `extended` says whether extended addressing is on.
 unfoldable pub decodeCall : Bool → List ℕ → Answering
 decodeCall extended b = cond (eqb (length b) 0) (answering 13 []) (answering 0 (decoded extended b ∷ []))
 

@@ -27,8 +27,8 @@ controlNumber SavedValues = 3
 abbrev pub six : ℕ → ℕ → ℕ → ℕ → ℕ → ℕ → List ℕ
 six kind a b c d e = kind ∷ a ∷ b ∷ c ∷ d ∷ e ∷ []
 
--- These are the six numbers of each command. The kinds are numbered in the order of the Rust's enum. The fields of a command stand in their
--- order, with 0 after the last one.
+-- These are the six numbers of each command. The kinds are numbered in the order of the Rust's enum. The fields of a command
+-- stand in their order, with 0 after the last one.
 abbrev pub numbers : ScsiCommand → List ℕ
 numbers (Unknown cmd) = six 0 cmd 0 0 0 0
 numbers (Inquiry evpd page allocation) = six 1 (flagNumber evpd) page allocation 0 0
@@ -42,8 +42,8 @@ numbers (Read address blocks) = six 8 address blocks 0 0 0
 numbers (Write address blocks) = six 9 address blocks 0 0 0
 numbers (ReadFormatCapacities allocation) = six 10 allocation 0 0 0 0
 
--- A call leaves this with its caller: `number` is the result, and `lent` are the lent numbers after the call. `shown` makes one from the
--- number `n` and the lent numbers `l`.
+-- A call leaves this with its caller: `number` is the result, and `lent` are the lent numbers after the call. `shown` makes
+-- one from the number `n` and the lent numbers `l`.
 pub record Shown : Type 0 where
   pub number : ℕ
   pub lent : List ℕ
@@ -56,8 +56,8 @@ abbrev pub laid : List ℕ → List ScsiCommand → List ℕ
 laid was [] = was
 laid was (c ∷ cs) = numbers c
 
--- The caller sees this of the outcome `o`, with the lent numbers `was`. If these are not six, they are a broken record: the result is 10,
--- and all is as before.
+-- The caller sees this of the outcome `o`, with the lent numbers `was`. If these are not six, they are a broken
+-- record: the result is 10, and all is as before.
 unfoldable pub reported : List ℕ → Answering → Shown
 reported was o = cond (eqb (length was) 6) (shown (o .answer) (laid was (o .commands))) (shown 10 was)
 

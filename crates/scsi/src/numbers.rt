@@ -134,8 +134,8 @@ fn report(lent: &mut [u64], d: Decoded) -> u32
     }
 }
 
-// Decodes `block` with extended addressing off. It answers 0 if the command stands in the six numbers `lent`, 13 if the block is empty, and
-// 10 if `lent` does not have six numbers.
+// Decodes `block` with extended addressing off. It answers 0 if the command stands in the six numbers `lent`, 13 if the block is
+// empty, and 10 if `lent` does not have six numbers.
 pub fn decode_into(block: &[u8], lent: &mut [u64]) -> u32
     ensures { λ r. ⌜ shown r (now (lent .exit)) ≡ shownDecode (now (block .entry)) (now (lent .entry)) ⌝ }
 {
@@ -143,8 +143,8 @@ pub fn decode_into(block: &[u8], lent: &mut [u64]) -> u32
     report(lent, d)
 }
 
-// Decodes `block` with extended addressing off (`extended` is 0) or on (1). Any other number is answered 10; the other answers are those of
-// `decode_into`.
+// Decodes `block` with extended addressing off (`extended` is 0) or on (1). Any other number is answered
+// 10; the other answers are those of `decode_into`.
 pub fn decode_told_into(block: &[u8], extended: u32, lent: &mut [u64]) -> u32
     ensures { λ r. ⌜ shown r (now (lent .exit)) ≡ shownTold extended (now (block .entry)) (now (lent .entry)) ⌝ }
 {

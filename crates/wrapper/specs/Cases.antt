@@ -1,5 +1,5 @@
--- One table has the cases of the wrapper, the status, the residue and the verdict. proofs/Cases.antt states that each case holds. Assumes
--- nothing.
+-- One table has the cases of the wrapper, the status, the residue and the verdict. proofs/Cases.antt states that each case holds.
+-- Assumes nothing.
 use mathlib.Core.Bool.{true, false}
 use mathlib.Core.List.{List, [], _∷_, _++_}
 use Prim.Native.Nat.{ℕ}

@@ -11,8 +11,8 @@ use Rattle.wrapper.specs.declared.status.StatusByte.{StatusByte}
 use Rattle.wrapper.specs.declared.status.StatusByte.the-variants.{Known, Refused}
 use Rattle.wrapper.specs.declared.counters.Residue.{Residue}
 
--- These are the fields of BOT's table by their names there, each with its first byte and its number of bytes. All numbers in BOT are
--- little-endian.
+-- These are the fields of BOT's table by their names there, each with its first byte and its number
+-- of bytes. All numbers in BOT are little-endian.
 abbrev pub dCSWSignature : Field
 dCSWSignature = littleEndian 0 4
 
@@ -43,8 +43,8 @@ statusOfNumber n = cond (eqb n 0) Passed (cond (eqb n 1) Failed PhaseError)
 abbrev pub statusSignature : ℕ
 statusSignature = 0x53425355
 
--- "Status: 55 53 42 53, tag, residue, status byte." `tag` is the wrapper's tag, `residue` the residue reported, and `status` the status
--- byte.
+-- "Status: 55 53 42 53, tag, residue, status byte." `tag` is the wrapper's tag, `residue` the
+-- residue reported, and `status` the status byte.
 unfoldable pub statusBytes : ℕ → Residue → ℕ → List ℕ
 statusBytes tag residue status =
     put bCSWStatus status

@@ -11,8 +11,8 @@ use Rattle.wrapper.specs.declared.DataDirection.the-variants.{Out, In, N
 use Rattle.wrapper.specs.declared.Wrapper.{Wrapper}
 use Rattle.wrapper.specs.declared.Parsed.{Parsed}
 
--- These are the fields of BOT's table by their names there, each with its first byte and its number of bytes. All numbers in BOT are
--- little-endian.
+-- These are the fields of BOT's table by their names there, each with its first byte and its number
+-- of bytes. All numbers in BOT are little-endian.
 abbrev pub dCBWSignature : Field
 dCBWSignature = littleEndian 0 4
 
@@ -36,8 +36,8 @@ direction = bits 12 7 1
 abbrev pub bCBWLUN : Bits
 bCBWLUN = bits 13 0 4
 
--- For the block length BOT has bits 0 to 4 of this byte and reserves the others. 01 and the Rust look at the whole byte, which is above 16
--- if a reserved bit is set.
+-- For the block length BOT has bits 0 to 4 of this byte and reserves the others. 01 and the Rust look at the whole
+-- byte, which is above 16 if a reserved bit is set.
 abbrev pub bCBWCBLength : Field
 bCBWCBLength = oneByte 14
 

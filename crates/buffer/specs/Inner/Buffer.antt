@@ -1,5 +1,5 @@
--- Sound marks are a fact here; `isSound` is the test. The inner forms of the calls require and promise the fact. Assumes nothing: these are
--- definitions.
+-- Sound marks are a fact here; `isSound` is the test. The inner forms of the calls require and promise the fact.
+-- Assumes nothing: these are definitions.
 use mathlib.Core.Path.{_≡_}
 use Prim.Native.Nat.{_≤_}
 use lib.ListN.{length}

@@ -5,8 +5,8 @@ use mathlib.Core.List.{List, [], _∷_}
 use lib.Dec.{eqb}
 use Rattle.scsi.specs.Decoding.{Layout}
 
--- This is the shortest block length of `opcode`, by the first row of a table that has it, and 0 if no row has it. `r` is the first row, and
--- `rs` are the others.
+-- This is the shortest block length of `opcode`, by the first row of a table that has it, and 0 if no row has
+-- it. `r` is the first row, and `rs` are the others.
 abbrev pub shortestOf : List Layout → ℕ → ℕ
 shortestOf [] opcode = 0
 shortestOf (r ∷ rs) opcode = cond (eqb (r .opcode) opcode) (r .shortest) (shortestOf rs opcode)
