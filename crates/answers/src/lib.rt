@@ -27,7 +27,7 @@ pub enum Answer {
     EmptyBlock,
 }
 
-// This is asked of both endpoints at once. Where both are asked, they are unstalled first and then stalled.
+// This is asked of both endpoints at once. In the last case they are first unstalled and then stalled.
 pub enum Stalls {
     Kept,
     Stalled,
@@ -79,7 +79,7 @@ pub fn carried(answer: Answer) -> u8
     }
 }
 
-// Gives what an endpoint's byte stands for: 0 does its part, 1 is busy, and all others are errors.
+// Gives what the endpoint's answer `byte` stands for: 0 does its part, 1 is busy, and all others are errors.
 pub fn endpoint_of(byte: u8) -> Endpoint
     ensures { λ r. ⌜ r ≡ endpointOf byte ⌝ }
 {

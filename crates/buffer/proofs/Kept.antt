@@ -1,6 +1,6 @@
 -- Each call keeps the number of bytes, and leaves sound marks sound.
 --     is-sound, sound-is            the test says whether marks are sound
---     length-..., sound-...         the two facts for each definition of specs/Buffer.antt
+--     length-..., sound-...         the two facts for the definitions of specs/Buffer.antt
 -- Assumes nothing.
 use mathlib.Core.Path.{_≡_, refl, _∙_}
 use mathlib.Core.Bool.{Bool, true, false}

@@ -1,7 +1,6 @@
--- No second answer satisfies a promise: what the `ensures` of a call says is true of one answer only, and of one content of the lent slice
--- at exit. `Post` is the contract itself, as the check reads it. The calls that take any marks come first, then those of `marked` and
--- `span`.
--- Assumes nothing.
+-- No second answer satisfies a promise: what the `ensures` of a call says is true of one answer only, and of one content of the lent
+-- slice at exit. `Post` is the contract itself, as the check reads it. The calls that take any marks come first, then those of
+-- `marked` and `span`. Assumes nothing.
 use mathlib.Core.Path.{_≡_, refl, sym, ap, _∙_}
 use mathlib.Core.Bool.{Bool, cond}
 use mathlib.Core.List.{List}

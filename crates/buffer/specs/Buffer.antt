@@ -26,7 +26,7 @@ at r w = record { read = r; write = w }
 unfoldable pub isSound : ℕ → Marks → Bool
 isSound len m = leb (m .read) (m .write) && leb (m .write) len
 
--- This is how many bytes of `s` are unread: "Unread is write mark minus read mark."
+-- This is the number of unread bytes in `s`: "Unread is write mark minus read mark."
 abbrev pub unread : Buffer → ℕ
 unread s = s .marks .write - s .marks .read
 
@@ -34,12 +34,12 @@ unread s = s .marks .write - s .marks .read
 unfoldable pub unreadBytes : Buffer → List ℕ
 unreadBytes s = take (unread s) (drop (s .marks .read) (s .bytes))
 
--- This is the "room behind the write mark" of `s`: how many bytes there are from the write mark to the end.
+-- This is the "room behind the write mark" of `s`: the number of bytes from the write mark to the end.
 abbrev pub room : Buffer → ℕ
 room s = length (s .bytes) - s .marks .write
 
 -- This is `s` after the move: "unread bytes move to the front (both marks go to 0 if none)".
--- The new write mark is how many bytes are unread.
+-- The new write mark is the number of unread bytes.
 unfoldable pub moved : Buffer → Buffer
 moved s = buffer (overlay (s .bytes) 0 (unreadBytes s)) (at 0 (unread s))
 
@@ -52,16 +52,15 @@ withRoom n s = cond (ltb (room s) n) (moved s) s
 unfoldable pub appended : List ℕ → Buffer → Buffer
 appended ys s = buffer (overlay (s .bytes) (s .marks .write) ys) (at (s .marks .read) (s .marks .write + length ys))
 
--- "`write` and `fill_up_to` then take what fits": this is how many of `n` bytes fit into `s`, after room for all of them was asked for.
+-- "`write` and `fill_up_to` then take what fits": this many of `n` bytes fit into `s`, after room for all of them was asked for.
 unfoldable pub fitting : ℕ → Buffer → ℕ
 fitting n s = min (room (withRoom n s)) n
 
--- This is what `write` leaves of `s`: room for all of `ys` is asked for, and then as many bytes from the front of `ys` are appended as fit.
+-- `write` asks for room in `s` for all of `ys`, and then appends as many bytes from the front of `ys` as fit.
 unfoldable pub written : List ℕ → Buffer → Buffer
 written ys s = appended (take (fitting (length ys) s) ys) (withRoom (length ys) s)
 
--- This is what `fill_up_to` leaves of `s`: room for `n` bytes is asked for, and then the byte `v` is
--- appended as often as it fits, at most `n` times.
+-- `fill_up_to` asks for room in `s` for `n` bytes, and then appends the byte `v` as often as it fits, at most `n` times.
 unfoldable pub filled : ℕ → ℕ → Buffer → Buffer
 filled v n s = appended (replicate (fitting n s) v) (withRoom n s)
 
@@ -69,23 +68,23 @@ filled v n s = appended (replicate (fitting n s) v) (withRoom n s)
 unfoldable pub lacksRoom : ℕ → Buffer → Bool
 lacksRoom n s = ltb (room (withRoom n s)) n
 
--- This is what `write_all` leaves of `s`. Room is asked for the larger of `want` (a packet may have that many bytes) and the length of
--- `ys`. If there is too little, nothing is written, but the move stays; otherwise all of `ys` is appended.
+-- `write_all` asks for room in `s` for the larger of `want` (a packet may have that many bytes) and the length of `ys`. If there is too
+-- little, nothing is written, but the move stays; otherwise all of `ys` is appended.
 unfoldable pub writtenAll : ℕ → List ℕ → Buffer → Buffer
 writtenAll want ys s =
     cond (lacksRoom (max want (length ys)) s)
     (withRoom (max want (length ys)) s)
     (appended ys (withRoom (max want (length ys)) s))
 
--- This is how many bytes a read from `s` gives to a destination of `n` bytes: all that are unread, but at most `n`.
+-- A read from `s` gives this many bytes to a destination of `n` bytes: all that are unread, but at most `n`.
 unfoldable pub ready : ℕ → Buffer → ℕ
 ready n s = min (unread s) n
 
--- These are the bytes that such a read gives: the first unread bytes of `s`, as many as the destination of `n` bytes can take.
+-- Such a read gives these bytes: the first unread bytes of `s`, as many as the destination of `n` bytes can take.
 unfoldable pub given : ℕ → Buffer → List ℕ
 given n s = take (ready n s) (unreadBytes s)
 
--- This is what such a read leaves of `s`. "Reading advances the read mark only": it goes up by the number of bytes given.
+-- Such a read leaves the bytes of `s` as they are. "Reading advances the read mark only": it goes up by the number of bytes given.
 unfoldable pub readOff : ℕ → Buffer → Buffer
 readOff n s = buffer (s .bytes) (at (s .marks .read + ready n s) (s .marks .write))
 

@@ -68,7 +68,7 @@ writeAllCall want ys s =
 unfoldable pub readCall : ℕ → Buffer → Answering
 readCall n s = checked s (answering 0 (ready n s) (readOff n s))
 
--- This is what `read` leaves in the destination `d`: the bytes given stand at its front, and the rest is as
--- before. If `s` is broken, all of `d` is as before.
+-- `read` leaves the bytes given at the front of the destination `d`, and the rest of `d` as before.
+-- If `s` is broken, all of `d` is as before.
 unfoldable pub readInto : List ℕ → Buffer → List ℕ
 readInto d s = unlessBroken s (overlay d 0 (given (length d) s)) d

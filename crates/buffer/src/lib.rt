@@ -35,7 +35,7 @@ pub fn sound(len: usize, m: Marks) -> bool
     false
 }
 
-// Counts the unread bytes.
+// Counts the unread bytes of `io`.
 pub fn available(io: &[u8], m: Marks) -> Answer
     ensures { λ r. ⌜ answerOf m r (now (io .entry)) ≡ availableCall (buffer (now (io .entry)) m) ⌝ }
 {
@@ -45,7 +45,7 @@ pub fn available(io: &[u8], m: Marks) -> Answer
     Answer::Broken
 }
 
-// Empties the buffer: nothing is unread any more, and the bytes stay.
+// Empties the buffer: nothing is unread any more, and the bytes of `io` stay.
 pub fn clean(io: &[u8], m: Marks) -> Answer
     ensures { λ r. ⌜ answerOf m r (now (io .entry)) ≡ cleanCall (buffer (now (io .entry)) m) ⌝ }
 {
@@ -55,7 +55,7 @@ pub fn clean(io: &[u8], m: Marks) -> Answer
     Answer::Broken
 }
 
-// Moves the unread bytes to the front.
+// Moves the unread bytes of `io` to the front.
 pub fn shift(io: &mut [u8], m: Marks) -> Answer
     ensures { λ r. ⌜ answerOf m r (now (io .exit)) ≡ shiftCall (buffer (now (io .entry)) m) ⌝ }
 {

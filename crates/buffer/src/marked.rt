@@ -39,7 +39,7 @@ pub fn clean() -> Marks
     Marks { read: 0, write: 0 }
 }
 
-// Moves the unread bytes to the front.
+// Moves the unread bytes of `io` to the front.
 pub fn shift(io: &mut [u8], m: Marks) -> Marks
     requires { ⌜ Sound (buffer (now io) m) ⌝ }
     ensures { λ r. ⌜ Leaves (buffer (now (io .exit)) r) (moved (buffer (now (io .entry)) m)) ⌝ }

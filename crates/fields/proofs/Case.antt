@@ -1,4 +1,4 @@
--- This is how a table of cases is shown to hold, and that tables can be joined. Assumes nothing.
+-- A table of cases is shown to hold by computing it, and tables that hold can be joined. Assumes nothing.
 use mathlib.Core.Path.{refl}
 use mathlib.Core.List.{List, [], _∷_, _++_}
 use Rattle.fields.specs.Case.{Case, case, AllHold}

@@ -14,7 +14,7 @@ ghost use Rattle.scsi.specs.Numbers.{shown, shownDecode, shownTold};
 ghost use Rattle.wrapper.specs.Verdict.{verdictOf, verdictNumber};
 ghost use Rattle.leafhost.specs.Codecs.{numbers, parse, shownParse, status, shownStatus};
 
-// Stores the five numbers of the wrapper `w`.
+// Stores the five numbers of the wrapper `w` in `fields`.
 fn put_fields(fields: &mut [u32], w: Wrapper)
     requires { ⌜ length (now fields) ≡ 5 ⌝ }
     ensures { λ _. ⌜ now (fields .exit) ≡ numbers w ⌝ }
@@ -77,7 +77,7 @@ pub extern "C" fn wrapper_status(
     }
 }
 
-// Answers with BOT's verdict on `message`: 0 invalid, 1 valid only, 2 meaningful.
+// Answers with BOT's verdict on `message`, for a device with the LUNs 0 to `maxlun`: 0 invalid, 1 valid only, 2 meaningful.
 #[no_mangle]
 pub extern "C" fn wrapper_verdict(message: &[u8], maxlun: u8) -> u32
     ensures { λ r. ⌜ r ≡ verdictNumber (verdictOf maxlun (now (message .entry))) ⌝ }
@@ -85,7 +85,7 @@ pub extern "C" fn wrapper_verdict(message: &[u8], maxlun: u8) -> u32
     verdict_number(message, maxlun)
 }
 
-// Decodes `block` into the six numbers `command`, with extended addressing off.
+// Decodes `block` into the six numbers `command`, with extended addressing off. It answers 0, 13 for an empty block, or 10.
 #[no_mangle]
 pub extern "C" fn scsi_decode(block: &[u8], command: &mut [u64]) -> u32
     ensures { λ r. ⌜ shown r (now (command .exit)) ≡ shownDecode (now (block .entry)) (now (command .entry)) ⌝ }
@@ -93,7 +93,7 @@ pub extern "C" fn scsi_decode(block: &[u8], command: &mut [u64]) -> u32
     decode_into(block, command)
 }
 
-// Decodes `block` into the six numbers `command`, with extended addressing off (`extended` is 0) or on (1).
+// Decodes `block` into the six numbers `command`, with extended addressing off (`extended` is 0) or on (1). It answers like `scsi_decode`.
 #[no_mangle]
 pub extern "C" fn scsi_decode_told(block: &[u8], extended: u32, command: &mut [u64]) -> u32
     ensures { λ r. ⌜ shown r (now (command .exit)) ≡ shownTold extended (now (block .entry)) (now (command .entry)) ⌝ }

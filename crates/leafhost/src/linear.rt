@@ -8,7 +8,7 @@ ghost use Rattle.buffer.specs.Calls.{availableCall, cleanCall, shiftCall, write
 ghost use Rattle.leafhost.specs.Buffer.{hosted, host, markedBy, hostInto};
 ghost use Rattle.leafhost.specs.Inner.Buffer.{marksOf, numberOf};
 
-// Gives the number of the answer `a`, and stores the marks and the count in the caller's numbers.
+// Gives 01's number of the answer `a`, and stores the marks and the count in the caller's `marks`.
 fn report(marks: &mut [usize], a: Answer) -> u32
     requires { ⌜ length (now marks) ≡ 3 ⌝ }
     ensures { λ r. ⌜ (r ≡ numberOf a) × (now (marks .exit) ≡ marksOf a (now (marks .entry))) ⌝ }
@@ -30,7 +30,7 @@ fn report(marks: &mut [usize], a: Answer) -> u32
     }
 }
 
-// Takes the marks from the first two of the caller's three numbers.
+// Takes the marks from the first two of the caller's `marks`.
 fn marked(marks: &[usize]) -> Marks
     requires { ⌜ length (now marks) ≡ 3 ⌝ }
     ensures { λ r. ⌜ r ≡ markedBy (now (marks .entry)) ⌝ }
@@ -41,7 +41,7 @@ fn marked(marks: &[usize]) -> Marks
     }
 }
 
-// Counts the unread bytes.
+// Counts the unread bytes of `io`.
 #[no_mangle]
 pub extern "C" fn buffer_available(io: &[u8], marks: &mut [usize]) -> u32
     ensures { λ r. ⌜ host r (now (io .entry)) (now (marks .exit)) ≡ hosted availableCall (now (io .entry)) (now (marks .entry)) ⌝ }
@@ -53,7 +53,7 @@ pub extern "C" fn buffer_available(io: &[u8], marks: &mut [usize]) -> u32
     10
 }
 
-// Empties the buffer.
+// Empties the buffer `io`: both marks become 0.
 #[no_mangle]
 pub extern "C" fn buffer_clean(io: &[u8], marks: &mut [usize]) -> u32
     ensures { λ r. ⌜ host r (now (io .entry)) (now (marks .exit)) ≡ hosted cleanCall (now (io .entry)) (now (marks .entry)) ⌝ }
@@ -65,7 +65,7 @@ pub extern "C" fn buffer_clean(io: &[u8], marks: &mut [usize]) -> u32
     10
 }
 
-// Moves the unread bytes to the front.
+// Moves the unread bytes of `io` to the front.
 #[no_mangle]
 pub extern "C" fn buffer_shift(io: &mut [u8], marks: &mut [usize]) -> u32
     ensures { λ r. ⌜ host r (now (io .exit)) (now (marks .exit)) ≡ hosted shiftCall (now (io .entry)) (now (marks .entry)) ⌝ }
@@ -77,7 +77,7 @@ pub extern "C" fn buffer_shift(io: &mut [u8], marks: &mut [usize]) -> u32
     10
 }
 
-// Appends what fits of `src`.
+// Appends what fits of `src` to the unread bytes of `io`.
 #[no_mangle]
 pub extern "C" fn buffer_write(io: &mut [u8], marks: &mut [usize], src: &[u8]) -> u32
     ensures { λ r. ⌜ host r (now (io .exit)) (now (marks .exit)) ≡ hosted (writeCall (now (src .entry))) (now (io .entry)) (now (marks .entry)) ⌝ }
@@ -89,7 +89,7 @@ pub extern "C" fn buffer_write(io: &mut [u8], marks: &mut [usize], src: &[u8]) -
     10
 }
 
-// Appends all of `src`, or nothing. Room is asked for `want` bytes, and for all of `src`.
+// Appends all of `src` to the unread bytes of `io`, or nothing. Room is asked for `want` bytes, and for all of `src`.
 #[no_mangle]
 pub extern "C" fn buffer_write_all(
     io: &mut [u8],
@@ -106,7 +106,7 @@ pub extern "C" fn buffer_write_all(
     10
 }
 
-// Appends the byte `v`, as often as it fits and at most `n` times.
+// Appends the byte `v` to the unread bytes of `io`, as often as it fits and at most `n` times.
 #[no_mangle]
 pub extern "C" fn buffer_fill_up_to(io: &mut [u8], marks: &mut [usize], v: u8, n: usize) -> u32
     ensures { λ r. ⌜ host r (now (io .exit)) (now (marks .exit)) ≡ hosted (fillCall v n) (now (io .entry)) (now (marks .entry)) ⌝ }
@@ -118,7 +118,7 @@ pub extern "C" fn buffer_fill_up_to(io: &mut [u8], marks: &mut [usize], v: u8, n
     10
 }
 
-// Gives the first unread bytes, as many as `dst` holds, to the front of `dst`.
+// Gives the first unread bytes of `io`, as many as `dst` holds, to the front of `dst`. After that they count as read.
 #[no_mangle]
 pub extern "C" fn buffer_read(io: &[u8], marks: &mut [usize], dst: &mut [u8]) -> u32
     ensures { λ r. ⌜ (host r (now (io .entry)) (now (marks .exit)) ≡ hosted (readCall (length (now (dst .entry)))) (now (io .entry)) (now (marks .entry)))

@@ -42,7 +42,7 @@ decode-only κs a x y s t p q = (answer-once x y (p ∙ sym q), refl)
 
 -- ---- the numbers that are lent
 
--- Crates that pass these calls on use this too.
+-- If the same is shown, the results and the lent numbers are the same. Crates that pass these calls on use this too.
 pub shown-once : {n k : ℕ} {l m : List ℕ} → shown n l ≡ shown k m → (n ≡ k) × (l ≡ m)
 shown-once e = (ap (λ (s : Shown). s .number) e, ap (λ (s : Shown). s .lent) e)
 

@@ -9,11 +9,11 @@ use Rattle.scsi.specs.declared.ScsiCommand.{ScsiCommand}
 use Rattle.scsi.specs.declared.ScsiCommand.the-variants.{Unknown, Inquiry, TestUnitReady, RequestSense, ModeSense6, ModeSense10, ReadCapacity10, ReadCapacity16, Read, Write, ReadFormatCapacities}
 use Rattle.scsi.specs.Decoding.{decodeCall, plainCall}
 
--- In a case of the plain entry the block `b` decodes to the command `c`.
+-- In a case of the plain entry, the block `b` decodes to the command `c`.
 abbrev plain : List ℕ → ScsiCommand → Case
 plain b c = case (plainCall b) (record { answer = 0; commands = c ∷ [] })
 
--- In a case with extended addressing on the block `b` decodes to the command `c`.
+-- In a case with extended addressing on, the block `b` decodes to the command `c`.
 abbrev extended : List ℕ → ScsiCommand → Case
 extended b c = case (decodeCall true b) (record { answer = 0; commands = c ∷ [] })
 

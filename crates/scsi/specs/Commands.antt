@@ -25,8 +25,8 @@ number first width b = get (bigEndian first width) b
 abbrev pub byte : ℕ → List ℕ → ℕ
 byte at b = get (oneByte at) b
 
--- This is what the number `n` means as SPC's PAGE CONTROL: 0 current, 1 changeable, 2 default, 3 saved. A number above
--- 3, which its two bits cannot hold, means current.
+-- The number `n` stands for this PAGE CONTROL of SPC: 0 current, 1 changeable, 2 default, 3 saved.
+-- A number above 3, which its two bits cannot hold, stands for current.
 unfoldable pub pageControl : ℕ → PageControl
 pageControl n = getD (CurrentValues ∷ ChangeableValues ∷ DefaultValues ∷ SavedValues ∷ []) n CurrentValues
 

@@ -88,6 +88,6 @@ answerOf Empty = answering 13 []
 unfoldable pub decodeCall : Bool → List ℕ → Answering
 decodeCall extended b = cond (eqb (length b) 0) (answering 13 []) (answering 0 (decoded extended b ∷ []))
 
--- The plain entry has this outcome for the block `b`: "the plain entry has it off".
+-- "the plain entry has it off": it has this outcome for the block `b`, without extended addressing.
 unfoldable pub plainCall : List ℕ → Answering
 plainCall b = decodeCall false b

@@ -51,7 +51,7 @@ pub record Shown : Type 0 where
 abbrev pub shown : ℕ → List ℕ → Shown
 shown n l = record { number = n; lent = l }
 
--- The lent numbers `was` come to this: if there is a command, `c`, they become its six numbers; a refusal leaves them as they were.
+-- The lent numbers `was` become the six numbers of the command `c` if there is one; a refusal leaves them as they were.
 abbrev pub laid : List ℕ → List ScsiCommand → List ℕ
 laid was [] = was
 laid was (c ∷ cs) = numbers c

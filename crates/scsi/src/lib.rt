@@ -75,7 +75,7 @@ pub enum Decoded {
     Empty,
 }
 
-// Decodes a block that has an opcode.
+// Decodes a `block` that has at least one byte, and so an opcode. `extended` says whether extended addressing is on.
 fn command(block: &[u8], extended: bool) -> ScsiCommand
     requires { ⌜ 1 ≤ length (now block) ⌝ }
     ensures { λ r. ⌜ r ≡ decoded extended (now (block .entry)) ⌝ }
@@ -87,7 +87,7 @@ fn command(block: &[u8], extended: bool) -> ScsiCommand
     ScsiCommand::Unknown { cmd: opcode }
 }
 
-// Decodes a block for a caller who tells whether extended addressing is on: 88 and 8A count only if `extended` is true.
+// Decodes `block` for a caller who tells whether extended addressing is on: 88 and 8A count only if `extended` is true.
 pub fn decode_told(block: &[u8], extended: bool) -> Decoded
     ensures { λ r. ⌜ answerOf r ≡ decodeCall extended (now (block .entry)) ⌝ }
 {
@@ -98,7 +98,7 @@ pub fn decode_told(block: &[u8], extended: bool) -> Decoded
     Decoded::Command(c)
 }
 
-// Decodes a block with extended addressing off: this is the plain entry.
+// Decodes `block` with extended addressing off: this is the plain entry.
 pub fn decode(block: &[u8]) -> Decoded
     ensures { λ r. ⌜ answerOf r ≡ plainCall (now (block .entry)) ⌝ }
 {

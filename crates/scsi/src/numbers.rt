@@ -27,7 +27,7 @@ fn control_number(control: PageControl) -> u64
     }
 }
 
-// Stores a command's six numbers, `kind` and the fields `a` to `e`.
+// Stores a command's six numbers, `kind` and the fields `a` to `e`, in `lent`.
 fn put_six(lent: &mut [u64], kind: u64, a: u64, b: u64, c: u64, d: u64, e: u64)
     requires { ⌜ length (now lent) ≡ 6 ⌝ }
     ensures { λ _. ⌜ now (lent .exit) ≡ six kind a b c d e ⌝ }
@@ -40,7 +40,7 @@ fn put_six(lent: &mut [u64], kind: u64, a: u64, b: u64, c: u64, d: u64, e: u64)
     lent[5] = e;
 }
 
-// Stores the six numbers of `command`. It has an arm for each of the eleven commands, and so is longer than other functions.
+// Stores the six numbers of `command` in `lent`. It has an arm for each of the eleven commands, and so is longer than other functions.
 pub fn put_command(lent: &mut [u64], command: ScsiCommand)
     requires { ⌜ length (now lent) ≡ 6 ⌝ }
     ensures { λ _. ⌜ now (lent .exit) ≡ numbers command ⌝ }
@@ -118,7 +118,7 @@ pub fn put_command(lent: &mut [u64], command: ScsiCommand)
     }
 }
 
-// Gives the answer's number, and stores a command in the six numbers that the caller lends.
+// Gives 01's number of the answer `d`, and stores a command in the numbers `lent`. If these are not six the answer is 10.
 fn report(lent: &mut [u64], d: Decoded) -> u32
     ensures { λ r. ⌜ shown r (now (lent .exit)) ≡ reported (now (lent .entry)) (answerOf d) ⌝ }
 {
@@ -143,8 +143,8 @@ pub fn decode_into(block: &[u8], lent: &mut [u64]) -> u32
     report(lent, d)
 }
 
-// Decodes `block` with extended addressing off (`extended` is 0) or on (1). Any other number is answered
-// 10; the other answers are those of `decode_into`.
+// Decodes `block` with extended addressing off (`extended` is 0) or on (1). For any other `extended` it answers 10;
+// its other answers are those of `decode_into`.
 pub fn decode_told_into(block: &[u8], extended: u32, lent: &mut [u64]) -> u32
     ensures { λ r. ⌜ shown r (now (lent .exit)) ≡ shownTold extended (now (block .entry)) (now (lent .entry)) ⌝ }
 {

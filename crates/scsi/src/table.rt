@@ -36,7 +36,7 @@ fn in_table(opcode: u8, n: usize) -> bool
     false
 }
 
-// Tests whether `opcode` counts: 88 and 8A do so only with extended addressing.
+// Tests whether `opcode` counts: 88 and 8A do so only if `extended` is true.
 fn opcode_counts(opcode: u8, extended: bool) -> bool
     ensures { λ r. ⌜ r ≡ counts extended opcode ⌝ }
 {
@@ -49,7 +49,7 @@ fn opcode_counts(opcode: u8, extended: bool) -> bool
     opcode != 0x8A
 }
 
-// Tests whether a block of `n` bytes with this `opcode` is one of the listed commands.
+// Tests whether a block of `n` bytes with this `opcode` is one of the listed commands, where `extended` says whether 88 and 8A count.
 pub(crate) fn listed(opcode: u8, n: usize, extended: bool) -> bool
     ensures { λ r. ⌜ r ≡ isListed extended opcode n ⌝ }
 {

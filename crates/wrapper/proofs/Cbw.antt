@@ -107,7 +107,7 @@ pub no-data : (l b : ℕ) → l ≡ 0 → NotExpected ≡ directionOf l b
 unfolding directionOf
 no-data l b e = rw (eq-eqb _ _ e)
 
--- Only a length of 0 means no data (`no-data-only`). This test tells the directions apart for it.
+-- Only a length of 0 means no data (`no-data-only`). The proof of this tells the directions apart by this test.
 abbrev isExpected : DataDirection → Bool
 isExpected Out = true
 isExpected In = true

@@ -3,7 +3,7 @@ use Prim.Native.Nat.{ℕ, _-_}
 use Rattle.wrapper.specs.declared.counters.Left.{Left}
 use Rattle.wrapper.specs.declared.counters.Residue.{Residue}
 
--- "Left falls by bytes moved, never below 0." `l` is left before, and `moved` is the number of bytes moved.
+-- "Left falls by bytes moved, never below 0." `l` is the count left before, and `moved` is the number of bytes moved.
 -- (In ℕ a difference that would be below 0 is 0.)
 unfoldable pub fallen : Left → ℕ → Left
 fallen l moved = record { 0 = l .0 - moved }

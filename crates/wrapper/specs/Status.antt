@@ -53,8 +53,8 @@ statusBytes tag residue status =
     (put dCSWSignature statusSignature
     (replicate 13 0))))
 
--- A status byte comes to this: `answer` is 01's answer number, and `status` is the number of the status that the byte stands for, 0 if it
--- stands for none. `taken` makes one from the answer `n` and the status `s`.
+-- This is the result for a status byte: `answer` is 01's answer number, and `status` is the number of the status that the byte stands for,
+-- 0 if it stands for none. `taken` makes one from the answer `n` and the status `s`.
 pub record Taken : Type 0 where
   pub answer : ℕ
   pub status : ℕ
@@ -67,6 +67,6 @@ abbrev pub answerOf : StatusByte → Taken
 answerOf (Known s) = taken 0 (statusNumber s)
 answerOf Refused = taken 12 0
 
--- The status byte `byte` comes to this: 0 to 2 stand for themselves, and for "a status byte above 2" the answer is 12.
+-- This is the result for the status byte `byte`: 0 to 2 stand for themselves, and for "a status byte above 2" the answer is 12.
 unfoldable pub statusCall : ℕ → Taken
 statusCall byte = cond (leb byte 2) (taken 0 byte) (taken 12 0)

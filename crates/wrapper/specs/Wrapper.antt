@@ -86,7 +86,7 @@ directionNumber NotExpected = 0
 unfoldable pub directionOfNumber : ℕ → DataDirection
 directionOfNumber n = cond (eqb n 0) NotExpected (cond (eqb n 1) In Out)
 
--- This is what the message `m` says, field by field, if it is a valid wrapper.
+-- A valid message `m` says this, field by field.
 unfoldable pub wrapperOf : List ℕ → Wrapper
 wrapperOf m = record {
   tag = get dCBWTag m;

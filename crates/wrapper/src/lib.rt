@@ -175,7 +175,7 @@ pub fn read_wrapper(m: &[u8]) -> Wrapper
     }
 }
 
-// Gives the wrapper of a device that has not received one yet.
+// Gives the blank wrapper. A new device has it, and so has the result of parsing an invalid message.
 pub fn no_wrapper() -> Wrapper
     ensures { λ r. ⌜ r ≡ blank ⌝ }
 {
@@ -191,7 +191,7 @@ pub fn no_wrapper() -> Wrapper
     }
 }
 
-// Parses a received message.
+// Parses a received `message`: only a valid one gives its fields.
 pub fn parse(message: &[u8]) -> Parsed
     ensures { λ r. ⌜ r ≡ parsed (now (message .entry)) ⌝ }
 {

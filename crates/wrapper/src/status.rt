@@ -55,7 +55,7 @@ pub fn status_of_number(number: u8) -> CommandStatus
     }
 }
 
-// Gives the bytes of a status as they go over the wire.
+// Gives the bytes of a status with this `tag`, `residue` and `status`, as they go over the wire.
 pub fn status_bytes(tag: u32, residue: Residue, status: CommandStatus) -> [u8; in_status::SIZE]
     ensures { λ r. ⌜ r ≡ statusBytes tag residue (statusNumber status) ⌝ }
 {

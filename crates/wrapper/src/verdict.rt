@@ -13,7 +13,7 @@ pub enum Verdict {
     Meaningful,
 }
 
-// Tests whether a signed `message` has a LUN of at most `maxlun` and a possible block length.
+// Tests whether `message`, which has 31 bytes, has a LUN of at most `maxlun` and a block length of 1 to 16.
 fn meaningful(message: &[u8], maxlun: u8) -> bool
     requires { ⌜ length (now message) ≡ 31 ⌝ }
     ensures { λ r. ⌜ r ≡ isMeaningful maxlun (now (message .entry)) ⌝ }
