@@ -85,7 +85,8 @@ pub extern "C" fn wrapper_verdict(message: &[u8], maxlun: u8) -> u32
     verdict_number(message, maxlun)
 }
 
-// Decodes `block` into the six numbers `command`, with extended addressing off. It answers 0, 13 for an empty block, or 10.
+// Decodes `block` into the six numbers `command`, with extended addressing off. It answers 0 if the command stands there, 13 if the block
+// is empty, and 10 if `command` does not have six numbers.
 #[no_mangle]
 pub extern "C" fn scsi_decode(block: &[u8], command: &mut [u64]) -> u32
     ensures { λ r. ⌜ shown r (now (command .exit)) ≡ shownDecode (now (block .entry)) (now (command .entry)) ⌝ }
@@ -93,7 +94,8 @@ pub extern "C" fn scsi_decode(block: &[u8], command: &mut [u64]) -> u32
     decode_into(block, command)
 }
 
-// Decodes `block` into the six numbers `command`, with extended addressing off (`extended` is 0) or on (1). It answers like `scsi_decode`.
+// Decodes `block` into the six numbers `command`, with extended addressing off (`extended` is 0) or on (1). For any other `extended` it
+// answers 10; its other answers are those of `scsi_decode`.
 #[no_mangle]
 pub extern "C" fn scsi_decode_told(block: &[u8], extended: u32, command: &mut [u64]) -> u32
     ensures { λ r. ⌜ shown r (now (command .exit)) ≡ shownTold extended (now (block .entry)) (now (command .entry)) ⌝ }
