@@ -1,4 +1,4 @@
--- To unfold this is to unfold all that cases over this crate's definitions compute with. Assumes nothing.
+-- Unfolding this unfolds all that cases over this crate's definitions compute with. Assumes nothing.
 use Rattle.answers.specs.Answers.{endpointOf}
 
 unfoldable pub computing : Unit {0}

@@ -1,4 +1,4 @@
--- Laws of the answers: what each way through a function owes. Assumes nothing.
+-- These laws say what each way through a function owes. Assumes nothing.
 use mathlib.Core.Path.{_≡_}
 use Prim.Native.Nat.{ℕ}
 use borrow.Author.Tests.{eq-eqb, ne-eqb}

@@ -1,6 +1,7 @@
--- proofs.Laws         what each way through a function owes
--- proofs.Unique       no second answer satisfies a promise; a number tells its answer
--- proofs.Computing    what cases compute with
+-- These laws belong to no single function.
+--     Laws         what each way through a function owes
+--     Unique       no second answer satisfies a promise; a number determines its answer
+--     Computing    what cases compute with
 pub mod Laws
 pub mod Unique
 pub mod Computing

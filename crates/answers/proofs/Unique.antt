@@ -1,5 +1,5 @@
--- No second answer satisfies a promise. `Post` is the contract itself, as the check reads it. For that, document 01's number and the
--- number carried tell the answer (`named-answer`). Assumes nothing.
+-- No second answer satisfies a promise. `Post` is the contract itself, as the check reads it. For this, document 01's number and the number
+-- carried determine the answer (`named-answer`). Assumes nothing.
 use mathlib.Core.Path.{_≡_, refl, sym, _∙_}
 use mathlib.Core.Bool.{cond}
 use Prim.Native.Nat.{ℕ}

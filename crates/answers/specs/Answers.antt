@@ -9,16 +9,17 @@ use Rattle.answers.specs.declared.Answer.the-variants.{Done, IoBufferOve
 use Rattle.answers.specs.declared.Stalls.{Stalls}
 use Rattle.answers.specs.declared.Stalls.the-variants.{Kept, Stalled, Unstalled, UnstalledStalled}
 
--- An answer as the table has it: its number, and the number that it carries.
+-- An answer of the table has `number`, its number, and `carried`, the number that it carries, 0 if it carries none.
 pub record Answering : Type 0 where
   pub number : ℕ
   pub carried : ℕ
 
--- one that carries nothing
+-- This is the answer with the number `n` that carries nothing.
 abbrev pub answer : ℕ → Answering
 answer n = record { number = n; carried = 0 }
 
--- The table's numbers. "7 other endpoint error, its number carried": no other answer carries one.
+-- This is the table's number for each answer of the code. "7 other endpoint error, its number carried": `n`
+-- is that number, and no other answer carries one.
 abbrev pub answerOf : Answer → Answering
 answerOf Done = answer 0
 answerOf IoBufferOverflow = answer 1
@@ -35,23 +36,25 @@ answerOf PacketRefused = answer 11
 answerOf StatusRefused = answer 12
 answerOf EmptyBlock = answer 13
 
--- "Endpoint answers: 0 does its part, 1 busy, others errors"
+-- "Endpoint answers: 0 does its part, 1 busy, others errors": this is what the answer `byte` stands for.
 unfoldable pub endpointOf : ℕ → Endpoint
 endpointOf byte = cond (eqb byte 0) Served (cond (eqb byte 1) Busy (Failed byte))
 
--- Whether "the endpoint asked does its part".
+-- This tests whether an endpoint does its part, as in "each endpoint asked does its part".
 abbrev pub serves : Endpoint → Bool
 serves Served = true
 serves Busy = false
 serves (Failed n) = false
 
+-- A call answers this, by what the endpoint that it asks does.
 -- 6: "the endpoint asked is busy". 7: "other endpoint error, its number carried".
 abbrev pub answeredBy : Endpoint → Answering
 answeredBy Served = answer 0
 answeredBy Busy = answer 6
 answeredBy (Failed n) = record { number = 7; carried = n }
 
--- Stalls, as `bench` has them: `-`, `S`, `U`, `US`.
+-- This is asked of both endpoints: the first argument says whether to unstall them, and the second whether to stall them after that. In the
+-- lines of `bench` the four cases are `-`, `S`, `U` and `US`.
 abbrev pub stallsOf : Bool → Bool → Stalls
 stallsOf false false = Kept
 stallsOf false true = Stalled

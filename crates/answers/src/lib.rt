@@ -1,15 +1,15 @@
-// What endpoints and calls answer: document 01's numbers, by name.
+// Endpoints and calls give these answers: document 01's numbers, by name.
 ghost use mathlib.Core.Path.{_≡_};
 ghost use Rattle.answers.specs.Answers.{answerOf, endpointOf, serves, answeredBy, stallsOf};
 
-// What an endpoint does when it is asked: its part, nothing since it is busy, or it fails with a number of its own.
+// An endpoint that is asked does its part, or is busy, or fails with an error number.
 pub enum Endpoint {
     Served,
     Busy,
     Failed(u8),
 }
 
-// Document 01's answers 0 to 13, in its order, each with the number that it carries: the failed endpoint's with EndpointError.
+// These are document 01's answers 0 to 13, in its order. Only EndpointError carries a number, that of the endpoint's error.
 pub enum Answer {
     Done,
     IoBufferOverflow,
@@ -27,7 +27,7 @@ pub enum Answer {
     EmptyBlock,
 }
 
-// What is asked of both endpoints at once, in this order: to unstall, to stall.
+// This is asked of both endpoints at once. In the last case they are first unstalled and then stalled.
 pub enum Stalls {
     Kept,
     Stalled,
@@ -35,7 +35,7 @@ pub enum Stalls {
     UnstalledStalled,
 }
 
-// Document 01's number of an answer.
+// Gives document 01's number of `answer`.
 pub fn answer_number(answer: Answer) -> u8
     ensures { λ r. ⌜ r ≡ answerOf answer .number ⌝ }
 {
@@ -57,7 +57,7 @@ pub fn answer_number(answer: Answer) -> u8
     }
 }
 
-// The number that an answer carries, 0 where it carries none.
+// Gives the number that `answer` carries, and 0 if it carries none.
 pub fn carried(answer: Answer) -> u8
     ensures { λ r. ⌜ r ≡ answerOf answer .carried ⌝ }
 {
@@ -79,7 +79,7 @@ pub fn carried(answer: Answer) -> u8
     }
 }
 
-// What an endpoint's byte stands for: 0 does its part, 1 busy, others errors.
+// Gives what the endpoint's answer `byte` stands for: 0 does its part, 1 is busy, and all others are errors.
 pub fn endpoint_of(byte: u8) -> Endpoint
     ensures { λ r. ⌜ r ≡ endpointOf byte ⌝ }
 {
@@ -92,7 +92,7 @@ pub fn endpoint_of(byte: u8) -> Endpoint
     Endpoint::Failed(byte)
 }
 
-// Whether an endpoint does its part.
+// Tests whether the endpoint `e` does its part.
 pub fn served(e: Endpoint) -> bool
     ensures { λ r. ⌜ r ≡ serves e ⌝ }
 {
@@ -103,7 +103,7 @@ pub fn served(e: Endpoint) -> bool
     }
 }
 
-// What a call answers that asks this endpoint.
+// Gives the answer of a call that asks the endpoint `e`.
 pub fn answered(e: Endpoint) -> Answer
     ensures { λ r. ⌜ answerOf r ≡ answeredBy e ⌝ }
 {
@@ -114,7 +114,7 @@ pub fn answered(e: Endpoint) -> Answer
     }
 }
 
-// What was asked of the endpoints, from what happened.
+// Gives what was asked of both endpoints: to unstall them if `unstalled`, and then to stall them if `stalled`.
 pub fn asked(unstalled: bool, stalled: bool) -> Stalls
     ensures { λ r. ⌜ r ≡ stallsOf unstalled stalled ⌝ }
 {

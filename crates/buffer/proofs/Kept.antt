@@ -1,6 +1,6 @@
--- Each call keeps the number of bytes, and its marks stay sound.
+-- Each call keeps the number of bytes, and leaves sound marks sound.
 --     is-sound, sound-is            the test says whether marks are sound
---     length-..., sound-...         for each definition of specs/Buffer.antt
+--     length-..., sound-...         the two facts for the definitions of specs/Buffer.antt
 -- Assumes nothing.
 use mathlib.Core.Path.{_≡_, refl, _∙_}
 use mathlib.Core.Bool.{Bool, true, false}
@@ -52,7 +52,7 @@ pub sound-withRoom : (n : ℕ) (s : Buffer) → Sound s → Sound (withRoom n s)
 unfolding withRoom
 sound-withRoom n s g = of-picked Sound (ltb (room s) n) (λ _. sound-moved s g) (λ _. g)
 
--- ---- bytes behind the write mark, after room was made for n: as many as fit there
+-- ---- bytes appended after room was made for n: they fit into that room
 
 module _ (ys : List ℕ) (s : Buffer) (g : Sound s) (fits : length ys ≤ room s) where
   pub length-appended : length (appended ys s .bytes) ≡ length (s .bytes)
@@ -70,7 +70,7 @@ module _ (n : ℕ) (ys : List ℕ) (s : Buffer) (g : Sound s) (fits : length ys 
   sound-behind : Sound (appended ys (withRoom n s))
   sound-behind = sound-appended ys (withRoom n s) (sound-withRoom n s g) fits
 
--- `write` and `fill_up_to` append what fits
+-- `write` and `fill_up_to` append what fits.
 
 pub fitting-fits : (n : ℕ) (ys : List ℕ) (s : Buffer) → length ys ≤ fitting n s → length ys ≤ room (withRoom n s)
 unfolding fitting
@@ -102,7 +102,7 @@ module _ (v n : ℕ) (s : Buffer) (g : Sound s) where
   unfolding filled
   sound-filled = sound-behind n (replicate (fitting n s) v) s g (filled-fits v n s)
 
--- `write_all` appends all where the test finds room for the larger of want and ys
+-- `write_all` appends all of ys if the test finds room for the larger of want and the length of ys.
 
 pub all-fits : (want : ℕ) (ys : List ℕ) (s : Buffer) → lacksRoom (max want (length ys)) s ≡ false → length ys ≤ room (withRoom (max want (length ys)) s)
 unfolding lacksRoom

@@ -1,4 +1,4 @@
--- Laws that no one function owns, for the proofs here and for those of the crates above.
+-- These laws belong to no single function. The proofs here and those of the crates above use them.
 --     Kept            each call keeps the number of bytes, and sound marks
 --     Room, Unread    how much fits; what is unread after each call
 --     Ways            what each way through a function owes

@@ -1,7 +1,7 @@
--- Because unread bytes move where room is short, how much fits goes by what is unread alone, wherever the marks stand.
---     room-left             the bytes of a buffer that are not unread
---     fitting-by-unread     of n bytes there fit as many as that
---     lacks-by-unread       and `write_all` refuses where that is below what is asked for
+-- Unread bytes move where room is short. So how much fits depends only on how many bytes are unread, and not on where the marks stand.
+--     room-left             how many bytes of a buffer are not unread
+--     fitting-by-unread     of n bytes, that many fit, and at most n
+--     lacks-by-unread       `write_all` refuses if that is fewer than what is asked for
 -- Assumes nothing.
 use mathlib.Core.Path.{_≡_, sym, ap, _∙_}
 use mathlib.Core.Bool.{false}
@@ -24,7 +24,7 @@ unfolding moved
 room-moved s g = ap (λ (n : ℕ). n - unread s) (length-moved s g)
 
 module _ (n : ℕ) (s : Buffer) (g : Sound s) where
-  -- where nothing moves there is room for n, and so there is beside what is unread
+  -- Where nothing moves there is room for n after the write mark, and so at least n bytes are not unread.
   unmoved : ltb (room s) n ≡ false → n ≤ room-left s
   unmoved e =
       let enough : n ≤ room s = ltb-false _ _ e in

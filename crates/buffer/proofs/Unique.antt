@@ -1,5 +1,5 @@
--- No second answer satisfies a promise: what the `ensures` of a call says is true of one answer alone, and of one content of the
--- lent slice at exit. `Post` is the contract itself, as the check reads it. First the calls that take any marks, then those of
+-- No second answer satisfies a promise: what the `ensures` of a call says is true of one answer only, and of one content of the lent
+-- slice at exit. `Post` is the contract itself, as the check reads it. The calls that take any marks come first, then those of
 -- `marked` and `span`. Assumes nothing.
 use mathlib.Core.Path.{_≡_, refl, sym, ap, _∙_}
 use mathlib.Core.Bool.{Bool, cond}
@@ -53,7 +53,7 @@ use Rattle.buffer.proofs.span.move_front.Reads as move-front
 use Rattle.buffer.proofs.span.fill.Kinds as span-fill-kinds
 use Rattle.buffer.proofs.span.fill.Reads as span-fill
 
--- document 01's number and values tell the answer, and the bytes
+-- Document 01's number and values determine the answer, and the bytes too.
 named : Answering → Answer
 named o = cond (eqb (o .answer) 0) (Done (o .count) (o .leaves .marks)) (cond (eqb (o .answer) 1) (Overflow (o .leaves .marks)) Broken)
 
@@ -99,13 +99,13 @@ read-only κs a x y s t p q = (answer-once _ x y _ _ (p .0) (q .0) .0, p .1 ∙ 
 
 -- ---- marked and span
 
--- a buffer that is left tells its bytes and its marks
+-- If two buffers are left as t, their bytes and their marks are the same.
 pub left-once : {b c : List ℕ} {m l : Marks} {t : Buffer} → Leaves (buffer b m) t → Leaves (buffer c l) t → (m ≡ l) × (b ≡ c)
 left-once p q =
     let e = p .same ∙ sym (q .same) in
     (ap (λ (s : Buffer). s .marks) e, ap (λ (s : Buffer). s .bytes) e)
 
--- a count, or whether all was taken, beside the marks
+-- These are the results of the calls of `marked`: a count, or whether all was taken, together with the marks.
 abbrev taken : ℕ → Marks → Taken
 taken n m = record { count = n; marks = m }
 

@@ -1,5 +1,5 @@
--- What is unread after each call: the move changes no unread byte, a write puts bytes behind them, a read takes them off their front.
--- Assumes nothing.
+-- These laws say what is unread after each call: the move changes no unread byte, a write appends bytes to the unread ones, and a read
+-- takes bytes off their front. Assumes nothing.
 use mathlib.Core.Path.{_≡_, refl, sym, ap, _∙_}
 use mathlib.Core.Bool.{Bool, true, false, cond}
 use mathlib.Core.List.{List, [], _++_}
@@ -25,7 +25,7 @@ unread-moved s g =
     let n : unread s - 0 ≡ 0 + length ys = omega (arith, length-unread s g) in
     ap (λ (k : ℕ). take k (overlay (s .bytes) 0 ys)) n ∙ take-overlay (s .bytes) 0 ys zero-le
 
--- "(both marks go to 0 if none)": the move of nothing empties
+-- "(both marks go to 0 if none)": if nothing is unread, the move empties the buffer.
 pub moved-emptied : (s : Buffer) → unread s ≡ 0 → moved s ≡ emptied s
 unfolding moved emptied unreadBytes
 moved-emptied s e = rw (e, overlay-nothing)
@@ -49,7 +49,7 @@ unread-appended ys s g fits =
     ∙ drop-append-le r (take w b) ys (omega arith)
     ∙ ap (λ (l : List ℕ). l ++ ys) (drop-take r w b order (omega arith))
 
--- a write behind the room that was made
+-- A write after room was made appends its bytes to the unread ones.
 behind : (n : ℕ) (ys : List ℕ) (s : Buffer) → Sound s → length ys ≤ room (withRoom n s) → unreadBytes (appended ys (withRoom n s)) ≡ unreadBytes s ++ ys
 behind n ys s g fits = unread-appended ys (withRoom n s) (sound-withRoom n s g) fits ∙ ap (λ (l : List ℕ). l ++ ys) (unread-withRoom n s g)
 
@@ -61,7 +61,7 @@ pub unread-filled : (v n : ℕ) (s : Buffer) → Sound s → unreadBytes (filled
 unfolding filled
 unread-filled v n s g = behind n (replicate (fitting n s) v) s g (filled-fits v n s)
 
--- filling by none changes nothing
+-- A fill with no bytes changes nothing.
 pub filled-none : (v : ℕ) (s : Buffer) → filled v 0 s ≡ s
 unfolding filled fitting withRoom appended
 filled-none v s = rw (le-ltb (room s) 0 zero-le, min-zero (room s), overlay-nothing, add-zero)

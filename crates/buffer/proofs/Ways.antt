@@ -1,5 +1,5 @@
--- One law for each way through a function of src/: from the tests on the way and what its callees ensure, what it owes.
--- Assumes nothing.
+-- There is one law for each way through a function of src/. From the tests on the way and from what the callees ensure, it proves what the
+-- function owes. Assumes nothing.
 use mathlib.Core.Path.{_≡_, sym, ap, _∙_, subst}
 use mathlib.Core.Bool.{Bool, true, false, cond, not}
 use mathlib.Core.List.{List}
@@ -15,9 +15,9 @@ use Rattle.buffer.specs.Inner.Buffer.{Sound, Leaves}
 use Rattle.buffer.specs.Calls.{answering, unlessBroken}
 use Rattle.buffer.proofs.Kept.{is-sound, sound-moved, sound-written, sound-filled, sound-writtenAll, sound-readOff, sound-withRoom}
 
--- ---- marked: t is the buffer after the move, b its bytes at the end
+-- ---- marked: t is the buffer after room was made, and b are its bytes at the end
 
--- what equals a sound buffer is sound
+-- A buffer that equals a sound one is sound.
 leaves : {s t : Buffer} → s ≡ t → Sound t → Leaves s t
 leaves e g = record { same = e; sound = subst Sound (sym e) g }
 
@@ -33,7 +33,7 @@ pub room-enough : (n : ℕ) (s : Buffer) → n ≤ room s → Sound s → Leaves
 unfolding withRoom
 room-enough n s h g = leaves (rw (le-ltb _ _ h)) (sound-withRoom n s g)
 
--- what fits of n bytes goes behind the write mark: k bytes, ys
+-- What fits of n bytes is appended: the k bytes ys.
 module _ (n k : ℕ) (s t : Buffer) (et : Leaves t (withRoom n s)) (ek : k ≡ min (room t) n) where
   pub fits : k ≡ fitting n s
   unfolding fitting
@@ -44,7 +44,7 @@ module _ (n k : ℕ) (s t : Buffer) (et : Leaves t (withRoom n s)) (ek : k ≡ m
   unfolding appended
   behind ys b l e = rw (← et .same, l, e)
 
--- the first k of l are k, where k is what fits of l
+-- If k is what fits of l, the first k elements of l are k elements.
 pub cut : (k r : ℕ) (l : List ℕ) → k ≡ min r (length l) → length (take k l) ≡ k
 cut k r l e = length-take-le k l (omega (arith, min-le-right r (length l)))
 
@@ -62,7 +62,7 @@ unfolding filled
 fills v n k s t g et ek b e =
     leaves (rw (← fits n k s t et ek) (behind n k s t et ek (replicate k v) b (length-replicate k v) e)) (sound-filled v n s g)
 
--- all of ys or nothing: n bytes of room are asked for
+-- All of ys is appended or nothing; room for n bytes is asked for.
 module _ (want : ℕ) (ys : List ℕ) (n : ℕ) (s t : Buffer) (g : Sound s) (en : n ≡ max want (length ys)) (et : Leaves t (withRoom n s)) where
   lacks : room t < n → lacksRoom (max want (length ys)) s ≡ true
   unfolding lacksRoom
@@ -81,7 +81,7 @@ module _ (want : ℕ) (ys : List ℕ) (n : ℕ) (s t : Buffer) (g : Sound s) (en
   unfolding writtenAll appended
   takes-all h b e = (rw (has h), leaves (rw (has h, ← en, ← et .same, e)) (sound-writtenAll want ys s g))
 
--- k bytes, at most n, are read off into d, which ends as e
+-- At most n bytes are read, k of them, into d, which becomes e.
 pub reads : (d : List ℕ) (n k : ℕ) (s : Buffer) → Sound s → k ≡ min (unread s) n → (e : List ℕ)
     → e ≡ overlay d 0 (take (s .marks .read + k - s .marks .read) (drop (s .marks .read) (s .bytes)))
     → (k ≡ ready n s) × Leaves (buffer (s .bytes) (at (s .marks .read + k) (s .marks .write))) (readOff n s) × (e ≡ overlay d 0 (given n s))
@@ -91,7 +91,7 @@ reads d n k s g ek e ee =
     let first = take-take k (unread s) (drop (s .marks .read) (s .bytes)) (omega (arith, min-le-left (unread s) n)) in
     (ek, leaves (rw ek) (sound-readOff n s g), rw (same, ← first, ek) at ee)
 
--- ---- the public calls: x is what `sound` answered
+-- ---- the public calls: x is the answer of `sound`
 
 pub tested : (s : Buffer) {x : Bool} → x ≡ isSound (length (s .bytes)) (s .marks) → x ≡ true → Sound s
 tested s e h = is-sound s (sym e ∙ h)
@@ -105,11 +105,11 @@ module _ (s : Buffer) {x : Bool} (e : x ≡ isSound (length (s .bytes)) (s .mark
   unfolding unlessBroken
   passes refused h p = rw (← e, h) p
 
--- a count and a buffer
+-- Two outcomes with the same count and the same buffer are the same.
 pub counts : {n k : ℕ} {t u : Buffer} → n ≡ k → t ≡ u → answering 0 n t ≡ answering 0 k u
 counts en et = rw (en, et)
 
--- all was taken or nothing: d is whether it was
+-- All was taken, or nothing; d says which.
 module _ (s : Buffer) (n k : ℕ) {t u : Buffer} {d : Bool} (ed : d ≡ not (lacksRoom n s)) (et : t ≡ u) where
   pub all-taken : d ≡ true → answering 0 k t ≡ cond (lacksRoom n s) (answering 1 0 u) (answering 0 k u)
   all-taken h = rw (not-true (lacksRoom n s) (sym ed ∙ h), et)

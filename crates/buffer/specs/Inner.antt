@@ -1,3 +1,3 @@
--- What only inner functions promise or require: no public contract and no public theorem rests on it (checks/believed).
+-- These definitions are only for inner functions: no public contract and no public theorem rests on them (checks/believed).
 --     Buffer    sound marks as a fact
 pub mod Buffer

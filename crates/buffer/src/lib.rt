@@ -1,6 +1,6 @@
-// The linear buffer of document 01, after buffer.rs: lent bytes with a read mark and a write mark that go by value.
-// Every call here takes any marks: marks that are out of order or past the bytes are answered Broken, and nothing
-// changes. `marked` has the same calls for a caller that has tested its marks already.
+// This is the linear buffer of document 01, after buffer.rs: the bytes are lent, and a read mark and a write mark go by value. The calls
+// here take any marks: if these are out of order or past the bytes, the answer is Broken and nothing changes. `marked` has the same calls
+// for a caller that has already tested its marks.
 pub mod marked;
 pub mod span;
 
@@ -9,22 +9,23 @@ ghost use lib.ListN.{length};
 ghost use Rattle.buffer.specs.Buffer.{buffer, isSound};
 ghost use Rattle.buffer.specs.Calls.{answerOf, availableCall, cleanCall, shiftCall, writeCall, writeAllCall, fillCall, readCall, readInto};
 
-// The next byte to read, and the next to write.
+// `read` is the index of the next byte to read, and `write` that of the next byte to write.
 pub struct Marks {
     pub read: usize,
     pub write: usize,
 }
 
+// Every call of the buffer gives one of these answers.
 pub enum Answer {
-    // How many bytes the call took, gave or found, and the marks after it.
+    // The call is done: it took, gave or found this many bytes, and the marks after it are these.
     Done(usize, Marks),
-    // The room, after the move, is below what was asked for; the move stays.
+    // The room, after the move, is below what was asked for. The move stays, so there are new marks.
     Overflow(Marks),
     // The marks are out of order or past the bytes.
     Broken,
 }
 
-// Whether the marks are in order and within len bytes.
+// Tests whether the marks `m` are in order and within `len` bytes.
 pub fn sound(len: usize, m: Marks) -> bool
     ensures { λ r. ⌜ r ≡ isSound len m ⌝ }
 {
@@ -34,7 +35,7 @@ pub fn sound(len: usize, m: Marks) -> bool
     false
 }
 
-// How many bytes are unread.
+// Counts the unread bytes of `io`.
 pub fn available(io: &[u8], m: Marks) -> Answer
     ensures { λ r. ⌜ answerOf m r (now (io .entry)) ≡ availableCall (buffer (now (io .entry)) m) ⌝ }
 {
@@ -44,7 +45,7 @@ pub fn available(io: &[u8], m: Marks) -> Answer
     Answer::Broken
 }
 
-// Nothing is unread any more; the bytes stay.
+// Empties the buffer: nothing is unread any more, and the bytes of `io` stay.
 pub fn clean(io: &[u8], m: Marks) -> Answer
     ensures { λ r. ⌜ answerOf m r (now (io .entry)) ≡ cleanCall (buffer (now (io .entry)) m) ⌝ }
 {
@@ -54,7 +55,7 @@ pub fn clean(io: &[u8], m: Marks) -> Answer
     Answer::Broken
 }
 
-// The unread bytes move to the front.
+// Moves the unread bytes of `io` to the front.
 pub fn shift(io: &mut [u8], m: Marks) -> Answer
     ensures { λ r. ⌜ answerOf m r (now (io .exit)) ≡ shiftCall (buffer (now (io .entry)) m) ⌝ }
 {
@@ -65,7 +66,7 @@ pub fn shift(io: &mut [u8], m: Marks) -> Answer
     Answer::Broken
 }
 
-// What fits of src goes behind the unread bytes.
+// Appends what fits of `src` to the unread bytes.
 pub fn write(io: &mut [u8], m: Marks, src: &[u8]) -> Answer
     ensures { λ r. ⌜ answerOf m r (now (io .exit)) ≡ writeCall (now (src .entry)) (buffer (now (io .entry)) m) ⌝ }
 {
@@ -77,8 +78,8 @@ pub fn write(io: &mut [u8], m: Marks, src: &[u8]) -> Answer
     Answer::Broken
 }
 
-// All of src goes behind the unread bytes, or nothing: `want` bytes of room are asked for, and src's own length.
-// An empty src asks for the room alone, as a packet read does whose endpoint then turns out to be busy.
+// Appends all of `src` to the unread bytes, or nothing. Room is asked for `want` bytes, and for all of `src`. With an empty `src` only the
+// room is asked for: a packet read does this if its endpoint turns out to be busy.
 pub fn write_all(io: &mut [u8], m: Marks, want: usize, src: &[u8]) -> Answer
     ensures { λ r. ⌜ answerOf m r (now (io .exit)) ≡ writeAllCall want (now (src .entry)) (buffer (now (io .entry)) m) ⌝ }
 {
@@ -93,7 +94,7 @@ pub fn write_all(io: &mut [u8], m: Marks, want: usize, src: &[u8]) -> Answer
     Answer::Broken
 }
 
-// As many bytes v as fit, and at most n, go behind the unread bytes.
+// Appends the byte `v` to the unread bytes, as often as it fits and at most `n` times.
 pub fn fill_up_to(io: &mut [u8], m: Marks, v: u8, n: usize) -> Answer
     ensures { λ r. ⌜ answerOf m r (now (io .exit)) ≡ fillCall v n (buffer (now (io .entry)) m) ⌝ }
 {
@@ -105,7 +106,7 @@ pub fn fill_up_to(io: &mut [u8], m: Marks, v: u8, n: usize) -> Answer
     Answer::Broken
 }
 
-// The first unread bytes, as many as dst holds, go to dst's front and count as read.
+// Gives the first unread bytes, as many as `dst` holds, to the front of `dst`. After that they count as read.
 pub fn read(io: &[u8], m: Marks, dst: &mut [u8]) -> Answer
     ensures { λ r. ⌜ (answerOf m r (now (io .entry)) ≡ readCall (length (now (dst .entry))) (buffer (now (io .entry)) m))
         × (now (dst .exit) ≡ readInto (now (dst .entry)) (buffer (now (io .entry)) m)) ⌝ }

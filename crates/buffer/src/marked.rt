@@ -1,5 +1,5 @@
-// The buffer's calls for marks that are known to be sound: read mark ≤ write mark ≤ length. Each promises sound
-// marks again, so that a caller tests once.
+// These are the buffer's calls for marks that are known to be sound: read mark ≤ write mark ≤ length. Each call promises sound
+// marks again, so that a caller has to test only once.
 use crate::Marks;
 use crate::span::fill;
 use crate::span::move_front;
@@ -13,32 +13,33 @@ ghost use Rattle.buffer.specs.Buffer.{buffer, at, moved, withRoom, fitti
 ghost use Rattle.buffer.specs.Inner.Buffer.{Sound, Leaves};
 ghost use Rattle.fields.specs.Overlay.{overlay};
 
-// How many bytes a call took or gave, and the marks after it.
+// `count` is how many bytes a call took or gave, and `marks` are the marks after it.
 pub struct Taken {
     pub count: usize,
     pub marks: Marks,
 }
 
-// Whether all bytes were taken, and the marks after it: a refusal keeps the move.
+// `done` says whether all bytes were taken, and `marks` are the marks after the call: a refusal keeps the move.
 pub struct Put {
     pub done: bool,
     pub marks: Marks,
 }
 
+// Gives the greater of `a` and `b`.
 fn greatest(a: usize, b: usize) -> usize
     ensures { λ r. ⌜ r ≡ max a b ⌝ }
 {
     if a < b { b } else { a }
 }
 
-// The marks of an empty buffer.
+// Gives the marks of an empty buffer.
 pub fn clean() -> Marks
     ensures { λ r. ⌜ r ≡ at 0 0 ⌝ }
 {
     Marks { read: 0, write: 0 }
 }
 
-// The unread bytes move to the front.
+// Moves the unread bytes of `io` to the front.
 pub fn shift(io: &mut [u8], m: Marks) -> Marks
     requires { ⌜ Sound (buffer (now io) m) ⌝ }
     ensures { λ r. ⌜ Leaves (buffer (now (io .exit)) r) (moved (buffer (now (io .entry)) m)) ⌝ }
@@ -49,7 +50,7 @@ pub fn shift(io: &mut [u8], m: Marks) -> Marks
     Marks { read: 0, write: n }
 }
 
-// The unread bytes move to the front if fewer than n bytes of room are left behind the write mark.
+// Moves the unread bytes to the front if there is room for fewer than `n` bytes after the write mark.
 pub fn make_room(io: &mut [u8], m: Marks, n: usize) -> Marks
     requires { ⌜ Sound (buffer (now io) m) ⌝ }
     ensures { λ r. ⌜ Leaves (buffer (now (io .exit)) r) (withRoom n (buffer (now (io .entry)) m)) ⌝ }
@@ -60,7 +61,7 @@ pub fn make_room(io: &mut [u8], m: Marks, n: usize) -> Marks
     m
 }
 
-// What fits of src goes behind the write mark.
+// Appends what fits of `src` to the unread bytes.
 pub fn write(io: &mut [u8], m: Marks, src: &[u8]) -> Taken
     requires { ⌜ Sound (buffer (now io) m) ⌝ }
     ensures { λ r. ⌜ (r .count ≡ fitting (length (now (src .entry))) (buffer (now (io .entry)) m))
@@ -79,7 +80,7 @@ pub fn write(io: &mut [u8], m: Marks, src: &[u8]) -> Taken
     }
 }
 
-// All of src goes behind the write mark, or nothing: `want` bytes of room are asked for, and src's own length.
+// Appends all of `src` to the unread bytes, or nothing. Room is asked for `want` bytes, and for all of `src`.
 pub fn write_all(io: &mut [u8], m: Marks, want: usize, src: &[u8]) -> Put
     requires { ⌜ Sound (buffer (now io) m) ⌝ }
     ensures { λ r. ⌜ (r .done ≡ not (lacksRoom (max want (length (now (src .entry)))) (buffer (now (io .entry)) m)))
@@ -104,7 +105,7 @@ pub fn write_all(io: &mut [u8], m: Marks, want: usize, src: &[u8]) -> Put
     }
 }
 
-// As many bytes v as fit, and at most n, go behind the write mark.
+// Appends the byte `v` to the unread bytes, as often as it fits and at most `n` times.
 pub fn fill_up_to(io: &mut [u8], m: Marks, v: u8, n: usize) -> Taken
     requires { ⌜ Sound (buffer (now io) m) ⌝ }
     ensures { λ r. ⌜ (r .count ≡ fitting n (buffer (now (io .entry)) m))
@@ -123,7 +124,7 @@ pub fn fill_up_to(io: &mut [u8], m: Marks, v: u8, n: usize) -> Taken
     }
 }
 
-// The first unread bytes, at most `most`, go to dst's front and count as read.
+// Gives the first unread bytes, at most `most`, to the front of `dst`. After that they count as read.
 pub fn read(io: &[u8], m: Marks, most: usize, dst: &mut [u8]) -> Taken
     requires { ⌜ Sound (buffer (now io) m) × (most ≤ length (now dst)) ⌝ }
     ensures { λ r. ⌜ (r .count ≡ ready most (buffer (now (io .entry)) m))

@@ -1,4 +1,4 @@
--- Facts about tests that the library lacks. Assumes nothing.
+-- These facts about tests are not in the library. Assumes nothing.
 use mathlib.Core.Path.{_≡_, refl, sym, subst}
 use mathlib.Core.Bool.{Bool, true, false, not, cond, _&&_}
 use lib.Dec.{T}
@@ -12,12 +12,12 @@ and-right true b e = e
 and-right false true e = refl
 and-right false false e = e
 
--- what holds of each, where it is picked, holds of the one that the test picks
+-- A test picks `s` or `t`. If P holds of each of them where it is picked, P holds of the one that is picked.
 pub of-picked : {A : Type 0} (P : A → Type 0) (b : Bool) {s t : A} → (b ≡ true → P s) → (b ≡ false → P t) → P (cond b s t)
 of-picked P true p q = p refl
 of-picked P false p q = q refl
 
--- what a negated test says of the test
+-- A negated test tells what the test is.
 pub not-true : (b : Bool) → not b ≡ true → b ≡ false
 not-true true e = sym e
 not-true false e = refl
@@ -26,6 +26,6 @@ pub not-false : (b : Bool) → not b ≡ false → b ≡ true
 not-false true e = refl
 not-false false e = sym e
 
--- the two are not the same
+-- The two truth values differ.
 pub clash : true ≡ false → ⊥
 clash e = subst T e tt

@@ -1,14 +1,14 @@
--- Tables of cases: how one is shown to hold, and that tables can be joined. Assumes nothing.
+-- A table of cases is shown to hold by computing it, and tables that hold can be joined. Assumes nothing.
 use mathlib.Core.Path.{refl}
 use mathlib.Core.List.{List, [], _∷_, _++_}
 use Rattle.fields.specs.Case.{Case, case, AllHold}
 
--- each case with what is computed in the place of what is expected
+-- In each case the computed value takes the place of the expected one.
 unfoldable pub computing-twice : List Case → List Case
 computing-twice [] = []
 computing-twice (c ∷ cs) = case (c .computed) (c .computed) ∷ computing-twice cs
 
--- Such a table holds. Where antt computes all that stands in a table, the two tables are one for it, and this proves both.
+-- Such a table holds. Where antt computes all that stands in a table, it takes the two tables for one, and this proves both.
 pub by-computing : (table : List Case) → AllHold (computing-twice table)
 unfolding AllHold computing-twice
 by-computing [] = tt

@@ -1,4 +1,4 @@
--- To unfold this is to unfold all that cases over this crate's definitions compute with, and the statement of a table. Assumes nothing.
+-- Unfolding this unfolds all that cases over this crate's definitions compute with, and the statement of a table. Assumes nothing.
 use Rattle.fields.specs.Overlay.{overlay}
 use Rattle.fields.specs.Field.{bytesAt, counted, digits, ordered, get, put, tile, getBits}
 use Rattle.fields.specs.Case.{AllHold}

@@ -1,11 +1,11 @@
--- Laws of fields: one for each fact, at every width.
+-- These are laws of fields: one for each fact, at every width.
 --     byte-read, one-order           a field of one byte is that byte, in either order
 --     little-doubled, big-doubled    two fields side by side are one of twice the width
 --     get-append, get-front          what follows the message does not count
 --     put-stored, four-stored, byte-stored    stores in order write a field
---     length-put                     a message stays as long as it is
+--     length-put                     a message keeps its length
 --     get-put                        what was written is read
---     bytes-before, bytes-behind, get-before, get-behind    a field before or behind it keeps its bytes, and reads as before
+--     bytes-before, bytes-behind, get-before, get-behind    a field before or after the written one keeps its bytes, and reads as before
 --     shifted-one                    the divisor of a field of bits
 -- Assumes nothing.
 use mathlib.Core.Path.{_≡_, refl, sym, ap, _∙_}
@@ -70,7 +70,7 @@ pub one-order : (m : List ℕ) (at : ℕ) {x : ℕ} → at < length m → x ≡ 
 unfolding get bytesAt ordered
 one-order m at h e = rw (drop-cons m at 0 h) (rw (drop-cons m at 0 h) at e)
 
--- the bytes of a field are those of its two halves
+-- The bytes of a field are those of its two halves.
 halves : (m : List ℕ) (at w : ℕ) → take (w + w) (drop at m) ≡ take w (drop at m) ++ take w (drop (at + w) m)
 halves m at w = take-add w w (drop at m) ∙ ap (λ (l : List ℕ). take w (drop at m) ++ take w l) (drop-drop w at m)
 
@@ -123,7 +123,7 @@ unfolding digits
 byte-stored m at n h k = ap (set m at) (sym (mod-eq-of-lt h)) ∙ put-stored m at 1 n (omega arith)
 
 module _ (f : Field) (n : ℕ) (m : List ℕ) (fits : f .start + f .width ≤ length m) where
-  -- the bytes that are laid over m
+  -- These bytes are laid over m.
   ys : List ℕ
   ys = ordered (f .order) (digits (f .width) n)
 
@@ -155,6 +155,6 @@ module _ (f : Field) (n : ℕ) (m : List ℕ) (fits : f .start + f .width ≤ le
 
 -- ---- bits
 
--- one shifted left within a byte is a power of two
+-- One shifted left within a byte is a power of two.
 pub shifted-one : (k : ℕ) → k < 8 → 1 * 2 ^ k % 2 ^ 8 ≡ 2 ^ k
 shifted-one k h = shl-exact {a = 1} 1 k 8 (lit< tt) (omega arith) ∙ one-mul (2 ^ k)

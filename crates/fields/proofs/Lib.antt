@@ -1,11 +1,11 @@
--- Laws for the proofs of every crate.
+-- These are laws for the proofs of every crate.
 --     Bools, Seq    tests and lists
 --     UpTo          every number up to a given one
 --     Overlay       a list laid over a part of another, and the loops that do it
---     Field         numbers in bytes: one law for each width
+--     Field         numbers in bytes: one law for each fact, at every width
 --     Case          how a table of cases is shown to hold; tables can be joined
 --     Wrong         a table with a wrong case does not hold
---     Only          what it is that a contract has no second answer
+--     Only          what it means that a contract has no second answer
 --     Unique        no contract of this crate has one
 --     Computing     what cases compute with
 --     Cases         the cases of specs/Cases.antt hold

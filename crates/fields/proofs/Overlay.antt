@@ -1,10 +1,10 @@
--- Laws of `overlay`, and of any loop that makes one by stores in order.
---     overlay-nothing, overlay-own, overlay-whole       nothing laid over, and a list's own part, change nothing; what is as long hides all
+-- These are laws of `overlay`, and of any loop that makes one by stores in order.
+--     overlay-nothing, overlay-own, overlay-whole       an empty list and a list's own part change nothing; one as long as d hides d
 --     length-overlay                                    the length stays
 --     take-overlay, drop-overlay                        the list up to the end of ys, and from there on
---     overlay-before, overlay-inside, overlay-after     each element: before ys, in ys, behind ys
---     part-inside, part-before, part-behind             parts: ys itself, and what lies before or behind it
---     overlay-stored                                    a store right behind ys makes ys one longer
+--     overlay-before, overlay-inside, overlay-after     each element: before ys, in ys, after ys
+--     part-inside, part-before, part-behind             parts: ys itself, and what lies before or after it
+--     overlay-stored                                    a store right after ys makes ys one longer
 --     Laid, laid-start, laid-turn, laid-end, unmoved    the invariant of such a loop
 -- Assumes nothing.
 use mathlib.Core.Path.{_≡_, refl, sym, ap, _∙_}
@@ -22,7 +22,7 @@ pub overlay-nothing : (d : List ℕ) (at : ℕ) → overlay d at [] ≡ d
 unfolding overlay
 overlay-nothing d at = simp (add-zero, append-nil, take-append-drop)
 
--- a part of d where it stands already
+-- The part of d is laid where it already stands.
 pub overlay-own : (d : List ℕ) (at n : ℕ) → at + n ≤ length d → overlay d at (take n (drop at d)) ≡ d
 unfolding overlay
 overlay-own d at n h =
@@ -30,13 +30,13 @@ overlay-own d at n h =
     let long : length part ≡ n = length-take-le n (drop at d) (omega (arith, length-drop at d)) in
     rw (long, ← drop-drop n at d, append-assoc (take at d) part (drop n (drop at d)), take-append-drop n (drop at d), take-append-drop at d)
 
--- what is as long as d hides it
+-- A list as long as d hides all of d.
 pub overlay-whole : (d ys : List ℕ) → length ys ≡ length d → overlay d 0 ys ≡ ys
 unfolding overlay
 overlay-whole d ys e = ap (λ (r : List ℕ). ys ++ r) (drop-of-length-le d {i = 0 + length ys} (omega arith)) ∙ append-nil ys
 
 module _ (d : List ℕ) (at : ℕ) (ys : List ℕ) where
-  -- what stands before the rest of d, with ys
+  -- The list up to the end of ys has this length.
   length-head : at ≤ length d → length (take at d ++ ys) ≡ at + length ys
   length-head h = length-append (take at d) ys ∙ ap (λ (k : ℕ). k + length ys) (length-take-le at d h)
 
@@ -139,7 +139,8 @@ laid-turn d at ys i l v fits h hi ev =
 pub laid-end : (d : List ℕ) (at : ℕ) (ys : List ℕ) (i : ℕ) (l : List ℕ) → Laid d at ys i l → length ys ≤ i → l ≡ overlay d at ys
 laid-end d at ys i l h e = h .laid ∙ ap (overlay d at) (take-all i ys e)
 
--- Where ys are n elements of d itself from index f on, laid over d's front, the one that is read next has not been laid over yet.
+-- Let ys be n elements of d itself, from index f on, which are laid over the front of d. Then the element
+-- that is read next has not been overwritten yet.
 pub unmoved : (d : List ℕ) (f n i : ℕ) (l : List ℕ)
     → Laid d 0 (take n (drop f d)) i l → i < n → f + n ≤ length d → getD l (f + i) 0 ≡ getD (take n (drop f d)) i 0
 unmoved d f n i l h hi fits =

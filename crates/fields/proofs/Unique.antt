@@ -1,5 +1,5 @@
--- No second answer satisfies a promise: what the `ensures` of a function says is true of one answer alone, and of one content of the
--- lent slice at exit. `Post` is the contract itself, as the check reads it. Assumes nothing.
+-- No second answer satisfies a promise: what the `ensures` of a function says is true of one answer only, and of one content of the lent
+-- slice at exit. `Post` is the contract itself, as the check reads it. Assumes nothing.
 use mathlib.Core.Path.{refl, sym, _∙_}
 use denote.Ref.{now}
 use Rattle.fields.proofs.Only.{Only}

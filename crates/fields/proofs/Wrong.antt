@@ -1,4 +1,4 @@
--- A table with a wrong case does not hold: whatever the kind, and whatever stands around it. Assumes nothing.
+-- A table with a wrong case does not hold, whatever the kind of that case is and whatever stands around it. Assumes nothing.
 use mathlib.Core.Path.{_≡_, refl, ap}
 use mathlib.Core.Bool.{true, false, not}
 use mathlib.Core.List.{List, [], _∷_, _++_}
@@ -9,7 +9,7 @@ use Rattle.fields.specs.Field.{digits}
 use Rattle.fields.specs.Case.{Case, case, AllHold}
 use Rattle.fields.proofs.Bools.{clash}
 
--- what a table says of each of its cases
+-- If a table holds, each of its cases does.
 pub holds-there : (before : List Case) (c : Case) (behind : List Case) → AllHold (before ++ c ∷ behind) → c .computed ≡ c .expected
 unfolding AllHold
 holds-there [] c behind (holds, _) = holds
@@ -18,7 +18,7 @@ holds-there (_ ∷ before) c behind (_, rest) = holds-there before c behind rest
 pub bites : {A : Type 0} (before : List Case) (x y : A) (behind : List Case) → (x ≡ y → ⊥) → AllHold (before ++ case x y ∷ behind) → ⊥
 bites before x y behind differ holds = differ (holds-there before (case x y) behind holds)
 
--- ---- three small tables, each with a right case in front of a wrong one
+-- ---- three small tables, each with a right case and then a wrong one
 
 pub wrong-number : AllHold (case (1 + 2) 3 ∷ case (2 + 2) 5 ∷ []) → ⊥
 wrong-number = bites (case (1 + 2) 3 ∷ []) (2 + 2) 5 [] (eqb-false 4 5 refl)

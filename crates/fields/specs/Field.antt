@@ -1,5 +1,5 @@
--- Numbers in bytes: a field of a message, as the public standards' tables give it, and how it is read and written.
--- Assumes nothing: these are definitions.
+-- A field is a part of a message that holds a number, as the tables of the public standards give it. This file says how it is read and
+-- written. Assumes nothing: these are definitions.
 use mathlib.Core.List.{List, [], _∷_, reverse}
 use mathlib.Core.Bool.{Bool, _&&_}
 use Prim.Native.Nat.{ℕ, zero, suc, _+_, _*_, _^_, _/_, _%_}
@@ -7,58 +7,66 @@ use lib.Dec.{eqb}
 use lib.ListN.{take, drop, getD}
 use Rattle.fields.specs.Overlay.{overlay}
 
--- Which byte of a number comes first: the least significant (little-endian) or the most significant (big-endian).
+-- A number's bytes stand in one of two orders: `little` (little-endian) has the least significant byte
+-- first, `big` (big-endian) the most significant one.
 pub data Order : Type 0 where
   little big : Order
 
--- A field of whole bytes: its first byte, how many it has, and their order.
+-- A field of whole bytes has an order of its bytes, `order`; `start` is the index of its first byte in the
+-- message, and `width` is the number of its bytes.
 pub record Field : Type 0 where
   pub order : Order
   pub start : ℕ
   pub width : ℕ
 
+-- `littleEndian` and `bigEndian` make the field of `width` bytes from index `start` on, in the one order and the other.
 abbrev pub littleEndian : ℕ → ℕ → Field
 littleEndian start width = record { order = little; start = start; width = width }
 
 abbrev pub bigEndian : ℕ → ℕ → Field
 bigEndian start width = record { order = big; start = start; width = width }
 
--- one byte has no order
+-- This is the field of the one byte at index `start`. One byte has no order, so `little` would be as good as `big`.
 abbrev pub oneByte : ℕ → Field
 oneByte start = littleEndian start 1
 
--- a field's own bytes in the message m
+-- These are the bytes of the field `f` in the message `m`, as they stand there.
 unfoldable pub bytesAt : Field → List ℕ → List ℕ
 bytesAt f m = take (f .width) (drop (f .start) m)
 
--- what bytes count, the least significant first; and the bytes of a number, so many
+-- This is the number that bytes stand for, with the least significant byte first: the first byte, `b`, counts once, and
+-- what the others, `bs`, stand for counts 256 times.
 unfoldable pub counted : List ℕ → ℕ
 counted [] = 0
 counted (b ∷ bs) = b + 256 * counted bs
 
+-- These are the least significant bytes of the number `n`, with the least significant one first. The first argument is how many they are.
 unfoldable pub digits : ℕ → ℕ → List ℕ
 digits zero n = []
 digits (suc w) n = n % 256 ∷ digits w (n / 256)
 
--- bytes in an order, turned so that the least significant comes first; and, since it is the same turn, turned back
+-- The bytes `bs` stand in the given order. This turns them so that the least significant byte comes first. Turned twice they
+-- are `bs` again, so both `get` and `put` use it.
 unfoldable pub ordered : Order → List ℕ → List ℕ
 ordered little bs = bs
 ordered big bs = reverse bs
 
--- the number that a field of m holds
+-- This is the number that the field `f` of the message `m` holds.
 unfoldable pub get : Field → List ℕ → ℕ
 get f m = counted (ordered (f .order) (bytesAt f m))
 
--- m with the number n in a field: "Bytes outside the part written .. keep their values."
+-- This is the message `m` with the number `n` written to the field `f`: "Bytes outside the part written .. keep their values."
 unfoldable pub put : Field → ℕ → List ℕ → List ℕ
 put f n m = overlay m (f .start) (ordered (f .order) (digits (f .width) n))
 
--- whether fields stand one behind the other, without a gap, from one byte up to another
+-- This tests whether the fields of a list follow one another without a gap and without an overlap: the first one, `f`, starts at `from`,
+-- each of the others, `fs`, starts where the one before it ends, and the last one ends at `to`. With no field left, `from` has to be `to`.
 unfoldable pub tile : ℕ → List Field → ℕ → Bool
 tile from [] to = eqb from to
 tile from (f ∷ fs) to = eqb (f .start) from && tile (from + f .width) fs to
 
--- A field of some bits of one byte: the byte, its lowest bit (0 is the least significant), and how many bits it has.
+-- A field of some bits of one byte has `byte`, the index of that byte in the message; `low`, the lowest of the bits (0 is the least
+-- significant); and `width`, the number of bits. `bits` makes one from these three.
 pub record Bits : Type 0 where
   pub byte : ℕ
   pub low : ℕ
@@ -67,5 +75,6 @@ pub record Bits : Type 0 where
 abbrev pub bits : ℕ → ℕ → ℕ → Bits
 bits byte low width = record { byte = byte; low = low; width = width }
 
+-- This is the number that the bits of the field `f` hold in the message `m`. A byte that `m` does not have counts as 0.
 unfoldable pub getBits : Bits → List ℕ → ℕ
 getBits f m = getD m (f .byte) 0 / 2 ^ f .low % 2 ^ f .width

@@ -1,4 +1,4 @@
--- The words in which the other crates' specifications are written.
+-- The specifications of all crates are written with these definitions.
 --     Overlay    a list laid over a part of another: every write
 --     Field      numbers in bytes: the fields of the public standards' tables
 --     Case       a table of cases under one statement

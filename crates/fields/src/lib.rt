@@ -1,11 +1,12 @@
-// Numbers in byte slices: the fields of the public standards' tables, in either order of their bytes, and bits of a byte.
-// A number of twice the width is two numbers side by side, so each function stands on the one above it. Beside them the lesser of two
-// numbers, which every crate that copies bytes needs.
+// These functions read and write the fields of the public standards' tables: numbers in byte slices, in both orders of their bytes, and
+// bits of one byte. A number of twice the width is two numbers side by side, so each function that reads one calls the function for half
+// its width. `least` stands here because several crates need it.
 ghost use mathlib.Core.Path.{_≡_};
 ghost use Prim.Native.Nat.{_+_, _≤_, _<_, min};
 ghost use lib.ListN.{length};
 ghost use Rattle.fields.specs.Field.{littleEndian, bigEndian, oneByte, get, put, bits, getBits};
 
+// Reads the byte of `m` at index `at`.
 pub fn byte(m: &[u8], at: usize) -> u8
     requires { ⌜ at < length (now m) ⌝ }
     ensures { λ r. ⌜ r ≡ get (oneByte at) (now (m .entry)) ⌝ }
@@ -13,6 +14,7 @@ pub fn byte(m: &[u8], at: usize) -> u8
     m[at]
 }
 
+// Reads the number in the 2 bytes of `m` from index `at` on, the least significant byte first.
 pub fn le16(m: &[u8], at: usize) -> u16
     requires { ⌜ at + 2 ≤ length (now m) ⌝ }
     ensures { λ r. ⌜ r ≡ get (littleEndian at 2) (now (m .entry)) ⌝ }
@@ -22,6 +24,7 @@ pub fn le16(m: &[u8], at: usize) -> u16
     low + 256 * high
 }
 
+// Reads the number in the 4 bytes of `m` from index `at` on, the least significant byte first.
 pub fn le32(m: &[u8], at: usize) -> u32
     requires { ⌜ at + 4 ≤ length (now m) ⌝ }
     ensures { λ r. ⌜ r ≡ get (littleEndian at 4) (now (m .entry)) ⌝ }
@@ -31,6 +34,7 @@ pub fn le32(m: &[u8], at: usize) -> u32
     low + 65536 * high
 }
 
+// Reads the number in the 2 bytes of `m` from index `at` on, the most significant byte first.
 pub fn be16(m: &[u8], at: usize) -> u16
     requires { ⌜ at + 2 ≤ length (now m) ⌝ }
     ensures { λ r. ⌜ r ≡ get (bigEndian at 2) (now (m .entry)) ⌝ }
@@ -40,6 +44,7 @@ pub fn be16(m: &[u8], at: usize) -> u16
     256 * high + low
 }
 
+// Reads the number in the 4 bytes of `m` from index `at` on, the most significant byte first.
 pub fn be32(m: &[u8], at: usize) -> u32
     requires { ⌜ at + 4 ≤ length (now m) ⌝ }
     ensures { λ r. ⌜ r ≡ get (bigEndian at 4) (now (m .entry)) ⌝ }
@@ -49,6 +54,7 @@ pub fn be32(m: &[u8], at: usize) -> u32
     65536 * high + low
 }
 
+// Reads the number in the 8 bytes of `m` from index `at` on, the most significant byte first.
 pub fn be64(m: &[u8], at: usize) -> u64
     requires { ⌜ at + 8 ≤ length (now m) ⌝ }
     ensures { λ r. ⌜ r ≡ get (bigEndian at 8) (now (m .entry)) ⌝ }
@@ -58,6 +64,7 @@ pub fn be64(m: &[u8], at: usize) -> u64
     4294967296 * high + low
 }
 
+// Writes `n` to the 4 bytes of `m` from index `at` on, the least significant byte first.
 pub fn put_le32(m: &mut [u8], at: usize, n: u32)
     requires { ⌜ at + 4 ≤ length (now m) ⌝ }
     ensures { λ _. ⌜ now (m .exit) ≡ put (littleEndian at 4) n (now (m .entry)) ⌝ }
@@ -71,7 +78,7 @@ pub fn put_le32(m: &mut [u8], at: usize, n: u32)
     m[at + 3] = (fourth % 256) as u8;
 }
 
-// Of the byte at `at` the bits from `low` up, `width` of them.
+// Reads `width` bits of the byte of `m` at index `at`, from the bit `low` upwards.
 pub fn bits_of(m: &[u8], at: usize, low: u8, width: u8) -> u8
     requires { ⌜ (at < length (now m)) × (low < 8) × (width < 8) ⌝ }
     ensures { λ r. ⌜ r ≡ getBits (bits at low width) (now (m .entry)) ⌝ }
@@ -79,6 +86,7 @@ pub fn bits_of(m: &[u8], at: usize, low: u8, width: u8) -> u8
     (m[at] >> low) % (1u8 << width)
 }
 
+// Gives the lesser of `a` and `b`.
 pub fn least(a: usize, b: usize) -> usize
     ensures { λ r. ⌜ r ≡ min a b ⌝ }
 {

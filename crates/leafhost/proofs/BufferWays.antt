@@ -1,4 +1,4 @@
--- What each way through a call of the buffer owes, once for all of them (`ways`). Assumes nothing.
+-- This is what each way through a call of the buffer owes, once for all of the calls (`ways`). Assumes nothing.
 use mathlib.Core.Path.{_≡_, refl}
 use mathlib.Core.List.{List, [], _∷_}
 use Prim.Native.Nat.{ℕ}
@@ -13,18 +13,18 @@ use Rattle.buffer.specs.Calls.{Answering, answerOf, readInto}
 use Rattle.leafhost.specs.Buffer.{host, markedBy, shown, hosted, hostInto}
 use Rattle.leafhost.specs.Inner.Buffer.{numberOf, marksOf}
 
--- three stores fill a list of three
+-- Three stores fill a list of three.
 pub three-stored : (l : List ℕ) (a b c : ℕ) → length l ≡ 3 → set (set (set l 0 a) 1 b) 2 c ≡ a ∷ b ∷ c ∷ []
 three-stored l a b c e = all-stored l (a ∷ b ∷ c ∷ []) e
 
--- an answer, as its caller sees it
+-- The caller sees an answer as its number, the bytes, and the three numbers.
 shown-answer : (m : Marks) (a : Answer) (b was : List ℕ) → shown was (answerOf m a b) ≡ host (numberOf a) b (marksOf a was)
 unfolding shown
 shown-answer m (Done n t) b was = refl
 shown-answer m (Overflow t) b was = refl
 shown-answer m Broken b was = refl
 
--- the caller has three numbers: m are its marks, a the buffer's answer, b its bytes then
+-- The caller has three numbers: m are its marks, a is the buffer's answer, and b are its bytes after the call.
 pub reports : (call : Buffer → Answering) (io marks : List ℕ) (m : Marks) (a : Answer) (b after : List ℕ) (r : ℕ)
     → length marks ≡ 3 → m ≡ markedBy marks → answerOf m a b ≡ call (buffer io m) → r ≡ numberOf a → after ≡ marksOf a marks
     → host r b after ≡ hosted call io marks
@@ -36,7 +36,7 @@ pub reads : (d io marks : List ℕ) (m : Marks) (e : List ℕ)
 unfolding hostInto
 reads d io marks m e l em ee = rw (eq-eqb _ _ l, ← em) ee
 
--- the caller has not
+-- The caller does not have three numbers.
 pub refuses : (call : Buffer → Answering) (io marks : List ℕ) → (length marks ≡ 3 → ⊥) → host 10 io marks ≡ hosted call io marks
 unfolding hosted
 refuses call io marks n = rw (ne-eqb _ _ n)

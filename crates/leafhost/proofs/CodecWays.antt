@@ -1,4 +1,4 @@
--- What each way through a call on wrapper or status owes (`ways`). Assumes nothing.
+-- This is what each way through a call on the wrapper or the status owes (`ways`). Assumes nothing.
 use mathlib.Core.Path.{_≡_, sym, ap, _∙_}
 use mathlib.Core.Bool.{true, false}
 use mathlib.Core.List.{List}

@@ -1,5 +1,5 @@
--- No second answer satisfies a promise: what the `ensures` of an exported call says is true of one answer alone, and of one content of
--- each lent slice at exit. `Post` is the contract itself, as the check reads it. Assumes nothing.
+-- No second answer satisfies a promise: what the `ensures` of an exported call says is true of one answer only, and of one content of each
+-- lent slice at exit. `Post` is the contract itself, as the check reads it. Assumes nothing.
 use mathlib.Core.Path.{_≡_, refl, sym, ap, _∙_}
 use mathlib.Core.List.{List}
 use Prim.Native.Nat.{ℕ}
@@ -35,7 +35,7 @@ use Rattle.leafhost.proofs.codecs.wrapper_verdict.Reads as wrapper-verd
 
 -- ---- the buffer
 
--- two lent slices at exit
+-- These are two lent slices at exit.
 pub record Lent : Type 0 where
   pub first : List ℕ
   pub second : List ℕ
@@ -43,7 +43,8 @@ pub record Lent : Type 0 where
 abbrev lent : List ℕ → List ℕ → Lent
 lent b m = record { first = b; second = m }
 
--- the number and the bytes beside the three numbers, and without the bytes where they are shared
+-- What a call leaves determines its number, the bytes and the three numbers. For a call that
+-- only reads the bytes, `seen-marks` leaves them out.
 seen : {x y : ℕ} {b c m l : List ℕ} {h : Host} → host x b m ≡ h → host y c l ≡ h → (x ≡ y) × (lent b m ≡ lent c l)
 seen p q =
     let e = p ∙ sym q in
@@ -85,7 +86,7 @@ scsi-decode-only κs a x y s t p q = shown-once (p ∙ sym q)
 pub scsi-decode-told-only : Only 2 scsi-decode-told-kinds.ps scsi-decode-told-kinds.r scsi-decode-told.Post (λ κs s. now (s .1 .1 .0))
 scsi-decode-told-only κs a x y s t p q = shown-once (p ∙ sym q)
 
--- both lent slices are looked at, beside the number 0
+-- This looks at both lent slices; the number 0 only fills the record.
 pub wrapper-parse-only : Only 3 wrapper-parse-kinds.ps wrapper-parse-kinds.r wrapper-parse.Post (λ κs s. parse 0 (now (s .1 .0)) (now (s .1 .1 .0)))
 wrapper-parse-only κs a x y s t p q =
     let e = p ∙ sym q in

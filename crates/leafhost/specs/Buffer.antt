@@ -1,5 +1,5 @@
--- What a caller in C or Rust sees of the buffer: 01's number as the result, the IO buffer's bytes, and three numbers for the marks.
--- Assumes nothing: these are definitions.
+-- A caller in C or Rust sees this of the buffer: 01's answer number as the result, the bytes of the IO buffer, and three numbers, which are
+-- the read mark, the write mark and a count. Assumes nothing: these are definitions.
 use Prim.Native.Nat.{ℕ}
 use mathlib.Core.Bool.{cond}
 use mathlib.Core.List.{List, [], _∷_}
@@ -9,11 +9,12 @@ use Rattle.buffer.specs.declared.Marks.{Marks}
 use Rattle.buffer.specs.Buffer.{Buffer, buffer, at}
 use Rattle.buffer.specs.Calls.{Answering, readInto}
 
--- the marks that the caller's numbers stand for
+-- These are the marks that the caller's numbers `marks` stand for: the first is the read mark, and the second is the write mark.
 unfoldable pub markedBy : List ℕ → Marks
 markedBy marks = at (getD marks 0 0) (getD marks 1 0)
 
--- what a call leaves with its caller
+-- A call leaves this with its caller: `number` is the result, `bytes` are the bytes of the IO buffer, and `marks` are the three numbers.
+-- `host` makes one from these three, `n`, `b` and `m`.
 pub record Host : Type 0 where
   pub number : ℕ
   pub bytes : List ℕ
@@ -22,16 +23,17 @@ pub record Host : Type 0 where
 abbrev pub host : ℕ → List ℕ → List ℕ → Host
 host n b m = record { number = n; bytes = b; marks = m }
 
--- an outcome, as its caller sees it
+-- The caller sees this of the outcome `o`. Its numbers `was` stay if the answer is 10; otherwise they become the two marks and the count.
 unfoldable pub shown : List ℕ → Answering → Host
 shown was o =
     host (o .answer) (o .leaves .bytes)
     (cond (eqb (o .answer) 10) was (o .leaves .marks .read ∷ o .leaves .marks .write ∷ o .count ∷ []))
 
--- a call of the buffer on the caller's bytes and numbers; other than three numbers are a broken record
+-- The caller sees this of the buffer's call `call` on the bytes `io`, with its numbers `marks`. If these are not three, they are a broken
+-- record: the result is 10, and all is as before.
 unfoldable pub hosted : (Buffer → Answering) → List ℕ → List ℕ → Host
 hosted call io marks = cond (eqb (length marks) 3) (shown marks (call (buffer io (markedBy marks)))) (host 10 io marks)
 
--- the destination of a read
+-- A read from the bytes `io` leaves this in the destination `d`. If the numbers `marks` are not three, `d` is as before.
 unfoldable pub hostInto : List ℕ → List ℕ → List ℕ → List ℕ
 hostInto d io marks = cond (eqb (length marks) 3) (readInto d (buffer io (markedBy marks))) d

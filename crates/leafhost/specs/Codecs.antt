@@ -1,4 +1,4 @@
--- What a caller in C or Rust sees of the wrapper and the status. Assumes nothing: these are definitions.
+-- A caller in C or Rust sees this of the wrapper and the status. Assumes nothing: these are definitions.
 use Prim.Native.Nat.{ℕ}
 use mathlib.Core.Bool.{Bool, cond, _&&_}
 use mathlib.Core.List.{List, [], _∷_}
@@ -9,11 +9,12 @@ use Rattle.wrapper.specs.Counters.{residueOf}
 use Rattle.wrapper.specs.Status.{statusBytes}
 use Rattle.wrapper.specs.Wrapper.{isValid, directionNumber, wrapperOf}
 
--- a wrapper in five numbers: tag, L, direction, LUN, block length
+-- These are the five numbers of the wrapper `w`: tag, L, direction, LUN and block length.
 abbrev pub numbers : Wrapper → List ℕ
 numbers w = w .tag ∷ w .length ∷ directionNumber (w .direction) ∷ w .lun ∷ w .blocklength ∷ []
 
--- what a parse leaves: whether the message was valid (1) or not (0), five numbers and the block's 16 bytes
+-- A parse leaves this: `number` is 1 for a valid message, 0 for an invalid one and 10 for a broken record; `fields` are the five lent
+-- numbers, and `block` are the 16 lent bytes for the command block. `parse` makes one from these three, `n`, `f` and `b`.
 pub record Parse : Type 0 where
   pub number : ℕ
   pub fields : List ℕ
@@ -22,17 +23,19 @@ pub record Parse : Type 0 where
 abbrev pub parse : ℕ → List ℕ → List ℕ → Parse
 parse n f b = record { number = n; fields = f; block = b }
 
--- lent numbers other than five, or other than 16 bytes, are a broken record
+-- This tests whether `fields` are five numbers and `block` is 16 bytes. If not, what the caller lent is a broken record.
 unfoldable pub fits : List ℕ → List ℕ → Bool
 fits fields block = eqb (length fields) 5 && eqb (length block) 16
 
+-- The caller of a parse of the message `m` sees this, with the lent `fields` and `block`. Only a valid message changes these.
 unfoldable pub shownParse : List ℕ → List ℕ → List ℕ → Parse
 shownParse m fields block =
     cond (fits fields block)
     (cond (isValid m) (parse 1 (numbers (wrapperOf m)) (wrapperOf m .block)) (parse 0 fields block))
     (parse 10 fields block)
 
--- what a status leaves: 01's number, and the 13 bytes
+-- Writing a status leaves this: `number` is 01's answer number, and `bytes` are the lent bytes.
+-- `status` makes one from these two, `n` and `b`.
 pub record Status : Type 0 where
   pub number : ℕ
   pub bytes : List ℕ
@@ -40,7 +43,9 @@ pub record Status : Type 0 where
 abbrev pub status : ℕ → List ℕ → Status
 status n b = record { number = n; bytes = b }
 
--- the status of a wrapper with this tag and L, for the firmware's figure and status byte; other than 13 lent bytes are a broken record
+-- A caller who asks for a status sees this, with the lent bytes `was`. The status is for a wrapper with the tag `tag` and the length `L`,
+-- and for the firmware's figure `figure` and status byte `byte`. A `byte` above 2 is answered 12. If `was` are not 13 bytes, they are a
+-- broken record, which is answered 10. Either refusal leaves `was` as they are.
 unfoldable pub shownStatus : ℕ → ℕ → ℕ → ℕ → List ℕ → Status
 shownStatus tag L figure byte was =
     cond (eqb (length was) 13)

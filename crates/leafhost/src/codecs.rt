@@ -1,5 +1,5 @@
-// The wrapper, the status and the verdict; the decoder's two entries. Lent results of another length are a broken record: 10, and nothing
-// changes.
+// These are the calls of the wrapper, the status and the verdict, and the decoder's two entries. If what the caller lends for the result
+// has another length than it should, it is a broken record: the answer is 10, and nothing changes.
 use buffer::span::put;
 use scsi::numbers::decode_into;
 use scsi::numbers::decode_told_into;
@@ -14,6 +14,7 @@ ghost use Rattle.scsi.specs.Numbers.{shown, shownDecode, shownTold};
 ghost use Rattle.wrapper.specs.Verdict.{verdictOf, verdictNumber};
 ghost use Rattle.leafhost.specs.Codecs.{numbers, parse, shownParse, status, shownStatus};
 
+// Stores the five numbers of the wrapper `w` in `fields`.
 fn put_fields(fields: &mut [u32], w: Wrapper)
     requires { ⌜ length (now fields) ≡ 5 ⌝ }
     ensures { λ _. ⌜ now (fields .exit) ≡ numbers w ⌝ }
@@ -26,7 +27,8 @@ fn put_fields(fields: &mut [u32], w: Wrapper)
     fields[4] = w.blocklength as u32;
 }
 
-// Whether a message is a valid wrapper: 1, with its five fields and the 16 bytes of its block, or 0; 10: other lengths were lent.
+// Answers 1 if `message` is a valid wrapper, and 0 if it is not. A valid one leaves its five numbers in `fields` and the 16 bytes of its
+// block in `block`. The answer is 10 if other lengths are lent.
 #[no_mangle]
 pub extern "C" fn wrapper_parse(message: &[u8], fields: &mut [u32], block: &mut [u8]) -> u32
     ensures { λ r. ⌜ parse r (now (fields .exit)) (now (block .exit)) ≡ shownParse (now (message .entry)) (now (fields .entry)) (now (block .entry)) ⌝ }
@@ -48,8 +50,8 @@ pub extern "C" fn wrapper_parse(message: &[u8], fields: &mut [u32], block: &mut 
     0
 }
 
-// The status of a wrapper with this tag and length, for the firmware's figure and status byte. 0: it stands in the 13 bytes; 12: the
-// status byte is above 2; 10: not 13 bytes were lent.
+// Writes the status for a wrapper with this `tag` and `length` (L), with the firmware's `figure` and its status byte, `byte`. It answers 0
+// if the status stands in `bytes`, 12 if `byte` is above 2, and 10 if `bytes` does not have 13 bytes.
 #[no_mangle]
 pub extern "C" fn wrapper_status(
     tag: u32,
@@ -75,7 +77,7 @@ pub extern "C" fn wrapper_status(
     }
 }
 
-// BOT's verdict on a message: 0 invalid, 1 valid only, 2 meaningful.
+// Answers with BOT's verdict on `message`, for a device with the LUNs 0 to `maxlun`: 0 invalid, 1 valid only, 2 meaningful.
 #[no_mangle]
 pub extern "C" fn wrapper_verdict(message: &[u8], maxlun: u8) -> u32
     ensures { λ r. ⌜ r ≡ verdictNumber (verdictOf maxlun (now (message .entry))) ⌝ }
@@ -83,7 +85,8 @@ pub extern "C" fn wrapper_verdict(message: &[u8], maxlun: u8) -> u32
     verdict_number(message, maxlun)
 }
 
-// The decoder, plain and told.
+// Decodes `block` into the six numbers `command`, with extended addressing off. It answers 0 if the command stands there, 13 if the block
+// is empty, and 10 if `command` does not have six numbers.
 #[no_mangle]
 pub extern "C" fn scsi_decode(block: &[u8], command: &mut [u64]) -> u32
     ensures { λ r. ⌜ shown r (now (command .exit)) ≡ shownDecode (now (block .entry)) (now (command .entry)) ⌝ }
@@ -91,6 +94,8 @@ pub extern "C" fn scsi_decode(block: &[u8], command: &mut [u64]) -> u32
     decode_into(block, command)
 }
 
+// Decodes `block` into the six numbers `command`, with extended addressing off (`extended` is 0) or on (1). For any other `extended` it
+// answers 10; its other answers are those of `scsi_decode`.
 #[no_mangle]
 pub extern "C" fn scsi_decode_told(block: &[u8], extended: u32, command: &mut [u64]) -> u32
     ensures { λ r. ⌜ shown r (now (command .exit)) ≡ shownTold extended (now (block .entry)) (now (command .entry)) ⌝ }

@@ -1,5 +1,5 @@
-// The leaves on numbers and byte slices, so that they can be compared with the Rust before a device stands on them. A slice is two arguments in
-// C and Rust, its pointer and its length.
+// These calls offer the leaves on numbers and byte slices, so that they can be compared with the Rust before a device stands on them. In C
+// and Rust a slice is two arguments, its pointer and its length.
 //     codecs    wrapper, status, verdict, decoder
 //     linear    the linear buffer
 pub mod codecs;

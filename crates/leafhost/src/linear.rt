@@ -1,5 +1,5 @@
-// The buffer's calls: 01's answer number as the result. `marks` are three numbers: read mark, write mark, and the count of the last
-// call that was not refused with 10. Any other number of them is a broken record: 10, and nothing changes.
+// These are the buffer's calls; the result is 01's answer number. `marks` are three numbers: the read mark, the write mark, and the count
+// of the last call that was not refused with 10. If they are not three, they are a broken record: the answer is 10, and nothing changes.
 use buffer::Answer;
 use buffer::Marks;
 ghost use mathlib.Core.Path.{_≡_};
@@ -8,7 +8,7 @@ ghost use Rattle.buffer.specs.Calls.{availableCall, cleanCall, shiftCall, write
 ghost use Rattle.leafhost.specs.Buffer.{hosted, host, markedBy, hostInto};
 ghost use Rattle.leafhost.specs.Inner.Buffer.{marksOf, numberOf};
 
-// The answer's number; marks and count go where the caller keeps them.
+// Gives 01's number of the answer `a`, and stores the marks and the count in the caller's `marks`.
 fn report(marks: &mut [usize], a: Answer) -> u32
     requires { ⌜ length (now marks) ≡ 3 ⌝ }
     ensures { λ r. ⌜ (r ≡ numberOf a) × (now (marks .exit) ≡ marksOf a (now (marks .entry))) ⌝ }
@@ -30,7 +30,7 @@ fn report(marks: &mut [usize], a: Answer) -> u32
     }
 }
 
-// The first two of the caller's three numbers.
+// Takes the marks from the first two of the caller's `marks`.
 fn marked(marks: &[usize]) -> Marks
     requires { ⌜ length (now marks) ≡ 3 ⌝ }
     ensures { λ r. ⌜ r ≡ markedBy (now (marks .entry)) ⌝ }
@@ -41,6 +41,7 @@ fn marked(marks: &[usize]) -> Marks
     }
 }
 
+// Counts the unread bytes of `io`.
 #[no_mangle]
 pub extern "C" fn buffer_available(io: &[u8], marks: &mut [usize]) -> u32
     ensures { λ r. ⌜ host r (now (io .entry)) (now (marks .exit)) ≡ hosted availableCall (now (io .entry)) (now (marks .entry)) ⌝ }
@@ -52,6 +53,7 @@ pub extern "C" fn buffer_available(io: &[u8], marks: &mut [usize]) -> u32
     10
 }
 
+// Empties the buffer `io`: both marks become 0.
 #[no_mangle]
 pub extern "C" fn buffer_clean(io: &[u8], marks: &mut [usize]) -> u32
     ensures { λ r. ⌜ host r (now (io .entry)) (now (marks .exit)) ≡ hosted cleanCall (now (io .entry)) (now (marks .entry)) ⌝ }
@@ -63,6 +65,7 @@ pub extern "C" fn buffer_clean(io: &[u8], marks: &mut [usize]) -> u32
     10
 }
 
+// Moves the unread bytes of `io` to the front.
 #[no_mangle]
 pub extern "C" fn buffer_shift(io: &mut [u8], marks: &mut [usize]) -> u32
     ensures { λ r. ⌜ host r (now (io .exit)) (now (marks .exit)) ≡ hosted shiftCall (now (io .entry)) (now (marks .entry)) ⌝ }
@@ -74,6 +77,7 @@ pub extern "C" fn buffer_shift(io: &mut [u8], marks: &mut [usize]) -> u32
     10
 }
 
+// Appends what fits of `src` to the unread bytes of `io`.
 #[no_mangle]
 pub extern "C" fn buffer_write(io: &mut [u8], marks: &mut [usize], src: &[u8]) -> u32
     ensures { λ r. ⌜ host r (now (io .exit)) (now (marks .exit)) ≡ hosted (writeCall (now (src .entry))) (now (io .entry)) (now (marks .entry)) ⌝ }
@@ -85,6 +89,7 @@ pub extern "C" fn buffer_write(io: &mut [u8], marks: &mut [usize], src: &[u8]) -
     10
 }
 
+// Appends all of `src` to the unread bytes of `io`, or nothing. Room is asked for `want` bytes, and for all of `src`.
 #[no_mangle]
 pub extern "C" fn buffer_write_all(
     io: &mut [u8],
@@ -101,6 +106,7 @@ pub extern "C" fn buffer_write_all(
     10
 }
 
+// Appends the byte `v` to the unread bytes of `io`, as often as it fits and at most `n` times.
 #[no_mangle]
 pub extern "C" fn buffer_fill_up_to(io: &mut [u8], marks: &mut [usize], v: u8, n: usize) -> u32
     ensures { λ r. ⌜ host r (now (io .exit)) (now (marks .exit)) ≡ hosted (fillCall v n) (now (io .entry)) (now (marks .entry)) ⌝ }
@@ -112,6 +118,7 @@ pub extern "C" fn buffer_fill_up_to(io: &mut [u8], marks: &mut [usize], v: u8, n
     10
 }
 
+// Gives the first unread bytes of `io`, as many as `dst` holds, to the front of `dst`. After that they count as read.
 #[no_mangle]
 pub extern "C" fn buffer_read(io: &[u8], marks: &mut [usize], dst: &mut [u8]) -> u32
     ensures { λ r. ⌜ (host r (now (io .entry)) (now (marks .exit)) ≡ hosted (readCall (length (now (dst .entry)))) (now (io .entry)) (now (marks .entry)))

@@ -1,4 +1,4 @@
--- To unfold this is to unfold all that cases over this crate's definitions compute with. Assumes nothing.
+-- Unfolding this unfolds all that cases over this crate's definitions compute with. Assumes nothing.
 use Rattle.fields.proofs.Computing as fields
 use Rattle.scsi.specs.Commands.{flag, pageControl}
 use Rattle.scsi.specs.Decoding.{lists, counts, isListed, fieldsBy, decoded, decodeCall, plainCall}

@@ -1,6 +1,6 @@
--- Laws of the decoder, and what each way through a function owes (`ways`).
---     here, past              the table's rule at one row: the row has the opcode and decides, or those behind it do
---     missing                 an opcode in no row
+-- These are laws of the decoder, and what each way through a function owes (`ways`).
+--     here, past              the table's rule at one row: the row has the opcode and decides, or the rows after it do
+--     missing                 an opcode that is in no row
 --     long-enough             a listed block is as long as the row of its opcode says
 --     listed-known            a block of a listed opcode and length never decodes to Unknown
 --     unlisted-unknown        any other always does, with its opcode
@@ -36,11 +36,11 @@ noLayout = record { opcode = 0; shortest = 0; fields = λ b. Unknown 0 }
 abbrev pub noRow : Row
 noRow = record { 0 = 0; 1 = 0 }
 
--- row i of a table
+-- This is row i of a table.
 abbrev pub rowAt : List Layout → ℕ → Row
 rowAt rs i = getD (map rowOf rs) i noRow
 
--- what a table lists from row i on: what row i says of the opcode, or else the rows behind it
+-- From row i on a table lists what row i says of the opcode, if it has it, and otherwise what the rows after it list.
 at-row : (rs : List Layout) (op n i : ℕ) → i < length rs
     → lists (drop i rs) op n ≡ cond (eqb (rowAt rs i .0) op) (leb (rowAt rs i .1) n) (lists (drop (i + 1) rs) op n)
 unfolding lists
@@ -52,7 +52,7 @@ here rs op n i h e = sym (at-row rs op n i h ∙ simp (eq-eqb _ _ e))
 pub past : (rs : List Layout) (op n i : ℕ) → i < length rs → (rowAt rs i .0 ≡ op → ⊥) → lists (drop (i + 1) rs) op n ≡ lists (drop i rs) op n
 past rs op n i h k = sym (at-row rs op n i h ∙ simp (ne-eqb _ _ k))
 
--- no row has the opcode, as a `match` leaves it behind its last arm: beside A, of each row in turn
+-- No row has the opcode, in the form in which a `match` states it after its last arm: A, and then one such fact for each row in turn.
 abbrev pub Missing : Type 0 → List Layout → ℕ → Type 0
 Missing A [] op = A
 Missing A (r ∷ rs) op = Missing (A × (op ≡ r .opcode → ⊥)) rs op
@@ -84,7 +84,7 @@ long-enough rs {op} {n} e h = rw e at (by-row rs op n h)
 
 -- ---- a listed block is known, and no other
 
--- whether a command is Unknown
+-- This tests whether a command is Unknown.
 abbrev isUnknown : ScsiCommand → Bool
 isUnknown (Unknown cmd) = true
 isUnknown (Inquiry evpd page allocation) = false
@@ -98,7 +98,7 @@ isUnknown (Read address blocks) = false
 isUnknown (Write address blocks) = false
 isUnknown (ReadFormatCapacities allocation) = false
 
--- no row of a table reads Unknown
+-- This tests whether no row of a table reads Unknown.
 allKnown : List Layout → List ℕ → Bool
 allKnown [] b = true
 allKnown (r ∷ rs) b = not (isUnknown (r .fields b)) && allKnown rs b

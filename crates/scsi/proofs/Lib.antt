@@ -1,5 +1,5 @@
--- Laws that no one function owns.
---     Laws         the table's rule, once over any table; and what each way through a function owes
+-- These laws belong to no single function.
+--     Laws         the table's rule, once for any table; and what each way through a function owes
 --     Six          a command as six numbers
 --     Unique       no contract has a second answer
 --     Computing    what cases compute with

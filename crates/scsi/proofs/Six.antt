@@ -1,4 +1,4 @@
--- A command as six numbers: what each way through a function owes (`ways`). Assumes nothing.
+-- These laws are about a command as six numbers: what each way through a function owes (`ways`). Assumes nothing.
 use mathlib.Core.Path.{_≡_, sym, ap, _∙_}
 use mathlib.Core.List.{List}
 use Prim.Native.Nat.{ℕ, _≤_, _<_}
@@ -15,7 +15,7 @@ use Rattle.scsi.specs.Numbers.{six, numbers, shown, reported, shownDecod
 pub six-stored : (l : List ℕ) (k a b c d e : ℕ) → length l ≡ 6 → set (set (set (set (set (set l 0 k) 1 a) 2 b) 3 c) 4 d) 5 e ≡ six k a b c d e
 six-stored l k a b c d e h = all-stored l (six k a b c d e) h
 
--- the first two fields of a command, which other functions made numbers
+-- The first two fields of a command may have been turned into numbers by other functions.
 pub by-fields : {k a b c d e a′ b′ : ℕ} {l : List ℕ} → l ≡ six k a b c d e → a ≡ a′ → b ≡ b′ → l ≡ six k a′ b′ c d e
 by-fields h ea eb = rw (← ea, ← eb) h
 

@@ -1,5 +1,5 @@
--- No second answer satisfies a promise: what the `ensures` of a public call says is true of one answer alone. `Post` is the contract
--- itself, as the check reads it. Assumes nothing.
+-- No second answer satisfies a promise: what the `ensures` of a public call says is true of one answer only. `Post` is the contract itself,
+-- as the check reads it. Assumes nothing.
 use mathlib.Core.Path.{_≡_, refl, sym, ap, _∙_}
 use mathlib.Core.List.{List, [], _∷_}
 use Prim.Native.Nat.{ℕ}
@@ -21,7 +21,7 @@ use Rattle.scsi.proofs.numbers.decode_into.Reads as decode-into
 use Rattle.scsi.proofs.numbers.decode_told_into.Kinds as decode-told-into-kinds
 use Rattle.scsi.proofs.numbers.decode_told_into.Reads as decode-told-into
 
--- the command carried tells the answer
+-- The command that an answer carries, or that it carries none, determines the answer.
 named : List ScsiCommand → Decoded
 named [] = Empty
 named (c ∷ cs) = Command c
@@ -42,7 +42,7 @@ decode-only κs a x y s t p q = (answer-once x y (p ∙ sym q), refl)
 
 -- ---- the numbers that are lent
 
--- also for those who hand these calls on
+-- If the same is shown, the results and the lent numbers are the same. Crates that pass these calls on use this too.
 pub shown-once : {n k : ℕ} {l m : List ℕ} → shown n l ≡ shown k m → (n ≡ k) × (l ≡ m)
 shown-once e = (ap (λ (s : Shown). s .number) e, ap (λ (s : Shown). s .lent) e)
 

@@ -1,4 +1,4 @@
--- Document 01's cases of decoding: one table. proofs/Cases.antt has the statement that each holds. Assumes nothing.
+-- One table has the cases of decoding. proofs/Cases.antt states that each case holds. Assumes nothing.
 use mathlib.Core.Bool.{true, false}
 use mathlib.Core.List.{List, [], _∷_, _++_}
 use Prim.Native.Nat.{ℕ}
@@ -9,14 +9,15 @@ use Rattle.scsi.specs.declared.ScsiCommand.{ScsiCommand}
 use Rattle.scsi.specs.declared.ScsiCommand.the-variants.{Unknown, Inquiry, TestUnitReady, RequestSense, ModeSense6, ModeSense10, ReadCapacity10, ReadCapacity16, Read, Write, ReadFormatCapacities}
 use Rattle.scsi.specs.Decoding.{decodeCall, plainCall}
 
--- a block and the command that it decodes to, with extended addressing off; and on
+-- In a case of the plain entry, the block `b` decodes to the command `c`.
 abbrev plain : List ℕ → ScsiCommand → Case
 plain b c = case (plainCall b) (record { answer = 0; commands = c ∷ [] })
 
+-- In a case with extended addressing on, the block `b` decodes to the command `c`.
 abbrev extended : List ℕ → ScsiCommand → Case
 extended b c = case (decodeCall true b) (record { answer = 0; commands = c ∷ [] })
 
--- "(starred ones are proved)": those of 01 that concern this crate
+-- "(starred ones are proved)": these are the starred cases of 01 that concern this crate.
 unfoldable pub starred : List Case
 starred =
     -- "12 01 80 00 FF: EVPD, page 128, allocation 255*"
@@ -27,7 +28,8 @@ starred =
     ∷ plain (0x1A ∷ 0x08 ∷ 0xBF ∷ 0x00 ∷ 0xC0 ∷ []) (ModeSense6 true DefaultValues 63 0 192)
     ∷ []
 
--- and ours: each row at its shortest length, with bytes that tell each field's place and order, and a byte less
+-- These cases are ours. Rows are tried at their shortest length, and some with a byte less; in most of them the
+-- bytes show the place and the order of each field.
 unfoldable pub ours : List Case
 ours =
     -- "four bytes: Unknown"
@@ -42,17 +44,17 @@ ours =
     ∷ plain (0x5A ∷ 0xF7 ∷ 0xFF ∷ 3 ∷ 4 ∷ 5 ∷ 6 ∷ 1 ∷ 2 ∷ []) (ModeSense10 false SavedValues 63 3 258)
     ∷ plain (0x9E ∷ replicate 9 0xFF ++ (0 ∷ 0 ∷ 1 ∷ 2 ∷ [])) (ReadCapacity16 258)
     ∷ plain (0x9E ∷ replicate 12 0) (Unknown 0x9E)
-    -- a block beyond 16 bytes
+    -- A block may be longer than 16 bytes.
     ∷ plain (0x12 ∷ 0xFE ∷ 0x7F ∷ 1 ∷ 2 ∷ replicate 20 0xFF) (Inquiry false 127 258)
-    -- 88 and 8A, told that they count, and not
+    -- 88 and 8A count with extended addressing, where the block is long enough, and do not count without it.
     ∷ extended (0x88 ∷ 1 ∷ 0 ∷ 0 ∷ 0 ∷ 1 ∷ 0 ∷ 0 ∷ 0 ∷ 2 ∷ 0 ∷ 0 ∷ 1 ∷ 2 ∷ []) (Read 0x100000002 258)
     ∷ extended (0x8A ∷ replicate 13 0) (Write 0 0)
     ∷ extended (0x8A ∷ replicate 12 0) (Unknown 0x8A)
     ∷ plain (0x88 ∷ replicate 15 0) (Unknown 0x88)
     ∷ plain (0x8A ∷ replicate 15 0) (Unknown 0x8A)
-    -- an opcode in no row, at any length
+    -- No row has this opcode.
     ∷ plain (0x01 ∷ replicate 15 0) (Unknown 0x01)
-    -- an empty block
+    -- The block is empty.
     ∷ case (plainCall []) (record { answer = 13; commands = [] })
     ∷ case (decodeCall true []) (record { answer = 13; commands = [] })
     ∷ []

@@ -11,7 +11,8 @@ use Rattle.scsi.specs.declared.ScsiCommand.{ScsiCommand}
 use Rattle.scsi.specs.declared.ScsiCommand.the-variants.{Unknown}
 use Rattle.scsi.specs.Commands.{testUnitReady, requestSense, inquiry, modeSense6, modeSense10, readCapacity10, readCapacity16, read10, write10, read16, write16, readFormatCapacities}
 
--- a row of the table: an opcode, its shortest block, and the fields of its command
+-- A row of the table has `opcode`; `shortest`, the length of its shortest block; and `fields`, which gives the command of a block with this
+-- opcode. `row` makes one from these three, `o`, `n` and `f`.
 pub record Layout : Type 0 where
   pub opcode : ℕ
   pub shortest : ℕ
@@ -20,7 +21,7 @@ pub record Layout : Type 0 where
 abbrev row : ℕ → ℕ → (List ℕ → ScsiCommand) → Layout
 row o n f = record { opcode = o; shortest = n; fields = f }
 
--- "Opcode and shortest block length stand in a constant table"
+-- "Opcode and shortest block length stand in a constant table": it is this one.
 abbrev pub rows : List Layout
 rows =
     row 0x00 1 testUnitReady
@@ -37,32 +38,39 @@ rows =
     ∷ row 0x9E 14 readCapacity16
     ∷ []
 
--- the first byte of a block
+-- The opcode of the block `b` is its first byte.
 abbrev pub opcodeOf : List ℕ → ℕ
 opcodeOf b = get (oneByte 0) b
 
--- whether a table lists an opcode with a block of n bytes
+-- This tests whether a table lists `opcode` with a block of `n` bytes: the first row that has the opcode decides, by its shortest block.
+-- `r` is the first row of the table, and `rs` are the others.
 unfoldable pub lists : List Layout → ℕ → ℕ → Bool
 lists [] opcode n = false
 lists (r ∷ rs) opcode n = cond (eqb (r .opcode) opcode) (leb (r .shortest) n) (lists rs opcode n)
 
--- "88 and 8A count only with extended addressing"
+-- "88 and 8A count only with extended addressing": this tests whether `opcode` counts, and
+-- `extended` says whether extended addressing is on.
 unfoldable pub counts : Bool → ℕ → Bool
 counts extended opcode = extended || not (eqb opcode 0x88 || eqb opcode 0x8A)
 
+-- This tests whether a block of `n` bytes with `opcode` is a listed command: the opcode counts, with extended addressing on or off as
+-- `extended` says, and the table lists it with that length.
 unfoldable pub isListed : Bool → ℕ → ℕ → Bool
 isListed extended opcode n = counts extended opcode && lists rows opcode n
 
--- the fields by the row of the opcode
+-- This is the command that the block `b` stands for by the first row that has `opcode`, and Unknown if no row has
+-- it. `r` is the first row, and `rs` are the others.
 unfoldable pub fieldsBy : List Layout → ℕ → List ℕ → ScsiCommand
 fieldsBy [] opcode b = Unknown opcode
 fieldsBy (r ∷ rs) opcode b = cond (eqb (r .opcode) opcode) (r .fields b) (fieldsBy rs opcode b)
 
--- "Anything else, or shorter, is Unknown with its opcode."
+-- "Anything else, or shorter, is Unknown with its opcode." This is the command that the block `b` decodes to;
+-- `extended` says whether extended addressing is on.
 unfoldable pub decoded : Bool → List ℕ → ScsiCommand
 decoded extended b = cond (isListed extended (opcodeOf b) (length b)) (fieldsBy rows (opcodeOf b) b) (Unknown (opcodeOf b))
 
--- the answer of a decoding, by 01's number, and the command where there is one
+-- Decoding has this outcome: `answer` is 01's answer number, and `commands` has the command, or nothing in a refusal. `answering`
+-- makes one from the number `n` and the commands `c`.
 pub record Answering : Type 0 where
   pub answer : ℕ
   pub commands : List ScsiCommand
@@ -70,14 +78,16 @@ pub record Answering : Type 0 where
 abbrev answering : ℕ → List ScsiCommand → Answering
 answering n c = record { answer = n; commands = c }
 
+-- This is the outcome that each answer of the code stands for; `c` is the command that it carries.
 abbrev pub answerOf : Decoded → Answering
 answerOf (Command c) = answering 0 (c ∷ [])
 answerOf Empty = answering 13 []
 
--- 13: "decoding an empty block"
+-- Decoding the block `b` has this outcome: 13 for "decoding an empty block", otherwise 0 with the command.
+-- `extended` says whether extended addressing is on.
 unfoldable pub decodeCall : Bool → List ℕ → Answering
 decodeCall extended b = cond (eqb (length b) 0) (answering 13 []) (answering 0 (decoded extended b ∷ []))
 
--- "the plain entry has it off"
+-- "the plain entry has it off": it has this outcome for the block `b`, without extended addressing.
 unfoldable pub plainCall : List ℕ → Answering
 plainCall b = decodeCall false b

@@ -1,5 +1,5 @@
--- A command as six numbers, and what a caller in C or Rust sees of the decoder: 01's number as the result, and those six.
--- Assumes nothing: these are definitions.
+-- Callers in C and Rust see a command as six numbers. Such a caller lends six numbers to the decoder and gets 01's answer number as the
+-- result. Assumes nothing: these are definitions.
 use Prim.Native.Nat.{ℕ}
 use mathlib.Core.Bool.{Bool, true, false, cond}
 use mathlib.Core.List.{List, [], _∷_}
@@ -11,21 +11,24 @@ use Rattle.scsi.specs.declared.ScsiCommand.{ScsiCommand}
 use Rattle.scsi.specs.declared.ScsiCommand.the-variants.{Unknown, Inquiry, TestUnitReady, RequestSense, ModeSense6, ModeSense10, ReadCapacity10, ReadCapacity16, Read, Write, ReadFormatCapacities}
 use Rattle.scsi.specs.Decoding.{Answering, decodeCall, plainCall}
 
--- a flag is 0 or 1; SPC's numbers of PAGE CONTROL
+-- The number of a flag is 1 if it is set, and 0 if it is not.
 abbrev pub flagNumber : Bool → ℕ
 flagNumber true = 1
 flagNumber false = 0
 
+-- These are SPC's numbers of PAGE CONTROL.
 abbrev pub controlNumber : PageControl → ℕ
 controlNumber CurrentValues = 0
 controlNumber ChangeableValues = 1
 controlNumber DefaultValues = 2
 controlNumber SavedValues = 3
 
--- a command in six numbers: which it is, in the order of the Rust's enum; then its fields, in their order; 0 where it has no more
+-- Six numbers stand for a command: `kind` says which command it is, and `a` to `e` are its fields.
 abbrev pub six : ℕ → ℕ → ℕ → ℕ → ℕ → ℕ → List ℕ
 six kind a b c d e = kind ∷ a ∷ b ∷ c ∷ d ∷ e ∷ []
 
+-- These are the six numbers of each command. The kinds are numbered in the order of the Rust's enum. The fields of a command
+-- stand in their order, with 0 after the last one.
 abbrev pub numbers : ScsiCommand → List ℕ
 numbers (Unknown cmd) = six 0 cmd 0 0 0 0
 numbers (Inquiry evpd page allocation) = six 1 (flagNumber evpd) page allocation 0 0
@@ -39,7 +42,8 @@ numbers (Read address blocks) = six 8 address blocks 0 0 0
 numbers (Write address blocks) = six 9 address blocks 0 0 0
 numbers (ReadFormatCapacities allocation) = six 10 allocation 0 0 0 0
 
--- what a call leaves with its caller: the result, and the lent numbers
+-- A call leaves this with its caller: `number` is the result, and `lent` are the lent numbers after the call. `shown` makes
+-- one from the number `n` and the lent numbers `l`.
 pub record Shown : Type 0 where
   pub number : ℕ
   pub lent : List ℕ
@@ -47,19 +51,21 @@ pub record Shown : Type 0 where
 abbrev pub shown : ℕ → List ℕ → Shown
 shown n l = record { number = n; lent = l }
 
--- a command goes into the lent numbers; a refusal leaves them as they were
+-- The lent numbers `was` become the six numbers of the command `c` if there is one; a refusal leaves them as they were.
 abbrev pub laid : List ℕ → List ScsiCommand → List ℕ
 laid was [] = was
 laid was (c ∷ cs) = numbers c
 
--- an outcome, as its caller sees it; other than six lent numbers are a broken record: 10, and all as before
+-- The caller sees this of the outcome `o`, with the lent numbers `was`. If these are not six, they are a broken
+-- record: the result is 10, and all is as before.
 unfoldable pub reported : List ℕ → Answering → Shown
 reported was o = cond (eqb (length was) 6) (shown (o .answer) (laid was (o .commands))) (shown 10 was)
 
--- the plain entry
+-- The caller of the plain entry sees this for the block `block`, with the lent numbers `was`.
 unfoldable pub shownDecode : List ℕ → List ℕ → Shown
 shownDecode block was = reported was (plainCall block)
 
--- a second entry is told: 0 is off, 1 is on, and any other is a number for no flag
+-- The caller of the second entry sees this for the block `block`, with the lent numbers `was`. "a second entry is told": extended
+-- addressing is off if `extended` is 0 and on if it is 1. Any other number is for no flag: the result is 10, and all is as before.
 unfoldable pub shownTold : ℕ → List ℕ → List ℕ → Shown
 shownTold extended block was = cond (leb extended 1) (reported was (decodeCall (eqb extended 1) block)) (shown 10 was)

@@ -1,4 +1,4 @@
-// The fields of each listed command. Bytes and bits are written as the standards' tables write them.
+// These functions read the fields of each listed command. Bytes and bits are counted as in the standards' tables.
 use crate::PageControl;
 use crate::ScsiCommand;
 use fields::be16;
@@ -14,7 +14,7 @@ ghost use Rattle.scsi.specs.Commands.{flag, pageControl, requestSense, i
 ghost use Rattle.scsi.specs.Decoding.{rows, lists, fieldsBy};
 ghost use Rattle.scsi.specs.Inner.Decoding.{shortestOf};
 
-// Whether a bit of a byte is set.
+// Tests whether the bit `bit` of the byte of `b` at index `at` is set.
 fn is_set(b: &[u8], at: usize, bit: u8) -> bool
     requires { ⌜ (at < length (now b)) × (bit < 8) ⌝ }
     ensures { λ r. ⌜ r ≡ flag at bit (now (b .entry)) ⌝ }
@@ -22,6 +22,7 @@ fn is_set(b: &[u8], at: usize, bit: u8) -> bool
     bits_of(b, at, bit, 1) == 1
 }
 
+// Gives the page control that SPC's number `n` stands for.
 fn control_of(n: u8) -> PageControl
     ensures { λ r. ⌜ r ≡ pageControl n ⌝ }
 {
@@ -33,6 +34,7 @@ fn control_of(n: u8) -> PageControl
     }
 }
 
+// Reads the fields of a REQUEST SENSE. Like the functions after it, it requires the length that the table has for its opcode.
 fn request_sense(b: &[u8]) -> ScsiCommand
     requires { ⌜ shortestOf rows 0x03 ≤ length (now b) ⌝ }
     ensures { λ r. ⌜ r ≡ requestSense (now (b .entry)) ⌝ }
@@ -43,6 +45,7 @@ fn request_sense(b: &[u8]) -> ScsiCommand
     }
 }
 
+// Reads the fields of an INQUIRY.
 fn inquiry(b: &[u8]) -> ScsiCommand
     requires { ⌜ shortestOf rows 0x12 ≤ length (now b) ⌝ }
     ensures { λ r. ⌜ r ≡ inquiry (now (b .entry)) ⌝ }
@@ -54,6 +57,7 @@ fn inquiry(b: &[u8]) -> ScsiCommand
     }
 }
 
+// Reads the fields of a MODE SENSE (6).
 fn mode_sense_6(b: &[u8]) -> ScsiCommand
     requires { ⌜ shortestOf rows 0x1A ≤ length (now b) ⌝ }
     ensures { λ r. ⌜ r ≡ modeSense6 (now (b .entry)) ⌝ }
@@ -68,6 +72,7 @@ fn mode_sense_6(b: &[u8]) -> ScsiCommand
     }
 }
 
+// Reads the fields of a MODE SENSE (10).
 fn mode_sense_10(b: &[u8]) -> ScsiCommand
     requires { ⌜ shortestOf rows 0x5A ≤ length (now b) ⌝ }
     ensures { λ r. ⌜ r ≡ modeSense10 (now (b .entry)) ⌝ }
@@ -82,6 +87,7 @@ fn mode_sense_10(b: &[u8]) -> ScsiCommand
     }
 }
 
+// Reads the fields of a READ CAPACITY (16). Its service action is not looked at, as in the Rust.
 fn read_capacity_16(b: &[u8]) -> ScsiCommand
     requires { ⌜ shortestOf rows 0x9E ≤ length (now b) ⌝ }
     ensures { λ r. ⌜ r ≡ readCapacity16 (now (b .entry)) ⌝ }
@@ -91,6 +97,7 @@ fn read_capacity_16(b: &[u8]) -> ScsiCommand
     }
 }
 
+// Reads the fields of a READ (10).
 fn read_10(b: &[u8]) -> ScsiCommand
     requires { ⌜ shortestOf rows 0x28 ≤ length (now b) ⌝ }
     ensures { λ r. ⌜ r ≡ read10 (now (b .entry)) ⌝ }
@@ -101,6 +108,7 @@ fn read_10(b: &[u8]) -> ScsiCommand
     }
 }
 
+// Reads the fields of a WRITE (10).
 fn write_10(b: &[u8]) -> ScsiCommand
     requires { ⌜ shortestOf rows 0x2A ≤ length (now b) ⌝ }
     ensures { λ r. ⌜ r ≡ write10 (now (b .entry)) ⌝ }
@@ -111,6 +119,7 @@ fn write_10(b: &[u8]) -> ScsiCommand
     }
 }
 
+// Reads the fields of a READ (16).
 fn read_16(b: &[u8]) -> ScsiCommand
     requires { ⌜ shortestOf rows 0x88 ≤ length (now b) ⌝ }
     ensures { λ r. ⌜ r ≡ read16 (now (b .entry)) ⌝ }
@@ -121,6 +130,7 @@ fn read_16(b: &[u8]) -> ScsiCommand
     }
 }
 
+// Reads the fields of a WRITE (16).
 fn write_16(b: &[u8]) -> ScsiCommand
     requires { ⌜ shortestOf rows 0x8A ≤ length (now b) ⌝ }
     ensures { λ r. ⌜ r ≡ write16 (now (b .entry)) ⌝ }
@@ -131,6 +141,7 @@ fn write_16(b: &[u8]) -> ScsiCommand
     }
 }
 
+// Reads the fields of a READ FORMAT CAPACITIES.
 fn read_format_capacities(b: &[u8]) -> ScsiCommand
     requires { ⌜ shortestOf rows 0x23 ≤ length (now b) ⌝ }
     ensures { λ r. ⌜ r ≡ readFormatCapacities (now (b .entry)) ⌝ }
@@ -140,7 +151,7 @@ fn read_format_capacities(b: &[u8]) -> ScsiCommand
     }
 }
 
-// The command of a listed block.
+// Reads the command from a block `b` that the table lists with its `opcode`. The last arm is never reached.
 pub(crate) fn read_fields(b: &[u8], opcode: u8) -> ScsiCommand
     requires { ⌜ lists rows opcode (length (now b)) ≡ true ⌝ }
     ensures { λ r. ⌜ r ≡ fieldsBy rows opcode (now (b .entry)) ⌝ }

@@ -1,5 +1,5 @@
-// The SCSI decoder of document 01, after scsi.rs. It takes a block of any bytes and any length.
-//     table       which opcodes are listed, with how long a block
+// This is the SCSI decoder of document 01, after scsi.rs. It takes a block of any bytes and any length.
+//     table       which opcodes are listed, and how long a block has to be
 //     commands    the fields of each listed command
 //     numbers     a command as six numbers, for callers in C and Rust
 mod commands;
@@ -14,6 +14,7 @@ ghost use Prim.Native.Nat.{_≤_};
 ghost use lib.ListN.{length};
 ghost use Rattle.scsi.specs.Decoding.{answerOf, decodeCall, plainCall, decoded};
 
+// A MODE SENSE asks for one of these kinds of values.
 pub enum PageControl {
     CurrentValues,
     ChangeableValues,
@@ -21,6 +22,7 @@ pub enum PageControl {
     SavedValues,
 }
 
+// A block decodes to one of these commands. They are named and ordered as in the Rust.
 pub enum ScsiCommand {
     Unknown {
         cmd: u8,
@@ -66,13 +68,14 @@ pub enum ScsiCommand {
     },
 }
 
+// A block with at least one byte decodes to a command.
 pub enum Decoded {
     Command(ScsiCommand),
     // The block has no byte, and so no opcode.
     Empty,
 }
 
-// What a block with an opcode decodes to.
+// Decodes a `block` that has at least one byte, and so an opcode. `extended` says whether extended addressing is on.
 fn command(block: &[u8], extended: bool) -> ScsiCommand
     requires { ⌜ 1 ≤ length (now block) ⌝ }
     ensures { λ r. ⌜ r ≡ decoded extended (now (block .entry)) ⌝ }
@@ -84,7 +87,7 @@ fn command(block: &[u8], extended: bool) -> ScsiCommand
     ScsiCommand::Unknown { cmd: opcode }
 }
 
-// The entry that is told whether extended addressing is on: whether 88 and 8A count.
+// Decodes `block` for a caller who tells whether extended addressing is on: 88 and 8A count only if `extended` is true.
 pub fn decode_told(block: &[u8], extended: bool) -> Decoded
     ensures { λ r. ⌜ answerOf r ≡ decodeCall extended (now (block .entry)) ⌝ }
 {
@@ -95,7 +98,7 @@ pub fn decode_told(block: &[u8], extended: bool) -> Decoded
     Decoded::Command(c)
 }
 
-// The plain entry: extended addressing is off.
+// Decodes `block` with extended addressing off: this is the plain entry.
 pub fn decode(block: &[u8]) -> Decoded
     ensures { λ r. ⌜ answerOf r ≡ plainCall (now (block .entry)) ⌝ }
 {

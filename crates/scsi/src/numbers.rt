@@ -1,5 +1,5 @@
-// A command as six numbers, for callers in C and Rust: which it is, in the order of the Rust's enum, and its fields. The decoder's two
-// entries with the command in such numbers.
+// For callers in C and Rust a command is six numbers: which command it is, in the order of the Rust's enum, and its fields. The decoder's
+// two entries stand here with the command in such numbers.
 use crate::Decoded;
 use crate::PageControl;
 use crate::ScsiCommand;
@@ -8,12 +8,14 @@ ghost use lib.ListN.{length};
 ghost use Rattle.scsi.specs.Decoding.{answerOf};
 ghost use Rattle.scsi.specs.Numbers.{flagNumber, controlNumber, six, numbers, shown, reported, shownDecode, shownTold};
 
+// Gives 1 for a flag that is set, and 0 for one that is not.
 fn flag_number(flag: bool) -> u64
     ensures { λ r. ⌜ r ≡ flagNumber flag ⌝ }
 {
     if flag { 1 } else { 0 }
 }
 
+// Gives SPC's number of a page control.
 fn control_number(control: PageControl) -> u64
     ensures { λ r. ⌜ r ≡ controlNumber control ⌝ }
 {
@@ -25,6 +27,7 @@ fn control_number(control: PageControl) -> u64
     }
 }
 
+// Stores a command's six numbers, `kind` and the fields `a` to `e`, in `lent`.
 fn put_six(lent: &mut [u64], kind: u64, a: u64, b: u64, c: u64, d: u64, e: u64)
     requires { ⌜ length (now lent) ≡ 6 ⌝ }
     ensures { λ _. ⌜ now (lent .exit) ≡ six kind a b c d e ⌝ }
@@ -37,7 +40,7 @@ fn put_six(lent: &mut [u64], kind: u64, a: u64, b: u64, c: u64, d: u64, e: u64)
     lent[5] = e;
 }
 
-// The numbers of a command: an arm for each of the twelve, so it is longer than other functions.
+// Stores the six numbers of `command` in `lent`. It has an arm for each of the eleven commands, and so is longer than other functions.
 pub fn put_command(lent: &mut [u64], command: ScsiCommand)
     requires { ⌜ length (now lent) ≡ 6 ⌝ }
     ensures { λ _. ⌜ now (lent .exit) ≡ numbers command ⌝ }
@@ -115,7 +118,7 @@ pub fn put_command(lent: &mut [u64], command: ScsiCommand)
     }
 }
 
-// The answer's number; a command goes into the six numbers that the caller lends.
+// Gives 01's number of the answer `d`, and stores a command in the numbers `lent`. If these are not six the answer is 10.
 fn report(lent: &mut [u64], d: Decoded) -> u32
     ensures { λ r. ⌜ shown r (now (lent .exit)) ≡ reported (now (lent .entry)) (answerOf d) ⌝ }
 {
@@ -131,7 +134,8 @@ fn report(lent: &mut [u64], d: Decoded) -> u32
     }
 }
 
-// The plain entry. 0: the command stands in the six numbers; 13: the block is empty; 10: not six numbers were lent.
+// Decodes `block` with extended addressing off. It answers 0 if the command stands in the six numbers `lent`, 13 if the block is
+// empty, and 10 if `lent` does not have six numbers.
 pub fn decode_into(block: &[u8], lent: &mut [u64]) -> u32
     ensures { λ r. ⌜ shown r (now (lent .exit)) ≡ shownDecode (now (block .entry)) (now (lent .entry)) ⌝ }
 {
@@ -139,7 +143,8 @@ pub fn decode_into(block: &[u8], lent: &mut [u64]) -> u32
     report(lent, d)
 }
 
-// The entry that is told: extended addressing is off (0) or on (1), any other number is 10.
+// Decodes `block` with extended addressing off (`extended` is 0) or on (1). For any other `extended` it answers 10;
+// its other answers are those of `decode_into`.
 pub fn decode_told_into(block: &[u8], extended: u32, lent: &mut [u64]) -> u32
     ensures { λ r. ⌜ shown r (now (lent .exit)) ≡ shownTold extended (now (block .entry)) (now (lent .entry)) ⌝ }
 {

@@ -1,10 +1,11 @@
-// The constant table of opcodes and shortest block lengths.
+// Opcodes and shortest block lengths stand in this constant table.
 ghost use mathlib.Core.Path.{_≡_};
 ghost use Rattle.scsi.specs.Decoding.{rows, lists, counts, isListed};
 
-// An opcode, and its shortest block.
+// A row has an opcode, and the length of its shortest block.
 pub(crate) struct Row(u8, u8);
 
+// These are document 01's twelve rows, in its order.
 const ROWS: [Row; 12] = [
     Row(0x00, 1),
     Row(0x03, 5),
@@ -20,7 +21,7 @@ const ROWS: [Row; 12] = [
     Row(0x9E, 14),
 ];
 
-// Whether a row has the opcode, and a block of n bytes is not shorter than it says.
+// Tests whether a row has `opcode`, and a block of `n` bytes is at least as long as this row says.
 fn in_table(opcode: u8, n: usize) -> bool
     ensures { λ r. ⌜ r ≡ lists rows opcode n ⌝ }
 {
@@ -35,7 +36,7 @@ fn in_table(opcode: u8, n: usize) -> bool
     false
 }
 
-// 88 and 8A count only with extended addressing.
+// Tests whether `opcode` counts: 88 and 8A do so only if `extended` is true.
 fn opcode_counts(opcode: u8, extended: bool) -> bool
     ensures { λ r. ⌜ r ≡ counts extended opcode ⌝ }
 {
@@ -48,7 +49,7 @@ fn opcode_counts(opcode: u8, extended: bool) -> bool
     opcode != 0x8A
 }
 
-// Whether a block of n bytes with this opcode is one of the listed commands.
+// Tests whether a block of `n` bytes with this `opcode` is one of the listed commands, where `extended` says whether 88 and 8A count.
 pub(crate) fn listed(opcode: u8, n: usize, extended: bool) -> bool
     ensures { λ r. ⌜ r ≡ isListed extended opcode n ⌝ }
 {

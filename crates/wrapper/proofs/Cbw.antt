@@ -1,4 +1,4 @@
--- Laws of the wrapper (CBW).
+-- These are laws of the wrapper (CBW).
 --     is-valid, valid-is               what passes the test is valid, and what is valid passes it
 --     parsed-valid, parsed-accepted    what is valid parses to all its fields, and nothing else is taken
 --     ways                             what each way through a function owes
@@ -41,7 +41,7 @@ signed-signature : (m : List ℕ) → isSigned m ≡ true → get dCBWSignature 
 unfolding isSigned
 signed-signature m e = eqb-true _ _ (and-right (eqb (length m) 31) (eqb (get dCBWSignature m) wrapperSignature) e)
 
--- every byte of a wrapper may be looked at
+-- Each of the 31 bytes of a wrapper can be read.
 pub reaches : (m : List ℕ) (i : ℕ) {s : Bool} → s ≡ isSigned m → s ≡ true → i < 31 → i < length m
 reaches m i es e h = omega (arith, signed-whole m es e)
 
@@ -65,7 +65,7 @@ pub invalid-by : (m : List ℕ) {s : Bool} → s ≡ isSigned m → s ≡ false 
 unfolding isValid
 invalid-by m es e = rw (sym es ∙ e)
 
--- ---- both directions
+-- ---- from the test to the fact, and back
 
 pub is-valid : (m : List ℕ) → isValid m ≡ true → Valid m
 unfolding isValid
@@ -85,7 +85,7 @@ pub parsed-valid : (m : List ℕ) → Valid m → parsed m ≡ taken (wrapperOf 
 unfolding parsed
 parsed-valid m v = rw (valid-is m v)
 
--- whether a message was taken is whether it is valid
+-- A message is taken if and only if it is valid.
 pub parsed-is : (m : List ℕ) → parsed m .valid ≡ isValid m
 unfolding parsed
 parsed-is m = picked (isValid m)
@@ -107,7 +107,7 @@ pub no-data : (l b : ℕ) → l ≡ 0 → NotExpected ≡ directionOf l b
 unfolding directionOf
 no-data l b e = rw (eq-eqb _ _ e)
 
--- and nothing else means no data
+-- Only a length of 0 means no data (`no-data-only`). The proof of this tells the directions apart by this test.
 abbrev isExpected : DataDirection → Bool
 isExpected Out = true
 isExpected In = true

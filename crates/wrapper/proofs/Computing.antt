@@ -1,4 +1,4 @@
--- To unfold this is to unfold all that cases over this crate's definitions compute with. Assumes nothing.
+-- Unfolding this unfolds all that cases over this crate's definitions compute with. Assumes nothing.
 use Rattle.fields.proofs.Computing as fields
 use Rattle.wrapper.specs.Counters.{fallen, residueOf}
 use Rattle.wrapper.specs.Status.{statusOfNumber, statusBytes, statusCall}

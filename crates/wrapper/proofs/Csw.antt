@@ -1,4 +1,4 @@
--- Laws of the status (CSW).
+-- These are laws of the status (CSW).
 --     status-accepted, status-above    a byte that is known stands for itself; one that is refused is above 2
 --     length-status                    a status has 13 bytes
 --     signature-read, tag-read, residue-read, status-read    a host that reads it by BOT's table finds what was put in
@@ -30,7 +30,7 @@ pub status-refused : (b : ℕ) → 2 < b → _≡_ {A = Taken} (record { answer 
 unfolding statusCall
 status-refused b h = rw (lt-leb b 2 h)
 
--- what was known is the byte itself; what was refused is above 2
+-- A byte that was known is at most 2 and is the number of its status; one that was refused is above 2.
 pub status-accepted : (b : ℕ) (s : CommandStatus) → answerOf (Known s) ≡ statusCall b → (b ≤ 2) × (statusNumber s ≡ b)
 unfolding statusCall
 status-accepted b s e = picked (leb b 2) refl e
@@ -47,7 +47,7 @@ status-above b e = picked (leb b 2) refl e
     picked true h e = let n : _≡_ {A = ℕ} 12 0 = ap (λ (x : Taken). x .answer) e in omega arith
     picked false h e = leb-false b 2 h
 
--- ---- the 13 bytes, after each field is written in turn
+-- ---- the 13 bytes, as each field is written in turn
 
 blank : List ℕ
 blank = replicate 13 0

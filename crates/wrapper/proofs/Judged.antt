@@ -1,4 +1,4 @@
--- Laws of the verdict.
+-- These are laws of the verdict.
 --     meaningful-valid    what is meaningful is a valid wrapper
 --     ways                what each way through a function owes
 -- Assumes nothing.

@@ -1,4 +1,4 @@
--- Laws that no one function owns, for the proofs here and for those of the crates above.
+-- These laws belong to no single function. The proofs here and those of the crates above use them.
 --     Csw, Cbw     the status and the wrapper
 --     Numbers      a direction and its number, a status and its number
 --     Judged       the verdict

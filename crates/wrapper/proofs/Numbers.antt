@@ -1,4 +1,4 @@
--- A direction and its number; a status and its number.
+-- These laws lead from a direction to its number and back, and from a status to its number and back.
 --     direction-back, direction-number, status-back, status-number    there and back, both ways
 --     direction-small, status-small                                   the number is at most 2
 --     the-last-direction, the-last-status                             what the last way from a number owes
@@ -33,7 +33,7 @@ direction-small Out = refl
 direction-small In = refl
 direction-small NotExpected = refl
 
--- none of the numbers before the last
+-- A number that is neither 0 nor 1 gives the last direction.
 pub the-last-direction : (n : ℕ) → ((Unit {0} × (n ≡ 0 → ⊥)) × (n ≡ 1 → ⊥)) → Out ≡ directionOfNumber n
 unfolding directionOfNumber
 the-last-direction n m = rw (ne-eqb _ 0 (m .0 .1), ne-eqb _ 1 (m .1))
@@ -55,7 +55,7 @@ status-small Passed = refl
 status-small Failed = refl
 status-small PhaseError = refl
 
--- none of the numbers before the last
+-- A number that is neither 0 nor 1 gives the last status.
 pub the-last-status : (n : ℕ) → ((Unit {0} × (n ≡ 0 → ⊥)) × (n ≡ 1 → ⊥)) → PhaseError ≡ statusOfNumber n
 unfolding statusOfNumber
 the-last-status n m = rw (ne-eqb _ 0 (m .0 .1), ne-eqb _ 1 (m .1))

@@ -1,5 +1,5 @@
--- No second answer satisfies a promise: what the `ensures` of a public call says is true of one answer alone. `Post` is the contract
--- itself, as the check reads it. Assumes nothing.
+-- No second answer satisfies a promise: what the `ensures` of a public call says is true of one answer only. `Post` is the contract itself,
+-- as the check reads it. Assumes nothing.
 use mathlib.Core.Path.{_≡_, refl, sym, ap, _∙_}
 use mathlib.Core.Bool.{cond}
 use lib.Dec.{eqb}
@@ -39,7 +39,7 @@ use Rattle.wrapper.proofs.verdict.verdict_on.Reads as verdict-on
 use Rattle.wrapper.proofs.verdict.verdict_number.Kinds as verdict-number-kinds
 use Rattle.wrapper.proofs.verdict.verdict_number.Reads as verdict-number
 
--- document 01's number, and the status's own, tell the answer
+-- Document 01's number and the number of the status determine the answer.
 named : Taken → StatusByte
 named t = cond (eqb (t .answer) 12) Refused (Known (statusOfNumber (t .status)))
 

@@ -1,4 +1,5 @@
--- Document 01's cases of the wrapper, the status and the residue: one table. proofs/Cases.antt has the statement that each holds. Assumes nothing.
+-- One table has the cases of the wrapper, the status, the residue and the verdict. proofs/Cases.antt states that each case holds.
+-- Assumes nothing.
 use mathlib.Core.Bool.{true, false}
 use mathlib.Core.List.{List, [], _∷_, _++_}
 use Prim.Native.Nat.{ℕ}
@@ -13,12 +14,12 @@ use Rattle.wrapper.specs.Status.{statusTable, statusSignature, statusNum
 use Rattle.wrapper.specs.Wrapper.{wrapperTable, wrapperSignature, directionOf, wrapperOf, blank, parsed}
 use Rattle.wrapper.specs.Verdict.{verdictOf}
 
--- a wrapper with tag 01020304, L = 512, and these bytes for flags, LUN and block length
+-- This is a wrapper with tag 01020304 and L = 512, in which `flags`, `lun` and `blocklength` are the bytes 12, 13 and 14.
 abbrev pub message : ℕ → ℕ → ℕ → List ℕ
 message flags lun blocklength =
     0x55 ∷ 0x53 ∷ 0x42 ∷ 0x43 ∷ 4 ∷ 3 ∷ 2 ∷ 1 ∷ 0 ∷ 2 ∷ 0 ∷ 0 ∷ flags ∷ lun ∷ blocklength ∷ 0x28 ∷ replicate 15 0
 
--- "(starred ones are proved)": those of 01 that concern this crate
+-- "(starred ones are proved)": these are the starred cases of 01 that concern this crate.
 unfoldable pub starred : List Case
 starred =
     -- "Block length 0 and 17 invalid*"
@@ -31,34 +32,37 @@ starred =
     ∷ case (residueOf 512 600 .0) 0
     ∷ []
 
--- and ours, each at a bound
+-- These cases are ours. Most of them lie at a bound of a rule.
 unfoldable pub ours : List Case
 ours =
     -- "1 and 16 valid"
     case (parsed (message 0x80 0 1) .valid) true
     ∷ case (parsed (message 0x80 0 16) .valid) true
-    -- a whole wrapper, to the host and from it; with 30 bytes it is invalid
+    -- A whole wrapper to the host; the direction from the host, and without data; a message of 30 bytes, which is invalid.
     ∷ case (parsed (message 0x80 0 10)) (record { valid = true; wrapper = record { tag = 0x01020304; length = 512; direction = In; lun = 0; blocklength = 10; block = 0x28 ∷ replicate 15 0 } })
     ∷ case (wrapperOf (message 0x7F 0 10) .direction) Out
     ∷ case (directionOf 0 1) NotExpected
     ∷ case (parsed (0x55 ∷ 0x53 ∷ 0x42 ∷ 0x43 ∷ replicate 26 1)) (record { valid = false; wrapper = blank })
-    -- the status of tag 01020304, residue 12, failed
+    -- The bytes of a status with tag 01020304 and residue 12, failed.
     ∷ case (statusBytes 0x01020304 (residueOf 512 500) (statusNumber Failed)) (0x55 ∷ 0x53 ∷ 0x42 ∷ 0x53 ∷ 4 ∷ 3 ∷ 2 ∷ 1 ∷ 12 ∷ 0 ∷ 0 ∷ 0 ∷ 1 ∷ [])
+    -- Status byte 2 is taken, and 3 is refused.
     ∷ case (statusCall 2) (record { answer = 0; status = 2 })
     ∷ case (statusCall 3) (record { answer = 12; status = 0 })
+    -- More bytes move than are left.
     ∷ case (fallen (record { 0 = 5 }) 7 .0) 0
-    -- the verdict: LUN at and above max LUN (its upper four bits do not count), block length 17, a byte too many, a wrong signature
+    -- The verdict: the LUN is at max LUN, and then above it. The upper four bits of its byte do not count.
     ∷ case (verdictOf 3 (message 0 0xF3 10)) Meaningful
     ∷ case (verdictOf 2 (message 0 0xF3 10)) ValidOnly
-    -- a max LUN that no device has: every LUN is below it
+    -- No device has this max LUN, and every LUN is below it.
     ∷ case (verdictOf 16 (message 0 0x0F 10)) Meaningful
+    -- The block length is 17; then there is a byte too many; then the signature is wrong.
     ∷ case (verdictOf 15 (message 0 0 17)) ValidOnly
     ∷ case (verdictOf 15 (message 0 0 10 ++ (0 ∷ []))) Invalid
     ∷ case (verdictOf 15 (0x54 ∷ replicate 30 1)) Invalid
-    -- BOT's tables have no gap and end where the messages end
+    -- BOT's tables have no gap, and end where the messages end.
     ∷ case (tile 0 wrapperTable 31) true
     ∷ case (tile 0 statusTable 13) true
-    -- the two signatures, byte by byte
+    -- These are the two signatures, byte by byte.
     ∷ case (digits 4 wrapperSignature) (0x55 ∷ 0x53 ∷ 0x42 ∷ 0x43 ∷ [])
     ∷ case (digits 4 statusSignature) (0x55 ∷ 0x53 ∷ 0x42 ∷ 0x53 ∷ [])
     ∷ []

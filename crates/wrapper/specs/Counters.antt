@@ -1,12 +1,13 @@
--- "The count left on the wire and the residue reported are two counters": each has a type of its own. Assumes nothing: these are definitions.
+-- "The count left on the wire and the residue reported are two counters": each has its own type. Assumes nothing: these are definitions.
 use Prim.Native.Nat.{ℕ, _-_}
 use Rattle.wrapper.specs.declared.counters.Left.{Left}
 use Rattle.wrapper.specs.declared.counters.Residue.{Residue}
 
--- "Left falls by bytes moved, never below 0." (A difference of ℕ is 0 where it would be below.)
+-- "Left falls by bytes moved, never below 0." `l` is the count left before, and `moved` is the number of bytes moved.
+-- (In ℕ a difference that would be below 0 is 0.)
 unfoldable pub fallen : Left → ℕ → Left
 fallen l moved = record { 0 = l .0 - moved }
 
--- "The residue is L less the firmware's figure, never below zero."
+-- "The residue is L less the firmware's figure, never below zero." `length` is L, and `figure` is the firmware's figure.
 unfoldable pub residueOf : ℕ → ℕ → Residue
 residueOf length figure = record { 0 = length - figure }

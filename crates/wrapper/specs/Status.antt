@@ -11,7 +11,8 @@ use Rattle.wrapper.specs.declared.status.StatusByte.{StatusByte}
 use Rattle.wrapper.specs.declared.status.StatusByte.the-variants.{Known, Refused}
 use Rattle.wrapper.specs.declared.counters.Residue.{Residue}
 
--- BOT's table: field, first byte, number of bytes. Every number of BOT's is little-endian.
+-- These are the fields of BOT's table by their names there, each with its first byte and its number
+-- of bytes. All numbers in BOT are little-endian.
 abbrev pub dCSWSignature : Field
 dCSWSignature = littleEndian 0 4
 
@@ -24,6 +25,7 @@ dCSWDataResidue = littleEndian 8 4
 abbrev pub bCSWStatus : Field
 bCSWStatus = oneByte 12
 
+-- This is BOT's whole table, in order.
 abbrev pub statusTable : List Field
 statusTable = dCSWSignature ∷ dCSWTag ∷ dCSWDataResidue ∷ bCSWStatus ∷ []
 
@@ -33,15 +35,16 @@ statusNumber Passed = 0
 statusNumber Failed = 1
 statusNumber PhaseError = 2
 
--- the status of a number; a number above 2 is of none, and gives the last
+-- This is the status whose number is `n`. A number above 2 belongs to no status; for it this gives `PhaseError`.
 unfoldable pub statusOfNumber : ℕ → CommandStatus
 statusOfNumber n = cond (eqb n 0) Passed (cond (eqb n 1) Failed PhaseError)
 
--- 55 53 42 53, as a little-endian number: BOT's 53425355h
+-- The bytes 55 53 42 53 are this little-endian number, BOT's 53425355h.
 abbrev pub statusSignature : ℕ
 statusSignature = 0x53425355
 
--- "Status: 55 53 42 53, tag, residue, status byte."
+-- "Status: 55 53 42 53, tag, residue, status byte." `tag` is the wrapper's tag, `residue` the
+-- residue reported, and `status` the status byte.
 unfoldable pub statusBytes : ℕ → Residue → ℕ → List ℕ
 statusBytes tag residue status =
     put bCSWStatus status
@@ -50,7 +53,8 @@ statusBytes tag residue status =
     (put dCSWSignature statusSignature
     (replicate 13 0))))
 
--- 01's number for what becomes of a status byte, and the status that it stands for, by its number
+-- This is the result for a status byte: `answer` is 01's answer number, and `status` is the number of the status that the byte stands for,
+-- 0 if it stands for none. `taken` makes one from the answer `n` and the status `s`.
 pub record Taken : Type 0 where
   pub answer : ℕ
   pub status : ℕ
@@ -58,10 +62,11 @@ pub record Taken : Type 0 where
 abbrev taken : ℕ → ℕ → Taken
 taken n s = record { answer = n; status = s }
 
+-- These are the two numbers for each answer of the code; `s` is the status that it carries.
 abbrev pub answerOf : StatusByte → Taken
 answerOf (Known s) = taken 0 (statusNumber s)
 answerOf Refused = taken 12 0
 
--- 12: "a status byte above 2"
+-- This is the result for the status byte `byte`: 0 to 2 stand for themselves, and for "a status byte above 2" the answer is 12.
 unfoldable pub statusCall : ℕ → Taken
 statusCall byte = cond (leb byte 2) (taken 0 byte) (taken 12 0)

@@ -1,15 +1,14 @@
-// "The count left on the wire and the residue reported are two counters": each is a type of its own, so that neither
-// passes for the other.
+// "The count left on the wire and the residue reported are two counters": each has its own type, so that neither passes for the other.
 ghost use mathlib.Core.Path.{_≡_};
 ghost use Rattle.wrapper.specs.Counters.{fallen, residueOf};
 
-// How many bytes of L are still to cross the wire.
+// This many bytes of L have not crossed the wire yet.
 pub struct Left(pub u32);
 
-// How many bytes of L the firmware did not deal with, by its own figure.
+// This many bytes of L were not processed, by the firmware's figure.
 pub struct Residue(pub u32);
 
-// Left falls by the bytes moved, never below 0.
+// Gives `left` after `moved` bytes crossed the wire. It never falls below 0.
 pub fn left_after(left: Left, moved: usize) -> Left
     ensures { λ r. ⌜ r ≡ fallen left moved ⌝ }
 {
@@ -21,7 +20,7 @@ pub fn left_after(left: Left, moved: usize) -> Left
     }
 }
 
-// L less the firmware's figure, never below 0.
+// Gives the residue: L, which is `length`, less the firmware's `figure`, and never below 0.
 pub fn residue_of(length: u32, figure: u32) -> Residue
     ensures { λ r. ⌜ r ≡ residueOf length figure ⌝ }
 {

@@ -1,4 +1,5 @@
-// Where the fields of a status (CSW) stand, and how many bytes it has. BOT's table is `statusTable` in specs/Status.antt.
+// These constants say where the fields of a status (CSW) start, and how many bytes it has.
+// BOT's table is `statusTable` in specs/Status.antt.
 ghost use mathlib.Core.Path.{_≡_};
 ghost use Rattle.fields.specs.Inner.Field.{places};
 ghost use Rattle.wrapper.specs.Status.{statusTable};

@@ -1,4 +1,5 @@
-// Where the fields of a wrapper (CBW) stand, and how many bytes it has. BOT's table is `wrapperTable` in specs/Wrapper.antt.
+// These constants say where the fields of a wrapper (CBW) start, and how many bytes it has.
+// BOT's table is `wrapperTable` in specs/Wrapper.antt.
 ghost use mathlib.Core.Path.{_≡_};
 ghost use Rattle.fields.specs.Inner.Field.{places};
 ghost use Rattle.wrapper.specs.Wrapper.{wrapperTable};

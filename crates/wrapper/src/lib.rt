@@ -1,6 +1,6 @@
-// The wrapper (CBW) of document 01, after bbb.rs. Beside it the status (CSW), the two counters, and BOT's verdict on a message.
-// Every entry of this crate takes any bytes of any length and any number, and ends with an answer. Two functions are inner ones for the
-// layers above and require 31 bytes that were tested: `head_of` and `read_wrapper`.
+// This is the wrapper (CBW) of document 01, after bbb.rs. The modules have the status (CSW), the two counters, and BOT's verdict on a
+// message. Every entry of this crate takes any bytes of any length and any number, and ends with an answer. Two public functions are for
+// the layers above and require 31 bytes: `head_of` and `read_wrapper`. Their callers have tested the message before.
 pub mod counters;
 pub mod in_status;
 pub mod in_wrapper;
@@ -16,15 +16,17 @@ ghost use Rattle.fields.specs.Field.{bytesAt};
 ghost use Rattle.wrapper.specs.Wrapper.{CBWCB, isSigned, isBlockLength, isValid, directionOf, directionNumber, directionOfNumber, wrapperOf, blank, parsed};
 ghost use Rattle.wrapper.specs.Inner.Wrapper.{headOf};
 
-// 55 53 42 43, little-endian.
+// The bytes 55 53 42 43 are this little-endian number.
 const SIGNED: u32 = 0x43425355;
 
+// The data goes from the host (Out) or to the host (In), or there is none (NotExpected).
 pub enum DataDirection {
     Out,
     In,
     NotExpected,
 }
 
+// A wrapper has these fields. `length` is L, and `blocklength` says how many bytes of `block` are the command.
 pub struct Wrapper {
     pub tag: u32,
     pub length: u32,
@@ -34,7 +36,7 @@ pub struct Wrapper {
     pub block: [u8; 16],
 }
 
-// A wrapper without its command block: what a poll decides by.
+// A wrapper without its command block is enough for a poll to decide.
 pub struct Head {
     pub tag: u32,
     pub length: u32,
@@ -43,13 +45,13 @@ pub struct Head {
     pub blocklength: u8,
 }
 
-// A message, parsed: valid with all its fields, or invalid and all fields blank.
+// A parsed message is valid and has all its fields, or it is invalid and all fields are blank.
 pub struct Parsed {
     pub valid: bool,
     pub wrapper: Wrapper,
 }
 
-// Whether a message has 31 bytes and the wrapper's signature.
+// Tests whether `message` has 31 bytes and the wrapper's signature.
 pub(crate) fn signed(message: &[u8]) -> bool
     ensures { λ r. ⌜ r ≡ isSigned (now (message .entry)) ⌝ }
 {
@@ -59,7 +61,7 @@ pub(crate) fn signed(message: &[u8]) -> bool
     false
 }
 
-// Whether a command block can have so many bytes.
+// Tests whether a command block can have `blocklength` bytes.
 pub(crate) fn block_fits(blocklength: u8) -> bool
     ensures { λ r. ⌜ r ≡ isBlockLength blocklength ⌝ }
 {
@@ -69,7 +71,7 @@ pub(crate) fn block_fits(blocklength: u8) -> bool
     false
 }
 
-// Whether a message is a valid wrapper in document 01's sense.
+// Tests whether `message` is a valid wrapper in document 01's sense.
 pub fn valid(message: &[u8]) -> bool
     ensures { λ r. ⌜ r ≡ isValid (now (message .entry)) ⌝ }
 {
@@ -79,7 +81,7 @@ pub fn valid(message: &[u8]) -> bool
     false
 }
 
-// Where the data goes: nowhere if there is none, whatever the flag says.
+// Gives the direction of the data. If `length` is 0 there is no data, and the flag `tohost` does not count.
 fn direction_of(length: u32, tohost: u8) -> DataDirection
     ensures { λ r. ⌜ r ≡ directionOf length tohost ⌝ }
 {
@@ -92,7 +94,7 @@ fn direction_of(length: u32, tohost: u8) -> DataDirection
     DataDirection::Out
 }
 
-// The direction's number for callers in C and Rust.
+// Gives the number of `direction` for callers in C and Rust.
 pub fn direction_number(direction: DataDirection) -> u8
     ensures { λ r. ⌜ r ≡ directionNumber direction ⌝ }
 {
@@ -103,7 +105,7 @@ pub fn direction_number(direction: DataDirection) -> u8
     }
 }
 
-// The direction of such a number; above 2 there is none, and the last is given.
+// Gives the direction with this `number`. Numbers above 2 belong to no direction, and are taken for Out.
 pub fn direction_of_number(number: u8) -> DataDirection
     ensures { λ r. ⌜ r ≡ directionOfNumber number ⌝ }
 {
@@ -114,7 +116,7 @@ pub fn direction_of_number(number: u8) -> DataDirection
     }
 }
 
-// The command block of a wrapper.
+// Copies the command block of the wrapper `m`.
 fn block_of(m: &[u8]) -> [u8; 16]
     requires { ⌜ length (now m) ≡ 31 ⌝ }
     ensures { λ r. ⌜ r ≡ bytesAt CBWCB (now (m .entry)) ⌝ }
@@ -139,7 +141,7 @@ fn block_of(m: &[u8]) -> [u8; 16]
     ]
 }
 
-// What a wrapper of 31 bytes says before its block.
+// Reads all fields of the wrapper `m` but its block.
 pub fn head_of(m: &[u8]) -> Head
     requires { ⌜ length (now m) ≡ 31 ⌝ }
     ensures { λ r. ⌜ r ≡ headOf (wrapperOf (now (m .entry))) ⌝ }
@@ -155,7 +157,7 @@ pub fn head_of(m: &[u8]) -> Head
     }
 }
 
-// What a wrapper of 31 bytes says.
+// Reads all fields of the wrapper `m`.
 pub fn read_wrapper(m: &[u8]) -> Wrapper
     requires { ⌜ length (now m) ≡ 31 ⌝ }
     ensures { λ r. ⌜ r ≡ wrapperOf (now (m .entry)) ⌝ }
@@ -173,7 +175,7 @@ pub fn read_wrapper(m: &[u8]) -> Wrapper
     }
 }
 
-// No wrapper yet.
+// Gives the blank wrapper. A new device has it, and so has the result of parsing an invalid message.
 pub fn no_wrapper() -> Wrapper
     ensures { λ r. ⌜ r ≡ blank ⌝ }
 {
@@ -189,7 +191,7 @@ pub fn no_wrapper() -> Wrapper
     }
 }
 
-// A received message as a wrapper.
+// Parses a received `message`: only a valid one gives its fields.
 pub fn parse(message: &[u8]) -> Parsed
     ensures { λ r. ⌜ r ≡ parsed (now (message .entry)) ⌝ }
 {

@@ -1,26 +1,27 @@
-// The status (CSW): what it can say, and its 13 bytes.
+// The status (CSW) says how a command went, and has 13 bytes.
 use crate::counters::Residue;
 use crate::in_status;
 use fields::put_le32;
 ghost use mathlib.Core.Path.{_≡_};
 ghost use Rattle.wrapper.specs.Status.{answerOf, statusCall, statusNumber, statusOfNumber, statusBytes};
 
-// 55 53 42 53, little-endian.
+// The bytes 55 53 42 53 are this little-endian number.
 const SIGNED: u32 = 0x53425355;
 
+// A command ends in one of these three ways.
 pub enum CommandStatus {
     Passed,
     Failed,
     PhaseError,
 }
 
-// What a status byte stands for.
+// A status byte stands for a status, or is refused.
 pub enum StatusByte {
     Known(CommandStatus),
     Refused,
 }
 
-// Bytes above 2 are refused.
+// Gives the status that `byte` stands for. A byte above 2 is refused.
 pub fn status_of(byte: u8) -> StatusByte
     ensures { λ r. ⌜ answerOf r ≡ statusCall byte ⌝ }
 {
@@ -32,7 +33,7 @@ pub fn status_of(byte: u8) -> StatusByte
     }
 }
 
-// The byte that stands for a status.
+// Gives the byte that stands for `status`.
 pub fn status_number(status: CommandStatus) -> u8
     ensures { λ r. ⌜ r ≡ statusNumber status ⌝ }
 {
@@ -43,7 +44,7 @@ pub fn status_number(status: CommandStatus) -> u8
     }
 }
 
-// The status of such a number; above 2 there is none, and the last is given.
+// Gives the status with this `number`. Numbers above 2 belong to no status, and are taken for a phase error.
 pub fn status_of_number(number: u8) -> CommandStatus
     ensures { λ r. ⌜ r ≡ statusOfNumber number ⌝ }
 {
@@ -54,7 +55,7 @@ pub fn status_of_number(number: u8) -> CommandStatus
     }
 }
 
-// The status as it goes over the wire.
+// Gives the bytes of a status with this `tag`, `residue` and `status`, as they go over the wire.
 pub fn status_bytes(tag: u32, residue: Residue, status: CommandStatus) -> [u8; in_status::SIZE]
     ensures { λ r. ⌜ r ≡ statusBytes tag residue (statusNumber status) ⌝ }
 {

@@ -1,4 +1,4 @@
-// BOT's verdict on one received message, added to what the Rust has.
+// The verdict of BOT on one received message is added by document 01; the Rust does not have it.
 use crate::in_wrapper;
 use fields::bits_of;
 use fields::byte;
@@ -6,12 +6,14 @@ ghost use mathlib.Core.Path.{_≡_};
 ghost use lib.ListN.{length};
 ghost use Rattle.wrapper.specs.Verdict.{isMeaningful, verdictOf, verdictNumber};
 
+// A message gets one of these three verdicts.
 pub enum Verdict {
     Invalid,
     ValidOnly,
     Meaningful,
 }
 
+// Tests whether `message`, which has 31 bytes, has a LUN of at most `maxlun` and a block length of 1 to 16.
 fn meaningful(message: &[u8], maxlun: u8) -> bool
     requires { ⌜ length (now message) ≡ 31 ⌝ }
     ensures { λ r. ⌜ r ≡ isMeaningful maxlun (now (message .entry)) ⌝ }
@@ -22,7 +24,7 @@ fn meaningful(message: &[u8], maxlun: u8) -> bool
     false
 }
 
-// BOT's verdict on one received message, for a device with the LUNs 0 to maxlun.
+// Gives BOT's verdict on `message`, for a device with the LUNs 0 to `maxlun`.
 pub fn verdict_on(message: &[u8], maxlun: u8) -> Verdict
     ensures { λ r. ⌜ r ≡ verdictOf maxlun (now (message .entry)) ⌝ }
 {
@@ -35,7 +37,7 @@ pub fn verdict_on(message: &[u8], maxlun: u8) -> Verdict
     Verdict::Invalid
 }
 
-// The verdict as a number, for callers in C and Rust: 0 invalid, 1 valid only, 2 meaningful.
+// Gives the verdict as a number, for callers in C and Rust: 0 invalid, 1 valid only, 2 meaningful.
 pub fn verdict_number(message: &[u8], maxlun: u8) -> u32
     ensures { λ r. ⌜ r ≡ verdictNumber (verdictOf maxlun (now (message .entry))) ⌝ }
 {

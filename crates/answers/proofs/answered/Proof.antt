@@ -1,4 +1,4 @@
--- `answers::answered` meets its contract: each case by 01's number. Assumes nothing.
+-- `answers::answered` meets its contract: each case has 01's number. Assumes nothing.
 use borrow.Author.Needs.{needs}
 use Rattle.answers.proofs.Laws.{ways}
 use Rattle.answers.proofs.answered.Statement.{statement}

@@ -1,4 +1,4 @@
--- `answers::endpoint_of` meets its contract: one law for each way. Assumes nothing.
+-- `answers::endpoint_of` meets its contract: there is one law for each way. Assumes nothing.
 use Rattle.answers.proofs.Laws.{ways}
 use Rattle.answers.proofs.endpoint_of.Statement.{statement}
 use Rattle.answers.proofs.endpoint_of.Tie as tie

@@ -1,4 +1,4 @@
--- `buffer::available` meets its contract: of sound marks the difference is what is unread. Assumes nothing.
+-- `buffer::available` meets its contract: the difference of sound marks is how many bytes are unread. Assumes nothing.
 use mathlib.Core.Path.{refl}
 use native.Mathlib.Omega.{arith}
 use borrow.Author.Needs.{needs}

@@ -1,4 +1,4 @@
--- `fields::be16` meets its contract: two fields of one byte side by side. Assumes nothing.
+-- `fields::be16` meets its contract: it reads two fields of one byte side by side. Assumes nothing.
 use borrow.Author.Needs.{needs}
 use Rattle.fields.proofs.Field.{big-doubled, one-order}
 use Rattle.fields.proofs.be16.Statement.{statement}

@@ -1,4 +1,4 @@
--- `fields::be32` meets its contract: two fields of 2 bytes side by side. Assumes nothing.
+-- `fields::be32` meets its contract: it reads two fields of 2 bytes side by side. Assumes nothing.
 use borrow.Author.Needs.{needs}
 use Rattle.fields.proofs.Field.{big-doubled}
 use Rattle.fields.proofs.be32.Statement.{statement}

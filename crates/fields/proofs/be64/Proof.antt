@@ -1,4 +1,4 @@
--- `fields::be64` meets its contract: two fields of 4 bytes side by side. Assumes nothing.
+-- `fields::be64` meets its contract: it reads two fields of 4 bytes side by side. Assumes nothing.
 use borrow.Author.Needs.{needs}
 use Rattle.fields.proofs.Field.{big-doubled}
 use Rattle.fields.proofs.be64.Statement.{statement}

@@ -1,4 +1,4 @@
--- `fields::bits_of` meets its contract: a shift, and a remainder by a power of two. Assumes nothing.
+-- `fields::bits_of` meets its contract: it shifts, and takes the remainder by a power of two. Assumes nothing.
 use lib.Pow.{pow-pos}
 use borrow.Author.Needs.{needs}
 use Rattle.fields.specs.Field.{getBits}

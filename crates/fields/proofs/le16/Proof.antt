@@ -1,4 +1,4 @@
--- `fields::le16` meets its contract: two fields of one byte side by side. Assumes nothing.
+-- `fields::le16` meets its contract: it reads two fields of one byte side by side. Assumes nothing.
 use borrow.Author.Needs.{needs}
 use Rattle.fields.proofs.Field.{little-doubled}
 use Rattle.fields.proofs.le16.Statement.{statement}

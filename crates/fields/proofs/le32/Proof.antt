@@ -1,4 +1,4 @@
--- `fields::le32` meets its contract: two fields of 2 bytes side by side. Assumes nothing.
+-- `fields::le32` meets its contract: it reads two fields of 2 bytes side by side. Assumes nothing.
 use borrow.Author.Needs.{needs}
 use Rattle.fields.proofs.Field.{little-doubled}
 use Rattle.fields.proofs.le32.Statement.{statement}

@@ -1,4 +1,4 @@
--- `fields::put_le32` meets its contract: four stores in order. Assumes nothing.
+-- `fields::put_le32` meets its contract: its four stores in order write the field. Assumes nothing.
 use native.Mathlib.Omega.{arith}
 use lib.ListN.{length-set}
 use borrow.Author.Needs.{needs}

@@ -1,4 +1,4 @@
--- `scsi::command` meets its contract: listed, or Unknown. Assumes nothing.
+-- `scsi::command` meets its contract: a listed block is read, and any other is Unknown. Assumes nothing.
 use borrow.Author.Needs.{needs}
 use Rattle.scsi.proofs.Laws.{ways}
 use Rattle.scsi.proofs.command.Statement.{statement}

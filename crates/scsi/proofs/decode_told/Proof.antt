@@ -1,4 +1,4 @@
--- `scsi::decode_told` meets its contract: empty, or decoded. Assumes nothing.
+-- `scsi::decode_told` meets its contract: the block is empty, or it is decoded. Assumes nothing.
 use borrow.Author.Needs.{needs}
 use Rattle.scsi.proofs.Laws.{ways}
 use Rattle.scsi.proofs.decode_told.Statement.{statement}

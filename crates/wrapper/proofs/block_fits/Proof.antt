@@ -1,4 +1,4 @@
--- `wrapper::block_fits` meets its contract: the two bounds in turn. Assumes nothing.
+-- `wrapper::block_fits` meets its contract: it tests the two bounds in turn. Assumes nothing.
 use borrow.Author.Needs.{needs}
 use Rattle.wrapper.proofs.Cbw.{ways}
 use Rattle.wrapper.proofs.block_fits.Statement.{statement}

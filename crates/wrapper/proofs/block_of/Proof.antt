@@ -1,4 +1,4 @@
--- `wrapper::block_of` meets its contract: the 16 bytes one by one. Assumes nothing.
+-- `wrapper::block_of` meets its contract: it reads the 16 bytes one by one. Assumes nothing.
 use borrow.Author.Needs.{needs}
 use Rattle.wrapper.proofs.Cbw.{ways}
 use Rattle.wrapper.proofs.block_of.Statement.{statement}

@@ -1,4 +1,4 @@
--- `wrapper::direction_of_number` meets its contract: one number for each arm, and the last for the rest. Assumes nothing.
+-- `wrapper::direction_of_number` meets its contract: each arm but the last has one number, and the last has the rest. Assumes nothing.
 use Rattle.wrapper.specs.Wrapper.{directionOfNumber}
 use Rattle.wrapper.proofs.Numbers.{the-last-direction}
 use Rattle.wrapper.proofs.direction_of_number.Statement.{statement}

@@ -1,4 +1,4 @@
--- `wrapper::head_of` meets its contract: each field by BOT's table. Assumes nothing.
+-- `wrapper::head_of` meets its contract: it reads each field by BOT's table. Assumes nothing.
 use borrow.Author.Needs.{needs}
 use Rattle.wrapper.proofs.Cbw.{ways}
 use Rattle.wrapper.proofs.head_of.Statement.{statement}

@@ -1,4 +1,4 @@
--- `wrapper::no_wrapper` meets its contract: by computing. Assumes nothing.
+-- `wrapper::no_wrapper` meets its contract: both sides compute to the same. Assumes nothing.
 use mathlib.Core.Path.{refl}
 use Rattle.wrapper.specs.Wrapper.{blank}
 use Rattle.wrapper.proofs.no_wrapper.Statement.{statement}

@@ -1,4 +1,4 @@
--- `wrapper::parse` meets its contract: taken with its fields, or refused with none. Assumes nothing.
+-- `wrapper::parse` meets its contract: a valid message gives all its fields, any other gives none. Assumes nothing.
 use borrow.Author.Needs.{needs}
 use Rattle.wrapper.proofs.Cbw.{ways}
 use Rattle.wrapper.proofs.parse.Statement.{statement}

@@ -1,4 +1,4 @@
--- `wrapper::read_wrapper` meets its contract: the head, and the block behind it. Assumes nothing.
+-- `wrapper::read_wrapper` meets its contract: it reads the head, and then the block. Assumes nothing.
 use borrow.Author.Needs.{needs}
 use Rattle.wrapper.proofs.Cbw.{ways}
 use Rattle.wrapper.proofs.read_wrapper.Statement.{statement}

@@ -1,4 +1,4 @@
--- `wrapper::signed` meets its contract: the length, then the signature. Assumes nothing.
+-- `wrapper::signed` meets its contract: it tests the length, and then the signature. Assumes nothing.
 use borrow.Author.Needs.{needs}
 use Rattle.wrapper.proofs.Cbw.{ways}
 use Rattle.wrapper.proofs.signed.Statement.{statement}

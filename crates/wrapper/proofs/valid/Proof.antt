@@ -1,4 +1,4 @@
--- `wrapper::valid` meets its contract: the two tests in turn. Assumes nothing.
+-- `wrapper::valid` meets its contract: it makes the two tests in turn. Assumes nothing.
 use borrow.Author.Needs.{needs}
 use Rattle.wrapper.proofs.Cbw.{ways}
 use Rattle.wrapper.proofs.valid.Statement.{statement}

@@ -1,4 +1,4 @@
--- `buffer::span::fill` meets its contract: after i turns the first i of n times v are laid over io. Assumes nothing.
+-- `buffer::span::fill` meets its contract: after i turns the first i of the n bytes v are laid over io. Assumes nothing.
 use mathlib.Core.Path.{sym}
 use Prim.Native.Nat.{_-_}
 use native.Mathlib.Omega.{arith}

@@ -1,4 +1,5 @@
--- `buffer::span::move_front` meets its contract: after i turns the first i of the n bytes are laid over the front, and the next was not stored to. Assumes nothing.
+-- `buffer::span::move_front` meets its contract: after i turns the first i of the n bytes are laid over the front, and no turn has stored
+-- to the next of them. Assumes nothing.
 use Prim.Native.Nat.{_-_}
 use native.Mathlib.Nat.{zero-add}
 use native.Mathlib.Omega.{arith}

@@ -1,4 +1,4 @@
--- `leafhost::codecs::put_fields` meets its contract: five stores in order. Assumes nothing.
+-- `leafhost::codecs::put_fields` meets its contract: five stores in order fill the five numbers. Assumes nothing.
 use lib.ListN.{length-set}
 use borrow.Author.Needs.{needs}
 use Rattle.leafhost.proofs.CodecWays.{ways}

@@ -1,4 +1,5 @@
--- `leafhost::codecs::wrapper_parse` meets its contract: refused, taken or invalid. Assumes nothing.
+-- `leafhost::codecs::wrapper_parse` meets its contract: what is lent is refused, or the message is valid, or it is invalid.
+-- Assumes nothing.
 use native.Mathlib.Omega.{arith}
 use borrow.Author.Needs.{needs}
 use Rattle.leafhost.proofs.CodecWays.{ways}

@@ -1,4 +1,4 @@
--- `leafhost::codecs::wrapper_status` meets its contract: refused, or the 13 bytes. Assumes nothing.
+-- `leafhost::codecs::wrapper_status` meets its contract: the call is refused, or it writes the 13 bytes. Assumes nothing.
 use borrow.Author.Needs.{needs}
 use Rattle.leafhost.proofs.CodecWays.{ways}
 use Rattle.leafhost.proofs.codecs.wrapper_status.Statement.{statement}

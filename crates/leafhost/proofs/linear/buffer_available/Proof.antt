@@ -1,4 +1,4 @@
--- `leafhost::linear::buffer_available` meets its contract: `buffer::available` on the caller's marks, reported. Assumes nothing.
+-- `leafhost::linear::buffer_available` meets its contract: it reports what `buffer::available` does on the caller's marks. Assumes nothing.
 use borrow.Author.Needs.{needs}
 use Rattle.leafhost.proofs.BufferWays.{ways}
 use Rattle.leafhost.proofs.linear.buffer_available.Statement.{statement}

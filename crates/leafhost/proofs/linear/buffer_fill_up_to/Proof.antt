@@ -1,4 +1,5 @@
--- `leafhost::linear::buffer_fill_up_to` meets its contract: `buffer::fill_up_to` on the caller's marks, reported. Assumes nothing.
+-- `leafhost::linear::buffer_fill_up_to` meets its contract: it reports what `buffer::fill_up_to` does on the caller's marks.
+-- Assumes nothing.
 use borrow.Author.Needs.{needs}
 use Rattle.leafhost.proofs.BufferWays.{ways}
 use Rattle.leafhost.proofs.linear.buffer_fill_up_to.Statement.{statement}

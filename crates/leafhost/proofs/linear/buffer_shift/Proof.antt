@@ -1,4 +1,4 @@
--- `leafhost::linear::buffer_shift` meets its contract: `buffer::shift` on the caller's marks, reported. Assumes nothing.
+-- `leafhost::linear::buffer_shift` meets its contract: it reports what `buffer::shift` does on the caller's marks. Assumes nothing.
 use borrow.Author.Needs.{needs}
 use Rattle.leafhost.proofs.BufferWays.{ways}
 use Rattle.leafhost.proofs.linear.buffer_shift.Statement.{statement}

@@ -1,4 +1,4 @@
--- `leafhost::linear::buffer_write_all` meets its contract: `buffer::write_all` on the caller's marks, reported. Assumes nothing.
+-- `leafhost::linear::buffer_write_all` meets its contract: it reports what `buffer::write_all` does on the caller's marks. Assumes nothing.
 use borrow.Author.Needs.{needs}
 use Rattle.leafhost.proofs.BufferWays.{ways}
 use Rattle.leafhost.proofs.linear.buffer_write_all.Statement.{statement}

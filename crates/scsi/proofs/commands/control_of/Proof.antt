@@ -1,4 +1,4 @@
--- `scsi::commands::control_of` meets its contract: three numbers, and all others. Assumes nothing.
+-- `scsi::commands::control_of` meets its contract: three numbers have an arm each, and all others share the last one. Assumes nothing.
 use Rattle.scsi.specs.Commands.{pageControl}
 use Rattle.scsi.proofs.Laws.{control-other}
 use Rattle.scsi.proofs.commands.control_of.Statement.{statement}

@@ -1,4 +1,4 @@
--- `scsi::commands::is_set` meets its contract: one bit. Assumes nothing.
+-- `scsi::commands::is_set` meets its contract: it reads one bit. Assumes nothing.
 use borrow.Author.Needs.{needs}
 use Rattle.scsi.proofs.Laws.{ways}
 use Rattle.scsi.proofs.commands.is_set.Statement.{statement}

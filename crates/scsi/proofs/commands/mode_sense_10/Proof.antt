@@ -1,4 +1,4 @@
--- `scsi::commands::mode_sense_10` meets its contract: each field by the standard. Assumes nothing.
+-- `scsi::commands::mode_sense_10` meets its contract: it reads each field by the standard. Assumes nothing.
 use borrow.Author.Needs.{needs}
 use Rattle.scsi.proofs.Laws.{ways}
 use Rattle.scsi.proofs.commands.mode_sense_10.Statement.{statement}

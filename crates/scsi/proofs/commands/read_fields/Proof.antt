@@ -1,4 +1,4 @@
--- `scsi::commands::read_fields` meets its contract: each arm by the table at its opcode. Assumes nothing.
+-- `scsi::commands::read_fields` meets its contract: each arm follows the table at its opcode. Assumes nothing.
 use Rattle.scsi.specs.Decoding.{rows, fieldsBy}
 use Rattle.scsi.proofs.Laws.{missing, long-enough}
 use Rattle.scsi.proofs.commands.read_fields.Statement.{statement}

@@ -1,4 +1,4 @@
--- `scsi::numbers::decode_into` meets its contract: the plain entry, reported. Assumes nothing.
+-- `scsi::numbers::decode_into` meets its contract: it reports the answer of the plain entry. Assumes nothing.
 use borrow.Author.Needs.{needs}
 use Rattle.scsi.proofs.Six.{ways}
 use Rattle.scsi.proofs.numbers.decode_into.Statement.{statement}

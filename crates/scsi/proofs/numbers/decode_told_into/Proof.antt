@@ -1,4 +1,4 @@
--- `scsi::numbers::decode_told_into` meets its contract: the entry that is told, reported. Assumes nothing.
+-- `scsi::numbers::decode_told_into` meets its contract: it reports the answer of the entry that is told. Assumes nothing.
 use borrow.Author.Needs.{needs}
 use Rattle.scsi.proofs.Six.{ways}
 use Rattle.scsi.proofs.numbers.decode_told_into.Statement.{statement}

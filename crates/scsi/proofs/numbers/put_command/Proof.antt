@@ -1,4 +1,4 @@
--- `scsi::numbers::put_command` meets its contract: each command in its six numbers. Assumes nothing.
+-- `scsi::numbers::put_command` meets its contract: each command has its six numbers. Assumes nothing.
 use mathlib.Core.Path.{refl}
 use borrow.Author.Needs.{needs}
 use Rattle.scsi.proofs.Six.{by-fields, put-in, ways}

@@ -1,4 +1,4 @@
--- `scsi::numbers::put_six` meets its contract: six stores in order. Assumes nothing.
+-- `scsi::numbers::put_six` meets its contract: six stores in order fill the six numbers. Assumes nothing.
 use lib.ListN.{length-set}
 use borrow.Author.Needs.{needs}
 use Rattle.scsi.proofs.Six.{ways}

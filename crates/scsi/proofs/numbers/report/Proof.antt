@@ -1,4 +1,4 @@
--- `scsi::numbers::report` meets its contract: six numbers lent, or not; a command, or none. Assumes nothing.
+-- `scsi::numbers::report` meets its contract: six numbers are lent or not, and there is a command or none. Assumes nothing.
 use borrow.Author.Needs.{needs}
 use Rattle.scsi.proofs.Six.{ways}
 use Rattle.scsi.proofs.numbers.report.Statement.{statement}

@@ -1,4 +1,4 @@
--- `scsi::table::in_table` meets its contract: what the rows from i on list is what the table lists. Assumes nothing.
+-- `scsi::table::in_table` meets its contract: before each turn, the rows from i on list what the whole table lists. Assumes nothing.
 use mathlib.Core.Path.{_≡_, refl, _∙_}
 use Prim.Native.Nat.{_≤_, _-_}
 use native.Mathlib.Omega.{arith}

@@ -1,4 +1,4 @@
--- `scsi::table::opcode_counts` meets its contract: one law for each way. Assumes nothing.
+-- `scsi::table::opcode_counts` meets its contract: there is one law for each way. Assumes nothing.
 use borrow.Author.Tests.{ne-eqb}
 use borrow.Author.Needs.{needs}
 use Rattle.scsi.specs.Decoding.{counts}

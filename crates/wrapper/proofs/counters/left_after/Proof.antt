@@ -1,4 +1,4 @@
--- `wrapper::counters::left_after` meets its contract: a difference, or 0 where it would be below. Assumes nothing.
+-- `wrapper::counters::left_after` meets its contract: it gives the difference, or 0 where that would be below 0. Assumes nothing.
 use mathlib.Core.Path.{refl, ap}
 use Prim.Native.Nat.{ℕ}
 use native.Mathlib.Omega.{arith}

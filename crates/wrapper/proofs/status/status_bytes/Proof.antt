@@ -1,4 +1,4 @@
--- `wrapper::status::status_bytes` meets its contract: the four fields laid in turn. Assumes nothing.
+-- `wrapper::status::status_bytes` meets its contract: it writes the four fields in turn. Assumes nothing.
 use borrow.Author.Needs.{needs}
 use Rattle.wrapper.proofs.Csw.{ways}
 use Rattle.wrapper.proofs.status.status_bytes.Statement.{statement}

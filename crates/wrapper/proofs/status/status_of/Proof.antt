@@ -1,4 +1,4 @@
--- `wrapper::status::status_of` meets its contract: one law for the known bytes, one for the others. Assumes nothing.
+-- `wrapper::status::status_of` meets its contract: there is one law for the known bytes, and one for the others. Assumes nothing.
 use native.Mathlib.Omega.{arith}
 use borrow.Author.Needs.{needs}
 use Rattle.wrapper.proofs.Csw.{status-refused, ways}

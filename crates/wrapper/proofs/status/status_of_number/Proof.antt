@@ -1,4 +1,4 @@
--- `wrapper::status::status_of_number` meets its contract: one number for each arm, and the last for the rest. Assumes nothing.
+-- `wrapper::status::status_of_number` meets its contract: each arm but the last has one number, and the last has the rest. Assumes nothing.
 use Rattle.wrapper.specs.Status.{statusOfNumber}
 use Rattle.wrapper.proofs.Numbers.{the-last-status}
 use Rattle.wrapper.proofs.status.status_of_number.Statement.{statement}

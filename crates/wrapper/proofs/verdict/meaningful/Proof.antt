@@ -1,4 +1,4 @@
--- `wrapper::verdict::meaningful` meets its contract: the two tests in turn. Assumes nothing.
+-- `wrapper::verdict::meaningful` meets its contract: it makes the two tests in turn. Assumes nothing.
 use borrow.Author.Needs.{needs}
 use Rattle.wrapper.proofs.Cbw as cbw
 use Rattle.wrapper.proofs.Judged.{ways}

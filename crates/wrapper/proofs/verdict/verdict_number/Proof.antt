@@ -1,4 +1,4 @@
--- `wrapper::verdict::verdict_number` meets its contract: one number for each verdict. Assumes nothing.
+-- `wrapper::verdict::verdict_number` meets its contract: each verdict has its number. Assumes nothing.
 use borrow.Author.Needs.{needs}
 use Rattle.wrapper.specs.declared.verdict.Verdict.the-variants.{Invalid, ValidOnly, Meaningful}
 use Rattle.wrapper.proofs.Judged.{numbered}

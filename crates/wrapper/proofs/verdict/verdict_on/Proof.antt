@@ -1,4 +1,4 @@
--- `wrapper::verdict::verdict_on` meets its contract: one law for each verdict. Assumes nothing.
+-- `wrapper::verdict::verdict_on` meets its contract: there is one law for each verdict. Assumes nothing.
 use borrow.Author.Needs.{needs}
 use Rattle.wrapper.proofs.Cbw as cbw
 use Rattle.wrapper.proofs.Judged.{ways}
