@@ -51,7 +51,6 @@ pub record Line : Type 0 where
 unfoldable pub line : Polling → Line
 line x = record { answer = x .answer .number; state = stateNumber (x .device .state); left = x .device .left .0; unread = buffer.unread (buffer.buffer (x .io) (x .device .marks)); taken = x .taken; sent = x .sent }
 
--- This puts an expected line together.
 abbrev shown : ℕ → ℕ → ℕ → ℕ → ℕ → ℕ → Line
 shown answer state left unread taken sent = record { answer = answer; state = state; left = left; unread = unread; taken = taken; sent = sent }
 

@@ -49,7 +49,8 @@ use Rattle.bbb.specs.declared.Polled.{Polled}
 -- ---- what goes in and what comes out
 
 -- A poll is given the packet buffer `packet`, the packets `one` and `two` that are offered for the first and the second OUT read, and the
--- endpoints' answers `turn`. "A poll is given answers for two OUT reads .. and one IN write".
+-- endpoints' answers `turn`: `first` and `second` for the OUT reads, `write` for the IN write. "A poll is given answers for two OUT reads
+-- .. and one IN write".
 pub record Given : Type 0 where
   pub packet : List ℕ
   pub one : List ℕ
@@ -183,12 +184,13 @@ toHostEndingRule g x =
     (enterStatus g x)
     (sendData g (reaching DataTransferToHostEnding (leaving (filledUp (x .device .fixed .packetsize) (x .device .left) (bufferAt x)) x)))
 
--- State 4 answers 4, FullPacketExpected, if "left at least P, unread below P" is true: `p` is P, and `n` is the number of unread bytes.
+-- State 4 answers 4, FullPacketExpected, if `left` is at least `p` and fewer than `p` bytes are unread; `n` is how many are. 01 says
+-- "left at least P, unread below P".
 unfoldable pub fallsShort : ℕ → Left → ℕ → Bool
 fallsShort p left n = leb p (left .0) && ltb n p
 
 -- The rule of state 4 is "4: left 0 goes to 5; status present goes to 6; otherwise send one packet. With left below P a short packet of
--- what is unread goes out; nothing unread sends nothing, answer 0." With left at least P, if fewer than P bytes are unread, the poll ends
+-- what is unread goes out; nothing unread sends nothing, answer 0." If a whole packet is due and not there (`fallsShort`), the poll ends
 -- in 4 with the answer 4, and nothing is sent.
 unfoldable pub toHostRule : Given → Point → Polling
 toHostRule g x =
@@ -218,7 +220,7 @@ fromHostRule g x =
 abbrev pub ordered : Wrapper → Point → Point
 ordered w x = point (withLeft (record { 0 = w .length }) (withWrapper w (x .device))) (x .io) (x .taken) (x .unstalled)
 
--- A valid wrapper `w` was read, and its direction decides. "Valid goes on to 7, 4 or, through 2, to 5."
+-- A valid wrapper `w` was read, and its direction decides how the poll goes on. "Valid goes on to 7, 4 or, through 2, to 5."
 unfoldable pub startRule : Wrapper → Given → Point → Polling
 startRule w g x = byDirection (w .direction) (fromHostRule g (ordered w x)) (toHostRule g (ordered w x)) (noDataRule g (ordered w x))
 
@@ -238,8 +240,8 @@ parseRule g x =
     (startRule (wrapperOf (messageAt (bufferAt x))) g (leaving (behind31 (bufferAt x)) x))
     (ending (reaching CommandTransferInvalid (leaving (behind31 (bufferAt x)) x)) (answer 0) 0 true (g .packet))
 
--- A read was tried: `took` says whether it took a packet, and `t` is its answer. "0: read one packet; with 31 or more unread parse." If
--- no packet was taken, or fewer than 31 bytes are unread, the poll ends with the answer `t`.
+-- A read was tried: `took` says whether it took a packet, and `t` is its answer. If it took one, "with 31 or more unread parse";
+-- otherwise the poll ends with the answer `t`.
 unfoldable pub readBy : Bool → Answering → Given → Point → Polling
 readBy took t g x = cond (took && leb 31 (unread (bufferAt x))) (parseRule g x) (ends g x t)
 
@@ -247,7 +249,7 @@ readBy took t g x = cond (took && leb 31 (unread (bufferAt x))) (parseRule g x) 
 unfoldable pub readOneBy : ℕ → Endpoint → Buffer → Given → Point → Polling
 readOneBy p e s g x = readBy (takesOne p e s) (readAnswer p e s) g (counting (takesOne p e s) (leaving (received p e (g .one) s) x))
 
--- The rule of state 0 is to read the first offer of `g` into the buffer, as `readOneBy` says, and to parse if `readBy` says so.
+-- The rule of state 0 is "0: read one packet; with 31 or more unread parse." The packet is the first offer of `g`.
 unfoldable pub readCbwRule : Given → Point → Polling
 readCbwRule g x = readOneBy (x .device .fixed .packetsize) (endpointOf (g .turn .first)) (bufferAt x) g x
 
@@ -255,7 +257,8 @@ readCbwRule g x = readOneBy (x .device .fixed .packetsize) (endpointOf (g .turn 
 abbrev pub entering : Point → Point
 entering x = point (entering0 (x .device)) (x .io) (x .taken) true
 
--- The rule of state 3, for a poll that starts there, is "Later polls in 3 send the next packet; with nothing unread, enter 0 and read."
+-- The rule of state 3, if the poll starts in it, is "Later polls in 3 send the next packet; with nothing unread, enter 0 and read." The
+-- read is that of state 0, in the same poll.
 unfoldable pub statusTransferRule : Given → Point → Polling
 statusTransferRule g x = cond (eqb (unread (bufferAt x)) 0) (readCbwRule g (entering x)) (sendStatus g x)
 

@@ -27,7 +27,6 @@ pub record Handling : Type 0 where
   pub bytes : List ℕ
   pub device : Device
 
--- This puts such a record together.
 abbrev pub handling : Answering → Stalls → List ℕ → Device → Handling
 handling a stalls bytes d = record { answer = a; stalls = stalls; bytes = bytes; device = d }
 

@@ -54,11 +54,10 @@ pub record Offered : Type 0 where
   pub lun : ℕ
   pub command : ScsiCommand
 
--- This puts such a record together.
 abbrev pub offered : ℕ → ScsiCommand → Offered
 offered lun c = record { lun = lun; command = c }
 
--- A step of the code offers nothing, or one command: here as a list.
+-- A step of the code offers nothing, or one command; here that is a list.
 abbrev pub offers : Offer → List Offered
 offers Nothing = []
 offers (Command lun c) = offered lun c ∷ []
@@ -68,7 +67,6 @@ pub record Stepping : Type 0 where
   pub answer : Answering
   pub offers : List Offered
 
--- This puts such a record together.
 abbrev pub stepping : Answering → List Offered → Stepping
 stepping a os = record { answer = a; offers = os }
 

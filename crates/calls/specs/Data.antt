@@ -21,7 +21,6 @@ pub record Moving : Type 0 where
   pub device : Device
   pub bytes : List ℕ
 
--- This puts such a record together.
 abbrev pub moving : Answering → ℕ → Device → List ℕ → Moving
 moving a count d bytes = record { answer = a; count = count; device = d; bytes = bytes }
 

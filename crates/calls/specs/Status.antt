@@ -19,7 +19,6 @@ pub record Stating : Type 0 where
   pub answer : Answering
   pub device : Device
 
--- This puts such a record together.
 abbrev pub stating : Answering → Device → Stating
 stating a d = record { answer = a; device = d }
 

@@ -13,12 +13,12 @@ use Rattle.device.specs.declared.Numbers.{Numbers}
 use Rattle.device.specs.Device.{isPresent, numbersOf}
 use Rattle.device.specs.Create.{creation}
 
--- `lun` and `blocklength` are in their bounds. A record is broken with "block length above 16; LUN above 15".
+-- `lun` and `blocklength` are in their bounds. A record is broken by "block length above 16; LUN above 15".
 unfoldable pub commandFits : ℕ → ℕ → Bool
 commandFits lun blocklength = leb blocklength 16 && leb lun 15
 
--- In this state a status may be `present` or not. A record is broken with "a status present in CommandTransfer or CommandTransferInvalid;
--- none present in StatusTransfer or either Ending state".
+-- This says whether it fits the state that a status is `present`, or that none is. A record is broken by "a status present in
+-- CommandTransfer or CommandTransferInvalid; none present in StatusTransfer or either Ending state".
 abbrev pub statusFits : State → Bool → Bool
 statusFits CommandTransfer present = not present
 statusFits CommandTransferInvalid present = not present

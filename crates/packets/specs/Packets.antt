@@ -20,8 +20,7 @@ use Rattle.wrapper.specs.Status.{statusBytes}
 unfoldable pub handed : Endpoint → List ℕ → List ℕ
 handed e packet = cond (serves e) packet []
 
--- A read answers 1 if "room, after moving, is below P (packet read)"; only with enough room is the endpoint asked, and then it gives the
--- answer.
+-- A read answers 1 if "room, after moving, is below P (packet read)". Otherwise the endpoint is asked and gives the answer.
 unfoldable pub readAnswer : ℕ → Endpoint → Buffer → Answering
 readAnswer p e s = cond (lacksRoom p s) (answer 1) (answeredBy e)
 
@@ -44,11 +43,11 @@ received p e packet s = writtenAll p (handed e packet) s
 unfoldable pub accepted : Endpoint → ℕ → ℕ
 accepted e p = cond (serves e) p 0
 
--- With `unread` bytes unread, "nothing unread sends nothing, answer 0"; otherwise the endpoint gives the answer.
+-- `unread` is how many bytes are unread before a send. "nothing unread sends nothing, answer 0"; otherwise the endpoint gives the answer.
 unfoldable pub sendAnswer : Endpoint → ℕ → Answering
 sendAnswer e unread = cond (eqb unread 0) (answer 0) (answeredBy e)
 
--- This is the number of bytes sent. "send min(P, unread)" is done if IN does its part; otherwise it is 0.
+-- This is the number of bytes sent: "send min(P, unread)" if IN does its part, and 0 otherwise.
 unfoldable pub sentCount : ℕ → Endpoint → Buffer → ℕ
 sentCount p e s = ready (accepted e p) s
 

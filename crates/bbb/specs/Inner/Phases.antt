@@ -61,7 +61,6 @@ pub record Open : Type 0 where
   pub taken : ℕ
   pub cleared : Bool
 
--- This puts such a record together, field by field.
 abbrev pub opening : Found → Marks → Left → DataDirection → Answering → ℕ → Bool → Open
 opening f m l d t taken cleared = record { found = f; marks = m; left = l; direction = d; answer = t; taken = taken; cleared = cleared }
 
@@ -92,8 +91,8 @@ pub record Opens (x : Open) (io : List ℕ) (r : Opened) (io′ : List ℕ) : Ty
 abbrev pub behind : Marks → Marks
 behind m = at (m .read + 31) (m .write)
 
--- The first 31 unread bytes of the buffer `s` are parsed. A valid wrapper gives its length and its direction; an invalid one keeps
--- `left`. Either way one packet was taken, and `cleared` is passed on.
+-- The first 31 unread bytes of the buffer `s` are parsed. With a valid wrapper, its length is left and its direction counts; with an
+-- invalid one, `left` stays. Either way one packet was taken, and `cleared` is passed on.
 unfoldable pub parsedOpen : Buffer → Left → Bool → Open
 parsedOpen s left cleared =
     cond (isValid (messageAt s))
@@ -109,8 +108,8 @@ countOf took = cond took 1 0
 unfoldable pub openAfter : Buffer → Bool → Answering → Left → Bool → Open
 openAfter t took said left cleared = cond (took && leb 31 (unread t)) (parsedOpen t left cleared) (opening found.Nothing (t .marks) left NotExpected said (countOf took) cleared)
 
--- The offer `one` is read into the buffer `s`, and then as `openAfter` says: `p` is the packet size, and `e` is what the OUT endpoint
--- does.
+-- The offer `one` is read into the buffer `s`: `p` is the packet size, and `e` is what the OUT endpoint does. What follows is
+-- `openAfter`.
 unfoldable pub readOpen : ℕ → Endpoint → List ℕ → Left → Bool → Buffer → Open
 readOpen p e one left cleared s = openAfter (received p e one s) (takesOne p e s) (readAnswer p e s) left cleared
 
@@ -153,8 +152,8 @@ openedIo n io one e = cond (isOpening n) (readIo (n .fixed .packetsize) e one (b
 unfoldable pub justRead : List ℕ → Marks → List ℕ
 justRead io m = take 31 (drop (m .read - 31) io)
 
--- The record then has the wrapper that opening (`o`) found valid, read from `io`, or else the wrapper `w` that it had. It has to be read
--- now, because acting may overwrite its bytes.
+-- The record then has the wrapper that opening found valid, which stands in `io`, or else keeps the wrapper `w`. `o` is what opening
+-- gave. The wrapper is read before the act, because acting may overwrite its bytes.
 unfoldable pub wrapperThen : Open → List ℕ → Wrapper → Wrapper
 wrapperThen o io w = cond (isValidFound (o .found)) (wrapperOf (justRead io (o .marks))) w
 
@@ -171,7 +170,6 @@ pub record Done : Type 0 where
   pub stalled : Bool
   pub io : List ℕ
 
--- This puts such a record together, field by field.
 abbrev pub done : Marks → Left → ℕ → Answering → ℕ → Bool → List ℕ → Done
 done m l sent t taken stalled io = record { marks = m; left = l; sent = sent; answer = t; taken = taken; stalled = stalled; io = io }
 
@@ -210,7 +208,8 @@ oneMore taken more = cond more (taken + 1) taken
 unfoldable pub tookFrom : ℕ → Endpoint → List ℕ → Buffer → Open → Done
 tookFrom p e packet s o = done (received p e packet s .marks) (fallen (o .left) (brought p e packet s)) 0 (readAnswer p e s) (oneMore (o .taken) (takesOne p e s)) false (received p e packet s .bytes)
 
--- A packet of data is read from the offers `one` and `two` after opening gave `o`: `b` says what is done to the buffer first.
+-- A packet of data is read into the IO buffer `io` from the offers `one` and `two`, with the OUT answers of `turn`: `b` says what is done
+-- to the buffer first, and `p` is the packet size. Opening gave `o`.
 unfoldable pub took : Before → ℕ → Open → List ℕ → List ℕ → List ℕ → Turn → Done
 took b p o io one two turn = tookFrom p (offeredBy (o .taken) turn) (offers (o .taken) one two) (buffer io (emptiedMarks b (o .marks))) o
 
@@ -235,8 +234,8 @@ readied before.Empty p s left n = s
 unfoldable pub sentFrom : Bool → ℕ → Endpoint → Buffer → Open → Done
 sentFrom counts p e s o = done (sentOff p e s .marks) (leftThen counts (o .left) (sentCount p e s)) (sentCount p e s) (sendAnswer e (unread s)) (o .taken) false (sentOff p e s .bytes)
 
--- This is the same with a check before it: if `refuses` is true, nothing is sent, and the answer is 4. Otherwise the buffer is readied as
--- `b` says and a packet is sent.
+-- This is the same with a check before it, in a poll that starts with the numbers `n`: if `refuses` is true, nothing is sent, and the
+-- answer is 4. Otherwise the buffer is readied as `b` says, and a packet is sent. Opening gave `o` and the IO buffer `io`.
 unfoldable pub sentBy : Before → Bool → Numbers → Open → List ℕ → Endpoint → Done
 sentBy b counts n o io e =
     cond (refuses b (n .fixed .packetsize) (o .left) (o .marks .write - o .marks .read))

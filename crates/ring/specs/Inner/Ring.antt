@@ -86,12 +86,12 @@ abbrev pub whole : Bool → ℕ
 whole true = 4
 whole false = 0
 
--- This puts a row together.
+-- A row has the state `s` in which an act is done, what crosses the wire (`k`), what is done to the buffer first (`b`), and whether left
+-- falls (`counts`).
 abbrev row : State → Kind → Before → Bool → Row
 row s k b counts = record { 0 = s; 1 = k; 2 = b; 3 = counts }
 
--- The row of an act has the state in which the act is done, what crosses the wire, what is done to the buffer first, and whether left
--- falls.
+-- This is the row of each act.
 abbrev pub rowOf : Act → Row
 rowOf act.Stay = row CommandTransfer kind.Rest before.Nothing false
 rowOf act.Stall = row CommandTransferInvalid kind.Stall before.Nothing false
