@@ -14,9 +14,9 @@
 --     7 DataTransferFromHost             `fromHostRule`          `from_host`
 --     8 DataTransferFromHostEnding       `fromHostEndingRule`    `from_host_ending`
 --
--- `ruleIn` picks the rule by the state in which a poll starts; in the code `settle` picks the handler. Three things are done outside the
--- handlers. `open` (crates/bbb/src/open.rt) reads a packet and parses the wrapper, in 0, and in 3 if nothing is unread. `falls_short`
--- (crates/bbb/src/act.rt) decides whether 4 answers FullPacketExpected. `act` (the same file) does what was decided.
+-- `ruleIn` picks the rule by the state in which a poll starts; in the code `settle` picks the handler. The rest is done outside the
+-- handlers. `open` (crates/bbb/src/open.rt) reads a packet and parses the wrapper in 0, and in 3 if nothing is unread; from 3 it enters 0
+-- first. `falls_short` (crates/bbb/src/act.rt) decides whether 4 answers FullPacketExpected. `act` (the same file) does what was decided.
 --
 -- In every rule `g` is what the poll was given, and `x` is the point to which the poll has come.
 use mathlib.Core.Bool.{Bool, true, false, cond, _&&_}

@@ -1,4 +1,4 @@
-// The act to which a poll comes. Every packet but the one that opening reads crosses the wire here.
+// A poll comes to an act, which is done here. Every packet but the one that opening reads crosses the wire here.
 use crate::Turn;
 use crate::open::Opened;
 use answers::Answer;
@@ -84,7 +84,7 @@ fn emptied(b: Before, m: Marks) -> Marks
     }
 }
 
-// A packet more counts as taken if `more` is true.
+// One more packet counts as taken if `more` is true.
 fn one_more(taken: u8, more: bool) -> u8
     requires { ⌜ taken ≤ 1 ⌝ }
     ensures { λ r. ⌜ r ≡ oneMore taken more ⌝ }
@@ -114,7 +114,7 @@ fn take(b: Before, p: usize, o: Opened, io: &mut [u8], one: &[u8], two: &[u8], t
     }
 }
 
-// A whole packet is due if at least `p` bytes are left; with fewer than `p` unread there is none.
+// This says whether a whole packet is due (at least `p` bytes are left) and not there (fewer than `p` are unread).
 fn falls_short(p: usize, left: Left, unread: usize) -> bool
     ensures { λ r. ⌜ r ≡ fallsShort p left unread ⌝ }
 {

@@ -1,9 +1,9 @@
 // One poll of the socket's device, as in bbb.rs. The record goes in by value and comes back.
 //     check    10 is checked, then 11
-//     open     if the chain of handlers reaches the wrapper, a packet is read and its 31 bytes are looked at
+//     open     if the chain of handlers reaches the wrapper, a packet is read, and with 31 bytes unread the wrapper is parsed
 //     take     a valid wrapper is taken out of the IO buffer, because acting may overwrite it
 //     decide   the ring of handlers (crates/ring) decides on the act
-//     act      the act is done in one place: what crosses the wire
+//     act      the act is done in one place: a packet crosses the wire, or none
 // In every function `io` is the IO buffer, `packet` is the packet buffer, `one` and `two` are the offered packets, and `turn` holds the
 // endpoints' answers.
 mod act;

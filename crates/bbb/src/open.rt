@@ -1,4 +1,4 @@
-// Opening a poll: if the chain of handlers reaches the wrapper, a packet is read, and the first 31 unread bytes are looked at.
+// Opening a poll: if the chain of handlers reaches the wrapper, a packet is read, and with 31 bytes unread the wrapper is parsed.
 use answers::Answer;
 use answers::endpoint_of;
 use buffer::Marks;

@@ -214,7 +214,7 @@ pub fn read_data(device: Device, dst: &mut [u8], io: &[u8]) -> Moved
     refused(device, Answer::InvalidState)
 }
 
-// As many bytes of `src` go into the buffer as fit and are left.
+// The first bytes of `src` go into the buffer: as many as fit, and no more than are left.
 pub fn write_data(device: Device, io: &mut [u8], src: &[u8]) -> Moved
     ensures { λ r. ⌜ movedOf r (now (io .exit)) ≡ writeCall device (now (io .entry)) (now (src .entry)) ⌝ }
 {

@@ -54,7 +54,7 @@ pub fn read_data(d: &mut Device, dst: &mut [u8], io: &[u8]) -> Count
     r.report
 }
 
-// As many bytes of `src` go into the buffer as fit and are left.
+// The first bytes of `src` go into the buffer: as many as fit, and no more than are left.
 pub fn write_data(d: &mut Device, io: &mut [u8], src: &[u8]) -> Count
     ensures { λ r. ⌜ movingWith (now (d .exit)) r (now (io .exit)) ≡ writeCall (now (d .entry)) (now (io .entry)) (now (src .entry)) ⌝ }
 {
