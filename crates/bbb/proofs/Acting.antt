@@ -1,4 +1,4 @@
--- Laws of an act: what each way through its functions owes (`ways`). Assumes nothing.
+-- Laws of an act: what has to be shown for each way through its functions (`ways`). Assumes nothing.
 use mathlib.Core.Path.{_≡_, refl, ap}
 use mathlib.Core.Bool.{Bool, true, false}
 use mathlib.Core.List.{List}

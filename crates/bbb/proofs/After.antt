@@ -1,13 +1,13 @@
--- What is unread, left and sent after each way in which a poll ends: laws of the rules, for any point x from which one starts.
+-- What is unread, left and sent after each way in which a poll can end: laws of the rules, for any point `x` at which a rule starts.
 --     send-..               a packet is sent, of data or of the status; with nothing unread, or with IN busy or failing, nothing changes
 --     data-left, status-left    left falls by bytes of data, and not by those of the status
 --     fill-.., ending-..    the fill of 6: how many 0xFF, and what 6 sends then
 --     stated-.., enter-..   what is unread once the status is put in, and what entering 3 sends of it
 --     take-..               a packet of data is read; with no room, or with OUT busy or failing, nothing crosses the wire (Idle)
 --     read-..               the same in 0, with fewer than 31 bytes unread and with more
---     parse-..              the 31 bytes that are parsed, and what is unread behind them
+--     parse-..              the 31 bytes that are parsed, and what is unread after them
 --     full-due              answer 4
---     whole-sent, short-sent    where 4 is not answered: one packet is sent
+--     whole-sent, short-sent    if 4 is not answered, one packet is sent
 --     parse-taken           the packet that brought the wrapper is counted
 -- Assumes nothing.
 use mathlib.Core.Path.{_≡_, refl, sym, ap, _∙_}
@@ -48,11 +48,11 @@ use Rattle.device.specs.Device.{isPresent, inState, withMarks, withLeft}
 use Rattle.bbb.specs.Poll.{Given, Polling, Point, bufferAt, reaching, leaving, leftThen, counting, ending, ends, sendBy, send, sendStatus, sendData, offers, offeredBy, takeBy, takeData, statusPut, enterStatus, statusAwaitRule, noDataRule, toHostEndingRule, fallsShort, toHostRule, fromHostEndingRule, fromHostRule, ordered, startRule, messageAt, behind31, parseRule, readBy, readOneBy, readCbwRule}
 use Rattle.bbb.proofs.Keeping.{follows-received, follows-filled, follows-status, by-direction}
 
--- the buffer that a poll leaves
+-- This is the buffer that a poll leaves.
 abbrev pub bufferAfter : Polling → Buffer
 bufferAfter o = buffer (o .io) (o .device .marks)
 
--- P, and what the endpoints say: IN; OUT where a packet of data is read, with the packet offered; OUT in 0
+-- These are P, and what the endpoints do: IN; OUT for a packet of data, with the packet offered; OUT in 0.
 abbrev pub P : Point → ℕ
 P x = x .device .fixed .packetsize
 
@@ -79,7 +79,7 @@ pub record Idle (g : Given) (x : Point) (o : Polling) : Type 0 where
 -- ---- a packet that is sent
 
 module _ (p : ℕ) (e : Endpoint) (s : Buffer) where
-  -- what is sent and what stays unread are what was unread
+  -- What is sent and what stays unread are together what was unread.
   sent-split : (packet : List ℕ) → Sound s → take (sentCount p e s) (sentInto p e s packet) ++ unreadBytes (sentOff p e s) ≡ unreadBytes s
   unfolding sentCount sentInto sentOff given
   sent-split packet h =
@@ -89,12 +89,12 @@ module _ (p : ℕ) (e : Endpoint) (s : Buffer) where
       let front : take k (overlay packet 0 ys) ≡ ys = rw long at (part-inside packet 0 ys zero-le) in
       rw (front, unread-readOff (accepted e p) s h) (take-append-drop k (unreadBytes s))
 
-  -- min(P, unread) where the endpoint does its part
+  -- If the endpoint does its part, min(P, unread) bytes are sent.
   sent-all : serves e ≡ true → sentCount p e s ≡ min p (unread s)
   unfolding sentCount ready accepted
   sent-all serving = rw serving (min-comm (unread s) p)
 
-  -- nothing is sent where nothing is unread
+  -- With nothing unread, nothing is sent.
   sent-nothing : unread s ≡ 0 → sentCount p e s ≡ 0
   unfolding sentCount
   sent-nothing none = omega (arith, ready-most (accepted e p) s)
@@ -115,24 +115,24 @@ left-kept : (counts : Bool) (l : Left) → leftThen counts l 0 ≡ l
 left-kept true l = fallen-nothing l
 left-kept false l = refl
 
--- a packet of data where `counts`, one of the status where not
+-- The packet is data if `counts` is true, and the status otherwise.
 module _ (counts : Bool) (g : Given) (x : Point) where
-  -- the bytes sent, and then those still unread, are those that were unread
+  -- The bytes sent, and then those still unread, are those that were unread.
   pub send-unread : Sound (bufferAt x) → take (send counts g x .sent) (send counts g x .packet) ++ unreadBytes (bufferAfter (send counts g x)) ≡ unreadBytes (bufferAt x)
   unfolding send sendBy
   send-unread h = sent-split (P x) (inFor g) (bufferAt x) (g .packet) h
 
-  -- of the record only marks and left change: put the old ones back, and it is the old one
+  -- Of the record only marks and left change: with the old ones put back, it is the old record.
   pub send-keeps : withLeft (x .device .left) (withMarks (x .device .marks) (send counts g x .device)) ≡ x .device
   unfolding send sendBy
   send-keeps = refl
 
-  -- "send min(P, unread)", where IN does its part
+  -- "send min(P, unread)" is done if IN does its part,
   pub send-sent : serves (inFor g) ≡ true → send counts g x .sent ≡ min (P x) (unread (bufferAt x))
   unfolding send sendBy
   send-sent serving = sent-all (P x) (inFor g) (bufferAt x) serving
 
-  -- and the answer is 0
+  -- and the answer is then 0.
   pub send-answer : serves (inFor g) ≡ true → send counts g x .answer ≡ answer 0
   unfolding send sendBy
   send-answer serving = answer-served (inFor g) (unread (bufferAt x)) serving
@@ -145,11 +145,11 @@ module _ (counts : Bool) (g : Given) (x : Point) where
   pub send-nothing : unread (bufferAt x) ≡ 0 → send counts g x ≡ ends g x (answer 0)
   send-nothing none = send-ends (sent-nothing (P x) (inFor g) (bufferAt x) none) ∙ ap (ends g x) (answer-nothing (inFor g) (unread (bufferAt x)) none)
 
-  -- 6 and 7: nothing changes where IN is asked and does not do its part
+  -- 6 and 7: nothing changes if IN is asked and does not do its part.
   pub send-unserved : serves (inFor g) ≡ false → (unread (bufferAt x) ≡ 0 → ⊥) → send counts g x ≡ ends g x (answeredBy (inFor g))
   send-unserved idle some = send-ends (sent-unserved (P x) (inFor g) (bufferAt x) idle) ∙ ap (ends g x) (answer-something (inFor g) (unread (bufferAt x)) some)
 
--- "Left falls by bytes moved, never below 0": by those of data, and not by those of the status
+-- "Left falls by bytes moved, never below 0": it falls by bytes of data, and not by those of the status.
 pub data-left : (g : Given) (x : Point) → sendData g x .device .left .0 ≡ x .device .left .0 - sendData g x .sent
 unfolding send sendBy fallen
 data-left g x = refl
@@ -161,19 +161,19 @@ status-left g x = refl
 -- ---- the fill of 6
 
 module _ (p : ℕ) (left : Left) (s : Buffer) (h : Sound s) where
-  -- 0xFF behind the unread bytes, as many as fit
+  -- The unread bytes are followed by 0xFF, as many as fit.
   pub fill-unread : unreadBytes (filledUp p left s) ≡ unreadBytes s ++ replicate (fitting (min (left .0) p - unread s) s) 0xFF
   unfolding filledUp
   fill-unread = unread-filled 0xFF (min (left .0) p - unread s) s h
 
-  -- a buffer of P bytes takes them all: up to min(left, P)
+  -- A buffer of P bytes has room for all of them, up to min(left, P).
   pub fill-exact : p ≤ length (s .bytes) → unreadBytes (filledUp p left s) ≡ unreadBytes s ++ replicate (min (left .0) p - unread s) 0xFF
   fill-exact wide =
       let n : ℕ = min (left .0) p - unread s in
       let all : fitting n s ≡ n = fitting-by-unread n s h ∙ min-eq-right (omega (arith, min-le-right (left .0) p)) in
       fill-unread ∙ ap (λ (k : ℕ). unreadBytes s ++ replicate k 0xFF) all
 
-  -- then min(left, P) bytes are unread, or as many as there were
+  -- Then min(left, P) bytes are unread, or as many as there were if those were more.
   pub fill-count : p ≤ length (s .bytes) → unread (filledUp p left s) ≡ max (min (left .0) p) (unread s)
   fill-count wide =
       let n : ℕ = min (left .0) p - unread s in
@@ -182,7 +182,7 @@ module _ (p : ℕ) (left : Left) (s : Buffer) (h : Sound s) where
       ∙ length-append (unreadBytes s) (replicate n 0xFF)
       ∙ rw (length-unread s h, length-replicate {A = ℕ} n 0xFF, add-comm (unread s) n) (sub-add-eq-max (min (left .0) p) (unread s))
 
--- the point at which 6 sends
+-- At this point 6 sends.
 abbrev pub topped : Point → Point
 topped x = reaching DataTransferToHostEnding (leaving (filledUp (P x) (x .device .left) (bufferAt x)) x)
 
@@ -192,12 +192,12 @@ module _ (g : Given) (x : Point) (some : x .device .left .0 ≡ 0 → ⊥) where
   unfolding toHostEndingRule
   fill-sends = rw (ne-eqb _ _ some)
 
-  -- the bytes sent, and then those still unread, are those that were unread and the 0xFF behind them
+  -- The bytes sent, and then those still unread, are those that were unread with the 0xFF after them.
   pub ending-unread : Sound (bufferAt x) → P x ≤ length (x .io) → take (toHostEndingRule g x .sent) (toHostEndingRule g x .packet) ++ unreadBytes (bufferAfter (toHostEndingRule g x))
       ≡ unreadBytes (bufferAt x) ++ replicate (min (x .device .left .0) (P x) - unread (bufferAt x)) 0xFF
   ending-unread h wide = rw fill-sends (send-unread true g (topped x) (follows-filled (P x) (x .device .left) (bufferAt x) h .sound) ∙ fill-exact (P x) (x .device .left) (bufferAt x) h wide)
 
-  -- so many bytes 6 sends, where IN does its part
+  -- 6 sends this many bytes if IN does its part.
   pub ending-sent : Sound (bufferAt x) → P x ≤ length (x .io) → serves (inFor g) ≡ true → toHostEndingRule g x .sent ≡ min (P x) (max (min (x .device .left .0) (P x)) (unread (bufferAt x)))
   ending-sent h wide serving = rw fill-sends (send-sent true g (topped x) serving ∙ ap (min (P x)) (fill-count (P x) (x .device .left) (bufferAt x) h wide))
 
@@ -211,22 +211,22 @@ status-put tag status residue s wide =
     let all : fitting (length ys) (emptied s) ≡ length ys = fitting-by-unread (length ys) (emptied s) (sound-emptied s) ∙ min-eq-right (omega arith) in
     unread-written ys (emptied s) (sound-emptied s) ∙ rw (all, unread-emptied s) (take-length ys)
 
--- the point at which 3, entered, sends
+-- At this point 3 sends, once it is entered.
 abbrev pub stated : Point → Point
 stated x = reaching StatusTransfer (leaving (statusPut (x .device .wrapper .tag) (x .device .status) (bufferAt x)) x)
 
--- its marks are sound
+-- The marks there are sound.
 pub stated-sound : (x : Point) → Sound (bufferAt (stated x))
 stated-sound x = follows-status (x .device .wrapper .tag) (x .device .status) (bufferAt x) .sound
 
--- of the record only marks and state change
+-- Of the record only marks and state change.
 pub enter-keeps : (g : Given) (x : Point) → withMarks (x .device .marks) (enterStatus g x .device) ≡ inState StatusTransfer (x .device)
 unfolding enterStatus send sendBy
 enter-keeps g x = refl
 
--- with a status present, and a buffer that holds one
+-- A status is present, and the buffer is large enough for it.
 module _ (x : Point) (status : CommandStatus) (residue : Residue) (here : x .device .status ≡ Present status residue) (wide : 13 ≤ length (x .io)) where
-  -- its 13 bytes are unread before the send
+  -- The 13 bytes of the status are unread before the send.
   pub stated-unread : unreadBytes (bufferAt (stated x)) ≡ statusBytes (x .device .wrapper .tag) residue (statusNumber status)
   stated-unread = rw here (status-put (x .device .wrapper .tag) status residue (bufferAt x) wide)
 
@@ -234,24 +234,24 @@ module _ (x : Point) (status : CommandStatus) (residue : Residue) (here : x .dev
   stated-count = sym (length-unread (bufferAt (stated x)) (stated-sound x)) ∙ ap length stated-unread ∙ length-status (x .device .wrapper .tag) residue (statusNumber status)
 
   module _ (g : Given) where
-    -- the bytes sent, and then those still unread, are the 13 of the status
+    -- The bytes sent, and then those still unread, are the 13 of the status.
     pub enter-unread : take (enterStatus g x .sent) (enterStatus g x .packet) ++ unreadBytes (bufferAfter (enterStatus g x)) ≡ statusBytes (x .device .wrapper .tag) residue (statusNumber status)
     unfolding enterStatus
     enter-unread = send-unread false g (stated x) (stated-sound x) ∙ stated-unread
 
-    -- min(P, 13) of them are sent, where IN does its part
+    -- If IN does its part, min(P, 13) of them are sent.
     pub enter-sent : serves (inFor g) ≡ true → enterStatus g x .sent ≡ min (P x) 13
     unfolding enterStatus
     enter-sent serving = send-sent false g (stated x) serving ∙ ap (min (P x)) stated-count
 
-    -- 6 and 7: the status bytes stay unread, in 3
+    -- 6 and 7: the bytes of the status stay unread, in 3.
     pub enter-unserved : serves (inFor g) ≡ false → enterStatus g x ≡ ends g (stated x) (answeredBy (inFor g))
     unfolding enterStatus
     enter-unserved idle = send-unserved false g (stated x) idle (λ (none : unread (bufferAt (stated x)) ≡ 0). omega (arith, stated-count))
 
 -- ---- a packet that is read
 
--- what is unread then, where the packet fits: by whether there is room, and by what OUT says
+-- This is what is unread after a packet that fits, depending on the room and on what OUT does.
 module _ (p : ℕ) (e : Endpoint) (packet : List ℕ) (s : Buffer) (h : Sound s) (fits : length packet ≤ p) where
   received-by : unreadBytes (received p e packet s) ≡ cond (lacksRoom p s) (unreadBytes s) (unreadBytes s ++ handed e packet)
   unfolding received
@@ -269,12 +269,12 @@ module _ (p : ℕ) (e : Endpoint) (packet : List ℕ) (s : Buffer) (h : Sound s)
   received-unserved room idle = received-by ∙ rw (room, idle) (append-nil (unreadBytes s))
 
 module _ (g : Given) (x : Point) where
-  -- of the record only marks and left change
+  -- Of the record only marks and left change.
   pub take-keeps : withLeft (x .device .left) (withMarks (x .device .marks) (takeData g x .device)) ≡ x .device
   unfolding takeData takeBy
   take-keeps = refl
 
-  -- nothing is sent
+  -- Nothing is sent.
   pub take-sends : (takeData g x .sent ≡ 0) × (takeData g x .packet ≡ g .packet)
   unfolding takeData takeBy
   take-sends = (refl, refl)
@@ -285,34 +285,34 @@ module _ (g : Given) (x : Point) where
   take-idle none k same = record { unread = same; device = rw (k, fallen-nothing (x .device .left)); taken = rw none; sent = refl; packet = refl }
 
   module _ (h : Sound (bufferAt x)) (fits : length (offered g x) ≤ P x) where
-    -- where there is room and OUT does its part
+    -- There is room, and OUT does its part.
     module _ (room : lacksRoom (P x) (bufferAt x) ≡ false) (serving : serves (outFor g x) ≡ true) where
-      -- the packet comes behind the unread bytes
+      -- The packet stands after the unread bytes.
       pub take-unread : unreadBytes (bufferAfter (takeData g x)) ≡ unreadBytes (bufferAt x) ++ offered g x
       unfolding takeData takeBy
       take-unread = received-all (P x) (outFor g x) (offered g x) (bufferAt x) h fits room serving
 
-      -- left falls by its length
+      -- Left falls by its length.
       pub take-left : takeData g x .device .left .0 ≡ x .device .left .0 - length (offered g x)
       unfolding takeData takeBy fallen brought handed
       take-left = rw (room, serving)
 
-      -- one packet more
+      -- One more packet is taken.
       pub take-taken : takeData g x .taken ≡ x .taken + 1
       unfolding takeData takeBy takesOne
       take-taken = rw (room, serving)
 
-      -- and the answer is 0
+      -- The answer is 0.
       pub take-answer : takeData g x .answer ≡ answer 0
       unfolding takeData takeBy readAnswer
       take-answer = rw room (answers-0 (outFor g x) serving)
 
-    -- 1: no room for P bytes
+    -- 1: there is no room for P bytes.
     pub take-full : lacksRoom (P x) (bufferAt x) ≡ true → (takeData g x .answer ≡ answer 1) × Idle g x (takeData g x)
     unfolding takeData takeBy readAnswer takesOne brought
     take-full full = (rw full, take-idle (rw full) (rw full) (received-full (P x) (outFor g x) (offered g x) (bufferAt x) h fits full))
 
-    -- 6 and 7: room, but OUT does not do its part
+    -- 6 and 7: there is room, but OUT does not do its part.
     pub take-unserved : lacksRoom (P x) (bufferAt x) ≡ false → serves (outFor g x) ≡ false → (takeData g x .answer ≡ answeredBy (outFor g x)) × Idle g x (takeData g x)
     unfolding takeData takeBy readAnswer takesOne brought handed
     take-unserved room idle = (rw room, take-idle (rw (room, idle)) (rw (room, idle)) (received-unserved (P x) (outFor g x) (offered g x) (bufferAt x) h fits room idle))
@@ -320,7 +320,7 @@ module _ (g : Given) (x : Point) where
 -- ---- a packet that is read in 0, and the wrapper
 
 module _ (g : Given) (x : Point) where
-  -- the point behind the packet that was taken
+  -- This is the point after the packet was taken.
   abbrev pub arrived : Point
   arrived = counting true (leaving (received (P x) (firstFor g) (g .one) (bufferAt x)) x)
 
@@ -329,9 +329,9 @@ module _ (g : Given) (x : Point) where
   read-idle none same = record { unread = rw none same; device = rw none; taken = rw none; sent = rw none; packet = rw none }
 
   module _ (h : Sound (bufferAt x)) (fits : length (g .one) ≤ P x) where
-    -- where there is room and OUT does its part
+    -- There is room, and OUT does its part.
     module _ (room : lacksRoom (P x) (bufferAt x) ≡ false) (serving : serves (firstFor g) ≡ true) where
-      -- the packet comes behind the unread bytes
+      -- The packet stands after the unread bytes.
       pub read-unread : unreadBytes (bufferAt arrived) ≡ unreadBytes (bufferAt x) ++ g .one
       read-unread = received-all (P x) (firstFor g) (g .one) (bufferAt x) h fits room serving
 
@@ -342,7 +342,7 @@ module _ (g : Given) (x : Point) where
           ∙ length-append (unreadBytes (bufferAt x)) (g .one)
           ∙ ap (λ (n : ℕ). n + length (g .one)) (length-unread (bufferAt x) h)
 
-      -- fewer than 31 unread: the poll ends there, in the state in which it was
+      -- With fewer than 31 bytes unread, the poll ends there, in the state in which it was.
       pub read-short : unread (bufferAt x) + length (g .one) < 31 → readCbwRule g x ≡ ends g arrived (answer 0)
       unfolding readCbwRule readOneBy readBy takesOne readAnswer
       read-short few = rw (room, serving, lt-leb 31 (unread (bufferAt arrived)) (omega (arith, read-count))) (ap (ends g arrived) (answers-0 (firstFor g) serving))
@@ -352,23 +352,23 @@ module _ (g : Given) (x : Point) where
       unfolding readCbwRule readOneBy readBy takesOne
       read-ripe ripe = rw (room, serving, le-leb 31 (unread (bufferAt arrived)) (omega (arith, read-count)))
 
-    -- 1: no room for P bytes
+    -- 1: there is no room for P bytes.
     pub read-full : lacksRoom (P x) (bufferAt x) ≡ true → (readCbwRule g x .answer ≡ answer 1) × Idle g x (readCbwRule g x)
     unfolding readCbwRule readOneBy readBy takesOne readAnswer
     read-full full = (rw full, read-idle (rw full) (received-full (P x) (firstFor g) (g .one) (bufferAt x) h fits full))
 
-    -- 6 and 7: room, but OUT does not do its part
+    -- 6 and 7: there is room, but OUT does not do its part.
     pub read-unserved : lacksRoom (P x) (bufferAt x) ≡ false → serves (firstFor g) ≡ false → (readCbwRule g x .answer ≡ answeredBy (firstFor g)) × Idle g x (readCbwRule g x)
     unfolding readCbwRule readOneBy readBy takesOne readAnswer
     read-unserved room idle = (rw (room, idle), read-idle (rw (room, idle)) (received-unserved (P x) (firstFor g) (g .one) (bufferAt x) h fits room idle))
 
 module _ (s : Buffer) (ripe : 31 ≤ unread s) where
-  -- the first 31 unread bytes are parsed
+  -- The first 31 unread bytes are parsed,
   pub parse-message : messageAt s ≡ take 31 (unreadBytes s)
   unfolding messageAt unreadBytes
   parse-message = sym (take-take 31 (unread s) (drop (s .marks .read) (s .bytes)) ripe)
 
-  -- and exactly those count as read
+  -- and exactly those count as read.
   pub parse-rest : Sound s → unreadBytes (behind31 s) ≡ drop 31 (unreadBytes s)
   unfolding unreadBytes
   parse-rest h =
@@ -378,28 +378,28 @@ module _ (s : Buffer) (ripe : 31 ≤ unread s) where
       (sym (drop-take 31 (unread s) (drop r (s .bytes)) ripe (omega (arith, length-drop r (s .bytes), h .order, h .within))))
 
 module _ (g : Given) (x : Point) where
-  -- a valid wrapper starts its data phase
+  -- A valid wrapper starts its data phase.
   pub parse-valid : isValid (messageAt (bufferAt x)) ≡ true → parseRule g x ≡ startRule (wrapperOf (messageAt (bufferAt x))) g (leaving (behind31 (bufferAt x)) x)
   unfolding parseRule
   parse-valid v = rw v
 
-  -- an invalid one ends in 1, both endpoints stalled; of the record only marks and state change
+  -- An invalid wrapper ends the poll in 1, with both endpoints stalled; of the record only marks and state change.
   pub parse-invalid : isValid (messageAt (bufferAt x)) ≡ false → parseRule g x ≡ ending (reaching CommandTransferInvalid (leaving (behind31 (bufferAt x)) x)) (answer 0) 0 true (g .packet)
   unfolding parseRule
   parse-invalid v = rw v
 
 -- ---- answer 4
 
--- "no status, left at least P, unread below P": nothing changes but the state reached
+-- "no status, left at least P, unread below P": only the state that was reached changes.
 pub full-due : (g : Given) (x : Point) → isPresent (x .device .status) ≡ false → P x ≤ x .device .left .0 → unread (bufferAt x) < P x → toHostRule g x ≡ ends g (reaching DataTransferToHost x) (answer 4)
 unfolding toHostRule fallsShort
 full-due g x absent due few =
     let some : x .device .left .0 ≡ 0 → ⊥ = λ (none : x .device .left .0 ≡ 0). omega arith in
     rw (ne-eqb _ _ some, absent, le-leb _ _ due, lt-ltb _ _ few)
 
--- ---- and where 4 is not answered
+-- ---- if 4 is not answered
 
--- "otherwise send one packet": a whole packet is unread
+-- "otherwise send one packet": a whole packet is unread.
 pub whole-sent : (g : Given) (x : Point) → (x .device .left .0 ≡ 0 → ⊥) → isPresent (x .device .status) ≡ false → P x ≤ unread (bufferAt x) → toHostRule g x ≡ sendData g (reaching DataTransferToHost x)
 unfolding toHostRule fallsShort
 whole-sent g x some absent whole =
@@ -414,7 +414,7 @@ short-sent g x some absent less = rw (ne-eqb _ _ some, absent, lt-leb _ _ less)
 
 -- ---- packets taken
 
--- a packet that was taken stays counted, whatever follows it in the poll
+-- A packet that was taken stays counted, whatever follows it in the poll.
 module _ (g : Given) (n : ℕ) where
   abbrev Counts : Polling → Type 0
   Counts o = n ≤ o .taken

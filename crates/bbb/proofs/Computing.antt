@@ -1,4 +1,4 @@
--- To unfold this is to unfold all that cases over this crate's definitions compute with. Assumes nothing.
+-- Whoever unfolds this unfolds everything that cases over this crate's definitions compute with. Assumes nothing.
 use Rattle.packets.proofs.Computing as packets
 use Rattle.device.proofs.Computing as device
 use Rattle.bbb.specs.Poll.{sendBy, send, offers, offeredBy, takeBy, takeData, statusPut, enterStatus, statusAwaitRule, noDataRule, toHostEndingRule, fallsShort, toHostRule, fromHostEndingRule, fromHostRule, startRule, messageAt, parseRule, readBy, readOneBy, readCbwRule, statusTransferRule, invalidRule, ruleIn, pollRule, isFitting, pollCall}

@@ -1,11 +1,11 @@
--- What no poll changes, whatever its state and the endpoints' answers: one fact for all of it, carried through every rule.
+-- No poll changes these, whatever its state and the endpoints' answers. It is one fact, carried through every rule.
 --     poll-whole, call-whole    a whole record stays whole, over the IO buffer that a poll leaves
---     poll-sizes, call-sizes    what creation fixed and the lengths of both buffers stay; at most two packets are taken, P bytes sent (Sizes)
+--     poll-sizes, call-sizes    what creation fixed and the lengths of both buffers stay; two packets taken, P bytes sent at most (Sizes)
 --     Follows, follows-..       the buffer that a step leaves has sound marks, and is as long as before
---     packet-is                 the same packet size, from the same that creation fixed
+--     packet-is                 if creation fixed the same, the packet size is the same
 --     call-done                 on a whole record, with packets that fit, the call is the poll
 --     by-call                   what holds of both refusals and of the poll holds of the call
---     by-direction              what holds of all three ways on behind a wrapper holds of the one taken
+--     by-direction              what holds of all three directions of a wrapper holds of the one that it has
 -- Assumes nothing.
 use mathlib.Core.Path.{_≡_, refl, sym, ap, _∙_}
 use mathlib.Core.Bool.{Bool, true, false, _&&_}
@@ -92,7 +92,7 @@ sent-length p e s packet h =
 
 -- ---- a wrapper that is valid
 
--- what holds of all three ways on holds of the one that it takes
+-- If `P` holds of all three ways to go on, it holds of the one that is taken.
 pub by-direction : (P : Polling → Type 0) (q : DataDirection) {a b c : Polling} → P a → P b → P c → P (byDirection q a b c)
 by-direction P Out a b c = a
 by-direction P In a b c = b
@@ -106,8 +106,8 @@ lun-most : (m : List ℕ) → wrapperOf m .lun ≤ 15
 unfolding wrapperOf getBits
 lun-most m = omega (arith, mod-lt (getD m 13 0 / 2 ^ 0) {m = 2 ^ 4} (lit< tt))
 
--- ---- the points of a poll of d, over an IO buffer of len bytes: all that makes a record whole but the status, which goes by the state
--- where the poll ends; and what never changes
+-- ---- the points of a poll of d, over an IO buffer of len bytes: what never changes, and all that makes a record whole except the status,
+-- which depends on the state in which the poll ends
 
 record Standing (d : Device) (len : ℕ) (f : Fixed) (s : Buffer) (unit blocklength : ℕ) : Type 0 where
   fixed : f ≡ d .fixed
@@ -119,18 +119,19 @@ record Standing (d : Device) (len : ℕ) (f : Fixed) (s : Buffer) (unit blocklen
 abbrev Stands : Device → ℕ → Point → Type 0
 Stands d len x = Standing d len (x .device .fixed) (bufferAt x) (x .device .wrapper .lun) (x .device .wrapper .blocklength)
 
--- what creation fixed, part by part
+-- If what creation fixed is the same, so is each part of it.
 pub packet-is : {f g : Fixed} → f ≡ g → f .packetsize ≡ g .packetsize
 packet-is = ap (λ (x : Fixed). x .packetsize)
 
 size-is : {f g : Fixed} → f ≡ g → f .size ≡ g .size
 size-is = ap (λ (x : Fixed). x .size)
 
--- whether the state where a poll ends fits the status
+-- The state in which a poll ends fits the status.
 abbrev Fitting : Point → Type 0
 Fitting x = statusFits (x .device .state) (isPresent (x .device .status)) ≡ true
 
--- What no poll of d changes, over an IO buffer of len bytes and with a packet buffer of n; and how much it takes and sends at most.
+-- No poll of `d` changes these, over an IO buffer of `len` bytes and with a packet buffer of `n`. It takes at most two packets and sends
+-- at most P bytes.
 pub record Sizes (d : Device) (len n : ℕ) (o : Polling) : Type 0 where
   pub fixed : o .device .fixed ≡ d .fixed
   pub io : length (o .io) ≡ len
@@ -138,7 +139,7 @@ pub record Sizes (d : Device) (len n : ℕ) (o : Polling) : Type 0 where
   pub taken : o .taken ≤ 2
   pub sent : o .sent ≤ d .fixed .packetsize
 
--- What every rule keeps.
+-- Every rule keeps these.
 record Kept (d : Device) (len n : ℕ) (o : Polling) : Type 0 where
   whole : Whole (numbersOf (o .device)) (length (o .io))
   sizes : d .fixed .packetsize ≤ n → Sizes d len n o
@@ -152,7 +153,7 @@ module _ (d : Device) (len : ℕ) (w : Whole (numbersOf d) len) (g : Given) wher
 
   -- ---- the ends
 
-  -- with an answer and k bytes sent; with nothing sent
+  -- The poll ends with an answer and `k` bytes sent.
   kept-end : (x : Point) → Stands d len x → Fitting x → x .taken ≤ 2 → (t : Answering) (k : ℕ) → k ≤ d .fixed .packetsize → (stalled : Bool) (packet : List ℕ)
       → (d .fixed .packetsize ≤ length (g .packet) → length packet ≡ length (g .packet)) → Keeps (ending x t k stalled packet)
   kept-end x h f taken t k sent stalled packet same = record {
@@ -172,7 +173,7 @@ module _ (d : Device) (len : ℕ) (w : Whole (numbersOf d) len) (g : Given) wher
   kept-rest x h f taken t stalled = kept-end x h f taken t 0 zero-le stalled (g .packet) (λ _. refl)
 
   module _ (x : Point) (h : Stands d len x) (f : Fitting x) (once : x .taken ≤ 1) where
-    -- where a packet was sent, and l bytes are left then
+    -- This is the point after a packet was sent, with `l` left.
     abbrev behind : Endpoint → Left → Point
     behind e l = point (withLeft l (withMarks (sentOff (x .device .fixed .packetsize) e (bufferAt x) .marks) (x .device))) (sentOff (x .device .fixed .packetsize) e (bufferAt x) .bytes) (x .taken) (x .unstalled)
 
@@ -240,7 +241,7 @@ module _ (d : Device) (len : ℕ) (w : Whole (numbersOf d) len) (g : Given) wher
         of-picked Keeps (eqb (x .device .left .0) 0) (λ _. kept-await)
         (λ _. of-picked Keeps (isPresent (x .device .status)) kept-from-ending (λ _. kept-take (reaching DataTransferFromHost x) h refl once))
 
-  -- ---- behind a packet that brought a wrapper
+  -- ---- after a packet that brought a wrapper
 
   kept-start : (v : Wrapper) → v .lun ≤ 15 → v .blocklength ≤ 16 → (x : Point) → Stands d len x → x .taken ≤ 1 → Keeps (startRule v g x)
   unfolding startRule noDataRule
@@ -303,22 +304,22 @@ module _ (d : Device) (io : List ℕ) (g : Given) where
       (record { fixed = refl; long = refl; sound = whole-sound (numbersOf d) io w; lun = w .lun; block = w .block })
       (w .status) refl refl
 
-  -- a poll leaves a whole record over the IO buffer that it leaves
+  -- A poll of a whole record leaves a whole record, over the IO buffer that it leaves.
   pub poll-whole : Whole (numbersOf d) (length io) → Whole (numbersOf (pollRule d io g .device)) (length (pollRule d io g .io))
   poll-whole w = kept w .whole
 
-  -- and changes no size; the packet buffer stays as long where it holds P bytes
+  -- It changes no size; the packet buffer keeps its length if it holds P bytes.
   pub poll-sizes : Whole (numbersOf d) (length io) → d .fixed .packetsize ≤ length (g .packet) → Sizes d (length io) (length (g .packet)) (pollRule d io g)
   poll-sizes w = kept w .sizes
 
-  -- a whole record and packets that fit: the call is the poll
+  -- If the record is whole and the packets fit, the call is the poll.
   pub call-done : Whole (numbersOf d) (length io) → Fits (d .fixed .packetsize) (g .packet) (g .one) (g .two) → pollCall d io g ≡ pollRule d io g
   unfolding pollCall
   call-done w f =
       passes d io w _ _
       ∙ rw (← fits-all (d .fixed .packetsize) (length (g .packet)) (length (g .one)) (length (g .two)) (f .first) (f .second), le-leb _ _ (f .into))
 
-  -- what holds of both refusals, and of a poll of a whole record whose packets fit, holds of the call
+  -- If `P` holds of both refusals, and of a poll of a whole record whose packets fit, it holds of the call.
   pub by-call : (P : Polling → Type 0) → P (refusing d io g 10) → P (refusing d io g 11) → (Whole (numbersOf d) (length io) → Fits (d .fixed .packetsize) (g .packet) (g .one) (g .two) → P (pollRule d io g)) → P (pollCall d io g)
   unfolding pollCall
   by-call P broken refused done =
@@ -327,11 +328,11 @@ module _ (d : Device) (io : List ℕ) (g : Given) where
       (λ f. done w (is-fitting (d .fixed .packetsize) (g .packet) (g .one) (g .two) refl f))
       (λ _. refused))
 
-  -- the call leaves a whole record whole
+  -- The call leaves a whole record whole.
   pub call-whole : Whole (numbersOf d) (length io) → Whole (numbersOf (pollCall d io g .device)) (length (pollCall d io g .io))
   call-whole w = by-call (λ (o : Polling). Whole (numbersOf (o .device)) (length (o .io))) w w (λ v _. poll-whole v)
 
-  -- and changes no size, for every record and all packets
+  -- The call changes no size, for every record and all packets.
   pub call-sizes : Sizes d (length io) (length (g .packet)) (pollCall d io g)
   call-sizes =
       let same : (n : ℕ) → Sizes d (length io) (length (g .packet)) (refusing d io g n) = λ _. record { fixed = refl; io = refl; packet = refl; taken = zero-le; sent = zero-le } in

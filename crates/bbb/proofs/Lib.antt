@@ -1,10 +1,10 @@
--- proofs.Opening      what each way through opening owes
--- proofs.Acting       what each way through an act owes
--- proofs.Same         open, decide, act is the poll of document 01
--- proofs.Polling      what each way through a poll owes
+-- proofs.Opening      what has to be shown for each way through opening
+-- proofs.Acting       what has to be shown for each way through an act
+-- proofs.Same         to open, decide and act is the poll of document 01
+-- proofs.Polling      what has to be shown for each way through a poll
 -- proofs.Unique       no second answer satisfies a promise
 -- proofs.Keeping      what no poll changes: a whole record stays whole, sizes and lengths stay
--- proofs.After        what is unread, left and sent after each way in which a poll ends
+-- proofs.After        what is unread, left and sent after each way in which a poll can end
 -- proofs.Computing    what cases compute with
 -- proofs.Cases        the cases of specs/Cases.antt hold
 pub mod Opening

@@ -1,4 +1,4 @@
--- Laws of opening: what each way through its functions owes (`ways`). Assumes nothing.
+-- Laws of opening: what has to be shown for each way through its functions (`ways`). Assumes nothing.
 use mathlib.Core.Path.{_≡_, refl, sym, ap, _∙_}
 use mathlib.Core.Bool.{Bool, true, false, _&&_}
 use mathlib.Core.List.{List}
@@ -59,7 +59,7 @@ module _ (m : Marks) (io : List ℕ) where
   cut : m .read + 31 - m .read ≡ 31
   cut = omega arith
 
-  -- a part of 31 bytes
+  -- The slice that is parsed has 31 bytes.
   pub part-31 : Sound (buffer io m) → m .read + 31 ≤ m .write → length (take (m .read + 31 - m .read) (drop (m .read) io)) ≡ 31
   part-31 g h = rw cut (length-part (m .read) 31 io (omega (arith, g .within)))
 
@@ -111,7 +111,7 @@ module _ (p first : ℕ) (one : List ℕ) (left : Left) (cleared : Bool) (s : Bu
   x : Reads p (endpointOf first) one s r io
   x = rw he at y
 
-  -- 31 bytes are unread where it is ripe
+  -- If it is ripe, 31 bytes are unread.
   pub ripe-31 : v ≡ true → r .marks .read + 31 ≤ r .marks .write
   ripe-31 q = omega (arith, leb-true 31 (r .marks .write - r .marks .read) (and-right (r .taken) (leb 31 (r .marks .write - r .marks .read)) (sym hv ∙ q)), x .leaves .sound .order)
 

@@ -1,4 +1,4 @@
--- Laws of a poll: what each way through its functions owes (`ways`). Assumes nothing.
+-- Laws of a poll: what has to be shown for each way through its functions (`ways`). Assumes nothing.
 use mathlib.Core.Path.{_≡_, refl, sym, _∙_}
 use mathlib.Core.Bool.{Bool, true, false, cond, _&&_}
 use mathlib.Core.List.{List}
@@ -52,7 +52,7 @@ changes d c w hs hr = rw (hr, hs)
 cut : (end : ℕ) → 31 ≤ end → end - (end - 31) ≡ 31
 cut end h = omega arith
 
--- the part of the IO buffer that ends at the read mark
+-- This part of the IO buffer ends at the read mark.
 pub in-front : (io : List ℕ) (m : Marks) → 31 ≤ m .read → take (m .read - (m .read - 31)) (drop (m .read - 31) io) ≡ justRead io m
 unfolding justRead
 in-front io m h = rw (cut (m .read) h)
@@ -129,7 +129,7 @@ module _ (d : Device) (io : List ℕ) (g : Given) {n : Numbers} (hn : n ≡ numb
     unfolding pollCall unlessBroken
     refused-11 p h = rw (← hn, ← hv, q, ← fit, p, h)
 
-    -- what open and go_on promise, and the wrapper that was taken between them, make 01's poll
+    -- What `open` and `go_on` promise, with the wrapper that is taken between them, makes 01's poll.
     pub polls : w ≡ true → {o : Opened} {io′ io″ packet′ : List ℕ} (c : Change) {w′ : Wrapper} {d′ : Device}
         → Opens (opened n io (g .one) (endpointOf (g .turn .first))) (openedIo n io (g .one) (endpointOf (g .turn .first))) o io′
         → endedOf c io″ packet′ ≡ goneOn n (openOf o) io′ g → w′ ≡ wrapperThen (openOf o) io′ (d .wrapper) → d′ ≡ changedBy d c w′

@@ -1,5 +1,5 @@
--- Open, decide, act is the poll of document 01, whatever the leaves do: `same`. One lemma for each act, and one for each handler; the tests
--- are variables. Assumes nothing.
+-- To open, decide and act is the poll of document 01, whatever the leaves do: `same`. There is one lemma for each act and one for each
+-- handler; the tests are variables. Assumes nothing.
 use mathlib.Core.Path.{_≡_, refl}
 use mathlib.Core.Bool.{Bool, true, false, cond, _&&_}
 use mathlib.Core.List.{List}
@@ -30,7 +30,7 @@ use Rattle.device.specs.Device.{isPresent, numbersOf, inState, rebuilt}
 use Rattle.bbb.specs.Poll.{Given, Polling, Point, point, reaching, leaving, ending, ends, sendBy, send, sendStatus, sendData, takeBy, takeData, enterStatus, statusAwaitRule, noDataRule, toHostEndingRule, fallsShort, toHostRule, fromHostEndingRule, fromHostRule, startRule, messageAt, behind31, parseRule, readBy, readOneBy, readCbwRule, statusTransferRule, invalidRule, ruleIn}
 use Rattle.bbb.specs.Inner.Phases.{Open, opening, behind, parsedOpen, openAfter, readOpen, opens, isOpening, opened, openedIo, justRead, wrapperThen, Done, tookFrom, took, sentFrom, sentBy, sentPacket, acted, actedPacket, Ended, endedBy, endsWith, goneOn}
 
--- the record with what changed, with the wrapper w, and what is reported
+-- This is the record with what changed and the wrapper `w`, and what is reported.
 abbrev pub finish : Device → Ended → Wrapper → Polling
 finish d x w = record {
   device = rebuilt d (x .state) (x .marks) w (cond (x .cleared) Absent (d .status)) (x .left);
@@ -42,11 +42,11 @@ finish d x w = record {
   packet = x .packet;
 }
 
--- Decided and done: to the act a the poll comes, from what opening left.
+-- The poll comes to the act `a` after opening gave `o`, and this is its end.
 abbrev goes : Device → Open → List ℕ → Given → Wrapper → Act → Polling
 goes d o io g w a = finish d (endsWith (rowOf a) (numbersOf d) o io g) w
 
--- The point at which the act begins: the record with what opening left, in any state z, with the wrapper w.
+-- The act begins at this point: the record has what opening gave, any state `z`, and the wrapper `w`.
 abbrev start : Device → State → Open → List ℕ → Wrapper → Point
 start d z o io w = point (rebuilt d z (o .marks) w (cond (o .cleared) Absent (d .status)) (o .left)) io (o .taken) (o .cleared)
 
@@ -76,7 +76,7 @@ module _ (d : Device) (z : State) (io : List ℕ) (g : Given) (w : Wrapper) (f :
   unfolding endsWith acted actedPacket sentBy sentFrom sentPacket send sendBy
   fills = refl
 
-  -- a packet of data, or answer 4
+  -- A packet of data is sent, or 4 is answered.
   short : (b : Bool) (x y : Done) (p q : List ℕ) → finish d (endedBy DataTransferToHost (o (answer 0)) (cond b x y) (cond b p q)) w
       ≡ cond b (finish d (endedBy DataTransferToHost (o (answer 0)) x p) w) (finish d (endedBy DataTransferToHost (o (answer 0)) y q) w)
   short true x y p q = refl
@@ -97,7 +97,7 @@ module _ (d : Device) (z : State) (io : List ℕ) (g : Given) (w : Wrapper) (f :
   unfolding endsWith acted actedPacket took tookFrom takeData takeBy
   drops = refl
 
--- by a test, and by a direction
+-- A test, or a direction, picks one act of several.
 split : (d : Device) (x : Open) (io : List ℕ) (g : Given) (w : Wrapper) (b : Bool) (a a′ : Act) {y y′ : Polling}
     → goes d x io g w a ≡ y → goes d x io g w a′ ≡ y′ → goes d x io g w (cond b a a′) ≡ cond b y y′
 split d x io g w true a a′ h h′ = h
@@ -150,7 +150,7 @@ module _ (d : Device) (io : List ℕ) (g : Given) where
       split d same-open io g (d .wrapper) (eqb (d .left .0) 0) _ _ await
       (split d same-open io g (d .wrapper) (isPresent (d .status)) _ _ from-ending (takes d (d .state) io g (d .wrapper) Nothing (d .marks) (d .left) NotExpected 0 false))
 
--- ---- the handlers behind a wrapper: no status is present
+-- ---- the handlers after a wrapper: no status is present
 
 module _ (d : Device) (c : Bool) (absent : isPresent (cond c Absent (d .status)) ≡ false) (io : List ℕ) (g : Given) (w : Wrapper) where
   module _ (m : Marks) (l : Left) (q : DataDirection) where
@@ -176,14 +176,14 @@ module _ (d : Device) (c : Bool) (absent : isPresent (cond c Absent (d .status))
     unfolding fromHostAct fromHostRule
     from-host-0 = rw absent (split d valid-open io g w (eqb (l .0) 0) _ _ await-0 (takes d CommandTransfer io g w Valid m l q 1 c))
 
--- ---- the wrapper's handler, behind the packet that it reads
+-- ---- the wrapper's handler, after the packet that it reads
 
--- the bytes in front of the read mark are those that were the first unread
+-- The bytes just before the read mark are those that were the first unread.
 just-read : (t : Buffer) → justRead (t .bytes) (behind (t .marks)) ≡ messageAt t
 unfolding justRead messageAt
 just-read t = let k : t .marks .read + 31 - 31 ≡ t .marks .read = omega arith in rw k
 
--- Decided and done, with the wrapper that the record has then.
+-- The poll comes to the act `a`, with the wrapper that the record has then.
 abbrev decides : Device → Open → List ℕ → Given → Act → Polling
 decides d x io g a = goes d x io g (wrapperThen x io (d .wrapper)) a
 
@@ -191,11 +191,11 @@ module _ (d : Device) (c : Bool) (absent : isPresent (cond c Absent (d .status))
   abbrev parsing : Open → List ℕ → Polling
   parsing x io = decides d x io g (readCbwAct (x .found) (x .direction) (x .left .0))
 
-  -- in 0, with the buffer t, and k packets taken
+  -- The poll is in 0 with the buffer `t`, and `k` packets are taken.
   abbrev waiting : Buffer → Left → ℕ → Point
   waiting t l k = point (rebuilt d CommandTransfer (t .marks) (d .wrapper) (cond c Absent (d .status)) l) (t .bytes) k c
 
-  -- what a message says, once it is valid
+  -- This is the wrapper that a valid message holds.
   abbrev said : Buffer → Wrapper
   said t = wrapperOf (messageAt t)
 
@@ -227,7 +227,7 @@ module _ (d : Device) (c : Bool) (absent : isPresent (cond c Absent (d .status))
   unfolding readOpen openAfter readOneBy readBy
   wrapper e s l = reads (takesOne (d .fixed .packetsize) e s) (leb 31 (unread (received (d .fixed .packetsize) e (g .one) s))) (received (d .fixed .packetsize) e (g .one) s) (readAnswer (d .fixed .packetsize) e s) l
 
--- 3, by whether something is unread
+-- In 3, something is unread or nothing is.
 status : (d : Device) (g : Given) (b : Bool) (x y : Open) (io io′ : List ℕ) {v w : Polling}
     → decides d x io g (readCbwAct (x .found) (x .direction) (x .left .0)) ≡ v → decides d y io′ g Next ≡ w
     → decides d (cond b x y) (cond b io io′) g (statusTransferAct b false (cond b x y .found) (cond b x y .direction) (cond b x y .left .0)) ≡ cond b v w
@@ -237,7 +237,7 @@ status d g false x y io io′ h i = i
 
 -- ---- all states
 
--- a poll from what opening left
+-- This is a poll from what opening gave.
 abbrev pub follows : Device → Open → List ℕ → Given → Polling
 follows d o io g = finish d (goneOn (numbersOf d) o io g) (wrapperThen o io (d .wrapper))
 

@@ -22,7 +22,7 @@ use Rattle.bbb.proofs.go_on.Reads as go-on
 use Rattle.bbb.proofs.poll.Kinds as poll-kinds
 use Rattle.bbb.proofs.poll.Reads as poll
 
--- 01's number tells the answer, and so what is told of a poll tells its result
+-- 01's number determines the answer, so what is known of a poll determines its result.
 abbrev unpolled : Polling → Polled
 unpolled o = record { device = o .device; report = record { answer = named (o .answer); taken = o .taken; sent = o .sent; stalls = o .stalls } }
 

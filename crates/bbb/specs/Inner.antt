@@ -1,3 +1,4 @@
--- What only inner functions promise or require: no public contract and no public theorem rests on it (checks/believed).
---     Phases    a poll as the code goes about it: open, decide, act
+-- These definitions stand only in what inner functions promise or require: no public contract and no public theorem rests on them
+-- (checks/believed).
+--     Phases    a poll as the code does it: open, decide, act
 pub mod Phases

@@ -1,6 +1,6 @@
--- What a reader of a poll must believe, in document 01's words.
+-- What a reader must believe about a poll, in document 01's words.
 --     Poll     a poll, state by state
---     Cases    document 01's cases of polls
+--     Cases    document 01's cases of polls, and ours
 --     Inner    what only inner functions need
 pub mod Poll
 pub mod Cases

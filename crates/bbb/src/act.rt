@@ -1,4 +1,4 @@
-// The act to which a poll comes: the one place where packets cross the wire.
+// A poll comes to an act, which is done here. Every packet but the one that opening reads crosses the wire here.
 use crate::Turn;
 use crate::open::Opened;
 use answers::Answer;
@@ -25,7 +25,7 @@ ghost use Rattle.packets.specs.Inner.Packets.{Reads};
 ghost use Rattle.bbb.specs.Poll.{given, leftThen, Fits, fallsShort, offers, offeredBy, statusPut};
 ghost use Rattle.bbb.specs.Inner.Phases.{openOf, doneOf, Acts, restDid, emptiedMarks, oneMore, took, refuses, readied, sentBy, sentPacket, acted, actedPacket};
 
-// What an act did.
+// An act gives the marks, left, the bytes sent, the answer, the packets taken in the whole poll, and whether both endpoints are stalled.
 pub struct Did {
     pub marks: Marks,
     pub left: Left,
@@ -52,7 +52,7 @@ fn rest(o: Opened, stalled: bool) -> Did
     }
 }
 
-// The first offered packet is read, or the second where the first was taken.
+// The first offered packet is read while none is `taken`, and the second after that.
 fn read_offered(
     taken: u8,
     p: usize,
@@ -71,6 +71,7 @@ fn read_offered(
     read_packet(io, m, p, endpoint_of(turn.second), two)
 }
 
+// State 8 drops what is unread before it reads.
 fn emptied(b: Before, m: Marks) -> Marks
     ensures { λ r. ⌜ r ≡ emptiedMarks b m ⌝ }
 {
@@ -83,6 +84,7 @@ fn emptied(b: Before, m: Marks) -> Marks
     }
 }
 
+// One more packet counts as taken if `more` is true.
 fn one_more(taken: u8, more: bool) -> u8
     requires { ⌜ taken ≤ 1 ⌝ }
     ensures { λ r. ⌜ r ≡ oneMore taken more ⌝ }
@@ -90,6 +92,7 @@ fn one_more(taken: u8, more: bool) -> u8
     if more { taken + 1 } else { taken }
 }
 
+// A packet of data is read, and left falls by its bytes.
 fn take(b: Before, p: usize, o: Opened, io: &mut [u8], one: &[u8], two: &[u8], turn: Turn) -> Did
     requires { ⌜ Sound (buffer (now io) (o .marks)) × (o .taken ≤ 1) × (length (now one) ≤ p) × (length (now two) ≤ p) ⌝ }
     ensures { λ r. ⌜ doneOf r (now (io .exit)) ≡ took b p (openOf o) (now (io .entry)) (now (one .entry)) (now (two .entry)) turn ⌝ }
@@ -111,7 +114,7 @@ fn take(b: Before, p: usize, o: Opened, io: &mut [u8], one: &[u8], two: &[u8], t
     }
 }
 
-// A whole packet is due where at least p bytes are left.
+// This says whether a whole packet is due (at least `p` bytes are left) and not there (fewer than `p` are unread).
 fn falls_short(p: usize, left: Left, unread: usize) -> bool
     ensures { λ r. ⌜ r ≡ fallsShort p left unread ⌝ }
 {
@@ -121,6 +124,7 @@ fn falls_short(p: usize, left: Left, unread: usize) -> bool
     false
 }
 
+// Only a send in state 4 can be refused: a whole packet may be due there.
 fn refused(b: Before, p: usize, left: Left, unread: usize) -> bool
     ensures { λ r. ⌜ r ≡ refuses b p left unread ⌝ }
 {
@@ -133,6 +137,7 @@ fn refused(b: Before, p: usize, left: Left, unread: usize) -> bool
     }
 }
 
+// The status is written into the emptied buffer. A record that is not broken always has one here.
 fn put_status(io: &mut [u8], m: Marks, tag: u32, status: Status) -> Marks
     requires { ⌜ Sound (buffer (now io) m) ⌝ }
     ensures { λ r. ⌜ Leaves (buffer (now (io .exit)) r) (statusPut tag status (buffer (now (io .entry)) m)) ⌝ }
@@ -143,7 +148,7 @@ fn put_status(io: &mut [u8], m: Marks, tag: u32, status: Status) -> Marks
     }
 }
 
-// What is ready to be sent.
+// The buffer is made ready to send from, as `b` says.
 fn ready(b: Before, m: Marks, left: Left, n: Numbers, io: &mut [u8]) -> Marks
     requires { ⌜ Sound (buffer (now io) m) ⌝ }
     ensures { λ r. ⌜ Leaves (buffer (now (io .exit)) r) (readied b (n .fixed .packetsize) (buffer (now (io .entry)) m) left n) ⌝ }
@@ -159,6 +164,7 @@ fn ready(b: Before, m: Marks, left: Left, n: Numbers, io: &mut [u8]) -> Marks
     }
 }
 
+// Left falls by data, and not by the status.
 fn left_then(counts: bool, left: Left, moved: usize) -> Left
     ensures { λ r. ⌜ r ≡ leftThen counts left moved ⌝ }
 {
@@ -168,6 +174,7 @@ fn left_then(counts: bool, left: Left, moved: usize) -> Left
     left
 }
 
+// A packet is sent, unless a whole one is due and not there.
 fn send(
     b: Before,
     counts: bool,
@@ -208,7 +215,7 @@ fn send(
     }
 }
 
-// What the row of the table says.
+// The act does what its `row` says.
 pub fn act(
     row: Row,
     n: Numbers,

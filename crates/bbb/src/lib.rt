@@ -1,9 +1,11 @@
-// One poll of the socket's device, after bbb.rs. The record goes in by value and comes back.
-//     check    10, then 11
-//     open     where the chain of handlers reaches the wrapper: a packet is read and its 31 bytes are looked at
-//     take     a valid wrapper, out of the IO buffer, where acting may overwrite it
-//     decide   the ring of handlers, in a crate of its own
-//     act      in one place: what crosses the wire
+// One poll of the socket's device, as in bbb.rs. The record goes in by value and comes back.
+//     check    10 is checked, then 11
+//     open     if the chain of handlers reaches the wrapper, a packet is read, and with 31 bytes unread the wrapper is parsed
+//     take     a valid wrapper is taken out of the IO buffer, because acting may overwrite it
+//     decide   the ring of handlers (crates/ring) decides on the act
+//     act      the act is done in one place: a packet crosses the wire, or none
+// In every function `io` is the IO buffer, `packet` is the packet buffer, `one` and `two` are the offered packets, and `turn` holds the
+// endpoints' answers.
 mod act;
 pub mod open;
 
@@ -36,14 +38,14 @@ ghost use Rattle.device.specs.declared.Status.the-variants.{Absent};
 ghost use Rattle.bbb.specs.Poll.{given, Fits, isFitting, pollingOf, pollCall};
 ghost use Rattle.bbb.specs.Inner.Phases.{refusedBy, isValidFound, openOf, InFront, wrapperThen, endedOf, goneOn, changedBy};
 
-// The endpoints' answers for this poll, two OUT reads and one IN write: 0 does its part, 1 busy, others errors.
+// These are the endpoints' answers for this poll, for two OUT reads and one IN write: 0 does its part, 1 is busy, and others are errors.
 pub struct Turn {
     pub first: u8,
     pub second: u8,
     pub write: u8,
 }
 
-// What a poll reports: its answer, OUT packets taken, bytes sent, what was asked of the endpoints.
+// A poll reports its answer, the OUT packets taken, the bytes sent, and what is asked of the endpoints.
 pub struct Report {
     pub answer: Answer,
     pub taken: u8,
@@ -51,12 +53,13 @@ pub struct Report {
     pub stalls: Stalls,
 }
 
+// A poll gives the record and its report.
 pub struct Polled {
     pub device: Device,
     pub report: Report,
 }
 
-// What a poll changes of the record beside the wrapper, and what it reports.
+// A poll changes these parts of the record, apart from the wrapper, and reports this. `cleared` says that the status is cleared.
 pub struct Change {
     pub state: State,
     pub marks: Marks,
@@ -65,7 +68,7 @@ pub struct Change {
     pub report: Report,
 }
 
-// Whether a wrapper was found that goes into the record.
+// Only a valid wrapper goes into the record.
 pub fn is_valid(found: Found) -> bool
     ensures { λ r. ⌜ r ≡ isValidFound found ⌝ }
 {
@@ -76,7 +79,8 @@ pub fn is_valid(found: Found) -> bool
     }
 }
 
-// Decide and act. It is long for taking parts out of records and putting others together; the work is two calls.
+// The handlers decide, and the act is done: these are the two calls. The other lines take records apart and put new ones together. `n`
+// are the numbers of the record at the start, and `o` is what opening gave.
 pub fn go_on(
     n: Numbers,
     o: Opened,
@@ -124,7 +128,8 @@ pub fn go_on(
     }
 }
 
-// Whether the offered packets and the packet buffer suit the packet size.
+// The packet buffer, of `packet` bytes, and the offers, of `one` and `two` bytes, must fit the packet size `p`; otherwise the poll
+// answers 11.
 pub fn fits(p: usize, packet: usize, one: usize, two: usize) -> bool
     ensures { λ r. ⌜ r ≡ isFitting p packet one two ⌝ }
 {
@@ -137,6 +142,7 @@ pub fn fits(p: usize, packet: usize, one: usize, two: usize) -> bool
     false
 }
 
+// The status is cleared if 0 was entered.
 fn status_then(cleared: bool, status: Status) -> Status
     ensures { λ r. ⌜ r ≡ cond cleared Absent status ⌝ }
 {
@@ -146,7 +152,7 @@ fn status_then(cleared: bool, status: Status) -> Status
     status
 }
 
-// The wrapper in the record: a valid one that opening found, or the one before.
+// The record gets a valid wrapper that opening found, and otherwise keeps the wrapper `old`.
 fn wrapper_then(o: Opened, old: Wrapper, io: &[u8]) -> Wrapper
     requires { ⌜ Sound (buffer (now io) (o .marks)) × InFront o ⌝ }
     ensures { λ r. ⌜ r ≡ wrapperThen (openOf o) (now (io .entry)) old ⌝ }
@@ -160,7 +166,7 @@ fn wrapper_then(o: Opened, old: Wrapper, io: &[u8]) -> Wrapper
     old
 }
 
-// The record with what changed.
+// The record `d` gets the changes `c` and the wrapper `w`.
 fn changed(d: Device, c: Change, w: Wrapper) -> Device
     ensures { λ r. ⌜ r ≡ changedBy d c w ⌝ }
 {
@@ -172,6 +178,7 @@ fn changed(d: Device, c: Change, w: Wrapper) -> Device
     rebuilt(d, state, marks, w, status, left)
 }
 
+// A poll is refused, and the record stays.
 fn refused(device: Device, why: Answer) -> Polled
     ensures { λ r. ⌜ r ≡ refusedBy device why ⌝ }
 {
@@ -186,7 +193,7 @@ fn refused(device: Device, why: Answer) -> Polled
     }
 }
 
-// One poll, of any record with any offers.
+// This is one poll, of any record with any offers.
 pub fn poll(
     device: Device,
     io: &mut [u8],

@@ -1,4 +1,4 @@
-// Opening a poll: where the chain of handlers reaches the wrapper, a packet is read and 31 unread bytes are looked at.
+// Opening a poll: if the chain of handlers reaches the wrapper, a packet is read, and with 31 bytes unread the wrapper is parsed.
 use answers::Answer;
 use answers::endpoint_of;
 use buffer::Marks;
@@ -20,7 +20,7 @@ ghost use Rattle.device.specs.Broken.{Whole};
 ghost use Rattle.answers.specs.Answers.{endpointOf};
 ghost use Rattle.bbb.specs.Inner.Phases.{Opens, opens, countOf, parsedOpen, readOpen, readIo, opened, openedIo, leftWhen};
 
-// What opening found, and where the poll stands then. The direction counts where a valid wrapper was found.
+// Opening gives what it found and how far the poll has come then. `direction` counts only if a valid wrapper was found.
 pub struct Opened {
     pub found: Found,
     pub marks: Marks,
@@ -31,7 +31,7 @@ pub struct Opened {
     pub cleared: bool,
 }
 
-// 31 bytes or more are unread: the first 31 are a wrapper, valid or not, and count as read.
+// 31 bytes or more are unread. The first 31 are a wrapper, valid or not, and count as read.
 fn parse(m: Marks, left: Left, cleared: bool, io: &[u8]) -> Opened
     requires { ⌜ Sound (buffer (now io) m) × (m .read + 31 ≤ m .write) ⌝ }
     ensures { λ r. ⌜ Opens (parsedOpen (buffer (now (io .entry)) m) left cleared) (now (io .entry)) r (now (io .entry)) ⌝ }
@@ -66,7 +66,7 @@ fn parse(m: Marks, left: Left, cleared: bool, io: &[u8]) -> Opened
     }
 }
 
-// Whether a packet came and 31 bytes are unread with it.
+// It is time to parse if a packet was `taken` and at least 31 bytes are unread.
 fn ripe(taken: bool, unread: usize) -> bool
     ensures { λ r. ⌜ r ≡ taken && leb 31 unread ⌝ }
 {
@@ -76,12 +76,14 @@ fn ripe(taken: bool, unread: usize) -> bool
     false
 }
 
+// This turns `taken` into the number of packets taken.
 fn count(taken: bool) -> u8
     ensures { λ r. ⌜ r ≡ countOf taken ⌝ }
 {
     if taken { 1 } else { 0 }
 }
 
+// The first offer is read, and parsed if at least 31 bytes are unread then. `p` is the packet size, and `first` is the first OUT answer.
 fn read_wrapper(
     p: usize,
     m: Marks,
@@ -111,7 +113,7 @@ fn read_wrapper(
     }
 }
 
-// Whether the chain that starts in this state reaches the wrapper: in 0, and in 3 with nothing unread.
+// The chain that starts in the state with the number `state` reaches the wrapper in 0, and in 3 if nothing is unread (`empty`).
 fn reaches(state: u8, empty: bool) -> bool
     ensures { λ r. ⌜ r ≡ opens state empty ⌝ }
 {
@@ -134,7 +136,8 @@ fn left_when(cleared: bool, left: Left) -> Left
     left
 }
 
-// Where a valid wrapper was found, its 31 bytes stand in front of the read mark. Acting may move or overwrite them: whoever wants them takes them before.
+// A poll that starts with the numbers `n` opens. The 31 bytes of a valid wrapper that was found stand just before the read mark. Acting
+// may move or overwrite them, so a caller that wants them takes them before it acts.
 pub fn open(n: Numbers, io: &mut [u8], one: &[u8], first: u8) -> Opened
     requires { ⌜ Whole n (length (now io)) × (length (now one) ≤ n .fixed .packetsize) ⌝ }
     ensures { λ r. ⌜ Opens (opened n (now (io .entry)) (now (one .entry)) (endpointOf first)) (openedIo n (now (io .entry)) (now (one .entry)) (endpointOf first)) r (now (io .exit)) ⌝ }

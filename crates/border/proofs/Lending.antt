@@ -1,4 +1,4 @@
--- The record that a call is lent: what the test whether it is one tells. Assumes nothing.
+-- What follows from the test whether the bytes that a call is lent are a record. Assumes nothing.
 use mathlib.Core.Path.{_≡_, sym, _∙_}
 use mathlib.Core.Bool.{Bool, true, false, not}
 use mathlib.Core.List.{List}
@@ -15,7 +15,7 @@ module _ (r : List ℕ) where
   pub known-long : {k : Bool} → k ≡ isKnown r → k ≡ true → length r ≡ recordSize
   known-long ek q = is-known r (sym ek ∙ q) .long
 
-  -- where the test was asked the other way round
+  -- The code makes this test the other way round.
   module _ {k : Bool} (ek : k ≡ isKnown r) where
     pub known-then : not k ≡ false → isKnown r ≡ true
     known-then q = sym ek ∙ not-false k q
@@ -23,12 +23,12 @@ module _ (r : List ℕ) where
     pub long-then : not k ≡ false → length r ≡ recordSize
     long-then q = is-known r (known-then q) .long
 
-    -- bytes that are no record are refused
+    -- Bytes that are no record are refused.
     pub unknown : {A : Type 0} (refused : A) (call : Device → A) → not k ≡ true → refused ≡ onDevice r refused call
     unfolding onDevice
     unknown refused call q = rw (← ek, not-true k q)
 
-  -- with others the call is made on the device that they hold
+  -- With any other bytes the call is made on the device that they hold.
   pub made : {A : Type 0} (refused : A) (call : Device → A) → isKnown r ≡ true → call (deviceAt r) ≡ onDevice r refused call
   unfolding onDevice
   made refused call q = rw q

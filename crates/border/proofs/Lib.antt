@@ -1,5 +1,5 @@
--- proofs.Lending    the record that a call is lent: what the test whether it is one tells
--- proofs.Parts      a result tells each of its parts
+-- proofs.Lending    what follows from the test whether the bytes that a call is lent are a record
+-- proofs.Parts      a result determines each of its parts
 -- proofs.Unique     no second answer satisfies a promise
 pub mod Lending
 pub mod Parts

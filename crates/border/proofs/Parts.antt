@@ -1,4 +1,4 @@
--- A result tells each of its parts: what a caller reads at bits 0 to 7, 8 to 15, 16 to 23, 24 to 31 and 32 to 63 is the answer, the number
+-- A result determines each of its parts: at bits 0 to 7, 8 to 15, 16 to 23, 24 to 31 and 32 to 63 a caller reads the answer, the number
 -- carried, what is asked of both endpoints, the flag and the count. So results that differ in a part differ. Assumes nothing.
 use mathlib.Core.Path.{_≡_, refl, sym, ap, _∙_}
 use mathlib.Core.Bool.{cond}
@@ -10,7 +10,7 @@ use Rattle.answers.specs.declared.Stalls.{Stalls}
 use Rattle.answers.specs.declared.Stalls.the-variants.{Kept, Stalled, Unstalled, UnstalledStalled}
 use Rattle.border.specs.Word.{word, stallsNumber}
 
--- one part below the others: it is read by %, and / takes it off
+-- One part stands below the others: % reads it, and / takes it off.
 module _ (part rest : ℕ) (h : part < 256) where
   low : (part + 256 * rest) % 256 ≡ part
   low = omega (arith, h)
@@ -18,7 +18,7 @@ module _ (part rest : ℕ) (h : part < 256) where
   above : (part + 256 * rest) / 256 ≡ rest
   above = omega (arith, h)
 
--- a number over a power of 256, and over the next
+-- To divide by `m * 256` is to divide by `m` and then by 256.
 over : (n m : ℕ) → n / (m * 256) ≡ n / m / 256
 over n m = sym (div-div-eq-div-mul n m 256)
 
@@ -58,7 +58,7 @@ module _ (answer carried stalls flag count : ℕ) where
           pub count-read : whole / 4294967296 ≡ count
           count-read = over whole 16777216 ∙ ap (λ (n : ℕ). n / 256) above-stalls ∙ above flag count hf
 
--- the five parts, and that four of them are bytes
+-- These are the five parts; `Bytes` says that four of them are bytes.
 pub record Parts : Type 0 where
   pub answer : ℕ
   pub carried : ℕ
@@ -88,11 +88,11 @@ parts-read p h =
       count-read (p .answer) (p .carried) (p .stalls) (p .flag) (p .count) (h .answer) (h .carried) (h .stalls) (h .flag),
     )
 
--- one result, one of each part
+-- One result has only one value of each part.
 pub parts-once : (p q : Parts) → Bytes p → Bytes q → wordOf p ≡ wordOf q → p ≡ q
 parts-once p q hp hq e = sym (parts-read p hp) ∙ ap read e ∙ parts-read q hq
 
--- and the number of what is asked of both endpoints tells it
+-- The number of what is asked of both endpoints determines what is asked.
 pub stallsOf : ℕ → Stalls
 stallsOf n = cond (eqb n 0) Kept (cond (eqb n 1) Stalled (cond (eqb n 2) Unstalled UnstalledStalled))
 

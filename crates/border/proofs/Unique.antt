@@ -1,5 +1,5 @@
--- No second answer satisfies a promise: what the `ensures` of each function says is true of one result alone. `Post` is the contract itself,
--- as the check reads it. That a result tells each of its parts: proofs/Parts.antt. Assumes nothing.
+-- No second answer satisfies a promise: only one result makes the `ensures` of each function true. `Post` is the contract itself, as the
+-- check reads it. proofs/Parts.antt shows that a result determines each of its parts. Assumes nothing.
 use mathlib.Core.Path.{refl, sym, _∙_}
 use Rattle.fields.proofs.Only.{Only}
 use Rattle.border.proofs.word.stalls_number.Kinds as stalls-number-kinds

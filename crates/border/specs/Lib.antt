@@ -1,4 +1,5 @@
--- specs.Word      a result of several parts in one number
--- specs.Record    the record that a call is lent
+-- What a reader must believe about the calls on a record of bytes, in addition to the calls by value.
+--     Word      a result of several parts in one number
+--     Record    the record that a call is lent
 pub mod Word
 pub mod Record

@@ -1,19 +1,20 @@
--- A result of several parts in one number of 64 bits: bits 0 to 7 the answer, 8 to 15 the number carried or a LUN, 16 to 23 what is asked
--- of both endpoints, 24 to 31 a flag or the OUT packets taken, 32 to 63 a count. Assumes nothing: these are definitions.
+-- A result of several parts in one number of 64 bits: bits 0 to 7 are the answer, 8 to 15 the number carried or a LUN, 16 to 23 what is
+-- asked of both endpoints, 24 to 31 a flag or the number of OUT packets taken, 32 to 63 a count. Assumes nothing: these are definitions.
 use Prim.Native.Nat.{ℕ, _+_, _*_}
 use Rattle.answers.specs.declared.Stalls.{Stalls}
 use Rattle.answers.specs.declared.Stalls.the-variants.{Kept, Stalled, Unstalled, UnstalledStalled}
 
+-- The five parts are put into one number.
 unfoldable pub word : ℕ → ℕ → ℕ → ℕ → ℕ → ℕ
 word answer carried stalls flag count = answer + 256 * carried + 65536 * stalls + 16777216 * flag + 4294967296 * count
 
--- `-`, `S`, `U`, `US`
+-- The numbers stand for what is asked of both endpoints; `bench` prints them as `-`, `S`, `U`, `US`.
 abbrev pub stallsNumber : Stalls → ℕ
 stallsNumber Kept = 0
 stallsNumber Stalled = 1
 stallsNumber Unstalled = 2
 stallsNumber UnstalledStalled = 3
 
--- an answer alone
+-- This is a word with an `answer` and nothing else.
 abbrev pub plain : ℕ → ℕ
 plain answer = word answer 0 0 0 0

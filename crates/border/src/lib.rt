@@ -1,3 +1,3 @@
-// What the calls on a record of bytes share: a result of several parts in one number. What bytes that are no record come to stands in
-// specs/Record.antt.
+// The calls on a record of bytes share this: a result of several parts in one number. specs/Record.antt says what a call does with bytes
+// that are no record.
 pub mod word;

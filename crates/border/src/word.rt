@@ -1,8 +1,9 @@
-// A result of several parts in one number of 64 bits.
+// A result of several parts in one number of 64 bits; specs/Word.antt says which bits each part has.
 use answers::Stalls;
 ghost use mathlib.Core.Path.{_≡_};
 ghost use Rattle.border.specs.Word as spec;
 
+// This number says what is asked of both endpoints.
 pub fn stalls_number(stalls: Stalls) -> u8
     ensures { λ x. ⌜ x ≡ spec.stallsNumber stalls ⌝ }
 {
@@ -14,6 +15,7 @@ pub fn stalls_number(stalls: Stalls) -> u8
     }
 }
 
+// The five parts are put into one number.
 pub fn word(answer: u8, carried: u8, stalls: u8, flag: u8, count: u32) -> u64
     ensures { λ x. ⌜ x ≡ spec.word answer carried stalls flag count ⌝ }
 {

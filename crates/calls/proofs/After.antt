@@ -1,11 +1,11 @@
--- What callers may use: what is so after a call, for any record, or for a whole one where it says so.
+-- Laws for callers: what is true after a call, for any record, or for a whole one if the law says so.
 --     by-..         what holds of a refusal and of what is done holds of the call, whatever the answer
 --     ..-keeps      what of the record is as before, whatever the answer
---     ..-done       what a call comes to on a whole record, where it is accepted
+--     ..-done       what a call gives on a whole record, if it is accepted
 --     ..-unread     the unread bytes after it
 --     ..-count      how many bytes a read or a write moves
 --     ..-within     the count is not above the write mark
---     ..-tells      10 tells that the record is broken
+--     ..-tells      if the answer is 10, nothing has moved; if it is any other, the record is whole
 --     ..-whole      a whole record stays whole, over the IO buffer that the call leaves
 -- Assumes nothing.
 use mathlib.Core.Path.{_≡_, refl, sym, ap, _∙_, subst}
@@ -51,7 +51,7 @@ module _ (d : Device) (io : List ℕ) (w : Whole (numbersOf d) (length io)) wher
   sound : Sound (bufferOf d io)
   sound = whole-sound (numbersOf d) io w
 
-  -- with other marks over as many bytes
+  -- The record has other marks, over as many bytes.
   whole-marked : (m : Marks) (b : List ℕ) → Sound (buffer b m) → length b ≡ length io → Whole (numbersOf (withMarks m d)) (length b)
   whole-marked m b g e = record {
     lent = w .lent ∙ sym e;
@@ -68,7 +68,7 @@ module _ (d : Device) (io : List ℕ) (w : Whole (numbersOf d) (length io)) wher
 
 -- ---- the status
 
--- a state that takes a status may have one
+-- A state that accepts a status may have one.
 fits-present : (s : State) → takesStatus (stateNumber s) ≡ true → statusFits s true ≡ true
 unfolding takesStatus
 fits-present CommandTransfer h = h
@@ -88,7 +88,7 @@ module _ (d : Device) (io : List ℕ) (f : FirmwareStatus) where
       either d io P broken
       (λ _. of-picked P (takesStatus (stateNumber (d .state))) (λ t. of-picked P (leb (f .status) 2) (λ h. done t (leb-true (f .status) 2 h)) (λ _. refused)) (λ _. refused))
 
-  -- all but the status: put the old one back, and the record is the old one
+  -- Everything but the status stays: with the old one put back, it is the old record.
   pub status-keeps : withStatus (d .status) (setStatusCall d io f .device) ≡ d
   unfolding withFigure
   status-keeps = by-status (λ (o : Stating). withStatus (d .status) (o .device) ≡ d) refl refl (λ _ _. refl)
@@ -103,7 +103,7 @@ module _ (d : Device) (io : List ℕ) (f : FirmwareStatus) where
   unfolding setStatusCall acceptedStatus
   status-done w t h = passes d io w _ _ ∙ rw (t, le-leb _ _ h)
 
--- what an accepted status leaves: the record with it, and a byte of 0, 1 or 2
+-- An accepted status leaves this: the record has it, and its byte is 0, 1 or 2.
 pub record Accepted (d : Device) (f : FirmwareStatus) (o : Stating) : Type 0 where
   pub device : o .device ≡ withFigure f d
   pub byte : f .status ≤ 2
@@ -130,12 +130,12 @@ module _ (state : ℕ) (d : Device) (io bytes : List ℕ) (done : Moving) (w : W
   unfolding worksIn
   data-done h = passes d io w _ _ ∙ rw h
 
-  -- 3, and all as before
+  -- The answer is 3, and all is as before.
   pub data-elsewhere : isIn state d ≡ false → worksIn state d io bytes done ≡ moving (answer 3) 0 d bytes
   unfolding worksIn
   data-elsewhere h = passes d io w _ _ ∙ rw h
 
--- 10 tells that the record is broken, where what is done answers otherwise; then nothing has moved
+-- If the answer is 10, nothing has moved; if it is any other, the record is whole.
 pub record Tells10 (d : Device) (io bytes : List ℕ) (o : Moving) : Type 0 where
   pub broken : eqb (o .answer .number) 10 ≡ true → o ≡ moving (answer 10) 0 d bytes
   pub whole : eqb (o .answer .number) 10 ≡ false → Whole (numbersOf d) (length io)
@@ -160,7 +160,7 @@ pub write-all-tells : (d : Device) (io src : List ℕ) → Tells10 d io io (writ
 unfolding writeAllIn
 write-all-tells d io src = data-tells 4 d io io _ (of-picked (λ (o : Moving). eqb (o .answer .number) 10 ≡ false) (lacksRoom (length src) (bufferOf d io)) (λ _. refl) (λ _. refl))
 
--- whatever the answer, all of the record but the marks: put the old ones back, and the record is the old one
+-- Whatever the answer, everything of the record but the marks stays: with the old ones put back, it is the old record.
 pub read-keeps : (d : Device) (io dst : List ℕ) → withMarks (d .marks) (readCall d io dst .device) ≡ d
 unfolding readOut
 read-keeps d io dst = by-data (λ (o : Moving). withMarks (d .marks) (o .device) ≡ d) 7 d io dst _ (λ _. refl) refl
@@ -175,7 +175,7 @@ write-all-keeps d io src =
     let P : Moving → Type 0 = λ (o : Moving). withMarks (d .marks) (o .device) ≡ d in
     by-data P 4 d io io _ (λ _. refl) (of-picked P (lacksRoom (length src) (bufferOf d io)) (λ _. refl) (λ _. refl))
 
--- and the count is never above the write mark that the call leaves
+-- The count is never above the write mark that the call leaves.
 pub read-within : (d : Device) (io dst : List ℕ) → Whole (numbersOf d) (length io) → readCall d io dst .count ≤ readCall d io dst .device .marks .write
 unfolding readOut readOff ready
 read-within d io dst w =
@@ -200,13 +200,13 @@ write-all-within d io src =
     most : (n : ℕ) → max 0 n ≡ n
     most n = max-eq-right zero-le
 
--- the answer and the count of all or nothing
+-- These are the answer and the count if all is written or nothing.
 all-answer : (b : Bool) (n : ℕ) (d : Device) (t : Buffer)
     → (cond b (leaving (answer 1) 0 d t) (leaving (answer 0) n d t) .answer ≡ cond b (answer 1) (answer 0)) × (cond b (leaving (answer 1) 0 d t) (leaving (answer 0) n d t) .count ≡ cond b 0 n)
 all-answer true n d t = (refl, refl)
 all-answer false n d t = (refl, refl)
 
--- on a whole record
+-- The record is whole.
 module _ (d : Device) (io : List ℕ) (w : Whole (numbersOf d) (length io)) where
   module _ (dst : List ℕ) where
     pub read-whole : Whole (numbersOf (readCall d io dst .device)) (length io)
@@ -216,12 +216,12 @@ module _ (d : Device) (io : List ℕ) (w : Whole (numbersOf d) (length io)) wher
         (whole-marked d io w (readOff (length dst) (bufferOf d io) .marks) io (sound-readOff (length dst) (bufferOf d io) (sound d io w)) refl)
 
     module _ (h : isIn 7 d ≡ true) where
-      -- the count is fixed by the marks
+      -- The marks fix the count.
       pub read-count : readCall d io dst .count ≡ min (unread (bufferOf d io)) (length dst)
       unfolding readOut ready
       read-count = ap (λ (o : Moving). o .count) (data-done 7 d io dst _ w h)
 
-      -- so many bytes go, and they are those that the destination gets
+      -- That many bytes are no longer unread; the destination gets them.
       pub read-unread : unreadBytes (bufferOf (readCall d io dst .device) io) ≡ drop (readCall d io dst .count) (unreadBytes (bufferOf d io))
       unfolding readOut readOff
       read-unread =
@@ -259,7 +259,8 @@ module _ (d : Device) (io : List ℕ) (w : Whole (numbersOf d) (length io)) wher
           subst (λ (o : Moving). o .count ≤ d .left .0) (sym (data-done 4 d io io _ w h))
           (omega (arith, min-le-right (room (withRoom (length ys) (bufferOf d io))) (length ys), length-take (d .left .0) src, min-le-left (d .left .0) (length src)))
 
-      -- no fewer either: what is left, what the source has, and what is not unread of the buffer
+      -- It is no fewer than it can be: it is limited only by what is left, by the source, and by the part of the buffer that is not
+      -- unread.
       pub write-count : writeCall d io src .count ≡ min (room-left (bufferOf d io)) (min (d .left .0) (length src))
       unfolding writeIn limited
       write-count =
@@ -267,12 +268,12 @@ module _ (d : Device) (io : List ℕ) (w : Whole (numbersOf d) (length io)) wher
           ∙ fitting-by-unread (length (limited (d .left) src)) (bufferOf d io) (sound d io w)
           ∙ ap (min (room-left (bufferOf d io))) (length-take (d .left .0) src)
 
-      -- and they are the source's first
+      -- These are the first bytes of the source.
       pub write-first : take (writeCall d io src .count) (limited (d .left) src) ≡ take (writeCall d io src .count) src
       unfolding limited
       write-first = take-take (writeCall d io src .count) (d .left .0) src write-most
 
-      -- so many bytes come behind the unread ones
+      -- That many bytes stand after the unread ones.
       pub write-unread : unreadBytes (bufferOf (writeCall d io src .device) (writeCall d io src .bytes)) ≡ unreadBytes (bufferOf d io) ++ take (writeCall d io src .count) (limited (d .left) src)
       unfolding writeIn
       write-unread =
@@ -280,7 +281,7 @@ module _ (d : Device) (io : List ℕ) (w : Whole (numbersOf d) (length io)) wher
           subst (λ (o : Moving). unreadBytes (bufferOf (o .device) (o .bytes)) ≡ unreadBytes (bufferOf d io) ++ take (o .count) ys) (sym (data-done 4 d io io _ w h))
           (unread-written ys (bufferOf d io) (sound d io w))
 
-      -- all of the source, or none: 0 and its length, or 1 and 0
+      -- All of the source is written or none: the answer is 0 and the count its length, or 1 and 0.
       pub write-all-answer : (writeAllCall d io src .answer ≡ cond (lacksRoom (length src) (bufferOf d io)) (answer 1) (answer 0)) × (writeAllCall d io src .count ≡ cond (lacksRoom (length src) (bufferOf d io)) 0 (length src))
       unfolding writeAllIn
       write-all-answer =
@@ -299,7 +300,7 @@ module _ (d : Device) (io : List ℕ) (w : Whole (numbersOf d) (length io)) wher
 -- ---- the bus
 
 module _ (d : Device) (io : List ℕ) where
-  -- "it does not empty the buffer": the marks stay, and so do the unread bytes
+  -- "it does not empty the buffer": the marks stay, and so do the unread bytes.
   pub reset-keeps : bufferOf (resetCall d io .device) io ≡ bufferOf d io
   unfolding resetCall entering
   reset-keeps = either d io (λ (o : Handling). bufferOf (o .device) io ≡ bufferOf d io) refl (λ _. refl)
@@ -329,14 +330,14 @@ module _ (d : Device) (io : List ℕ) where
     unfolding entering
     control-whole w = by-request (λ (o : Handling). Whole (numbersOf (o .device)) (length io)) (λ _ _. w) (λ _ _. whole-entered d io w)
 
-    -- a request that does not count changes nothing
+    -- A request that does not count changes nothing.
     pub control-else : Whole (numbersOf d) (length io) → (q .requesttype ≡ 0xA1 → ⊥) → controlCall d io q ≡ handling (answer 0) Kept [] d
     unfolding controlCall
     control-else w n = passes d io w _ _ ∙ rw (ne-eqb _ _ n)
 
 -- ---- the command
 
--- what is offered is shown
+-- A command that is offered is shown.
 pub offered-shown : (d : Device) → isOffered d ≡ true → isShown d ≡ true
 unfolding isOffered
 offered-shown d h = and-left (isShown d) (not (isPresent (d .status))) h

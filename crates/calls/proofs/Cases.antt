@@ -1,4 +1,4 @@
--- Each case of specs/Cases.antt holds: antt computes it. Assumes nothing.
+-- Each case of specs/Cases.antt holds, because antt computes it. Assumes nothing.
 use Rattle.fields.specs.Case.{AllHold}
 use Rattle.fields.proofs.Case.{by-computing}
 use Rattle.calls.specs.Cases.{table}

@@ -1,4 +1,4 @@
--- To unfold this is to unfold all that cases over this crate's definitions compute with. Assumes nothing.
+-- Whoever unfolds this unfolds everything that cases over this crate's definitions compute with. Assumes nothing.
 use Rattle.wrapper.proofs.Computing as wrapper
 use Rattle.scsi.proofs.Computing as scsi
 use Rattle.device.proofs.Computing as device

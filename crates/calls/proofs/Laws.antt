@@ -1,4 +1,4 @@
--- Laws of the calls: what each way through a function owes (`ways`). Assumes nothing.
+-- Laws of the calls: what has to be shown for each way through a function (`ways`). Assumes nothing.
 use mathlib.Core.Path.{_≡_, refl, sym, ap, _∙_}
 use mathlib.Core.Bool.{Bool, true, false, not}
 use mathlib.Core.List.{List, [], _∷_}
@@ -61,7 +61,7 @@ pub stands : (n : ℕ) (d : Device) {k : ℕ} → k ≡ stateNumber (d .state) �
 unfolding isIn
 stands n d h = ap (λ (x : ℕ). eqb x n) h
 
--- what a record that is not broken gives
+-- A record that is not broken gives these.
 module _ (d : Device) (len : ℕ) {b : Bool} (h : b ≡ not (isWhole (numbersOf d) len)) (q : b ≡ false) where
   whole-then : Whole (numbersOf d) len
   whole-then = is-whole (numbersOf d) len (not-false (isWhole (numbersOf d) len) (sym h ∙ q))
@@ -146,7 +146,7 @@ pub reads : (d : Device) (s : Buffer) (dst : List ℕ) {n : ℕ} {m : Marks} {l 
 unfolding readOut
 reads d s dst hn hm hl hr = rw (hr, hn, ap (λ (t : Buffer). t .marks) (hm .same), hl)
 
--- the first n of a source, where n is the smaller of left and its length
+-- `n` is the smaller of left and the source's length: these are the first `n` bytes of the source.
 module _ (left : Left) (src : List ℕ) {n : ℕ} (h : n ≡ min (left .0) (length src)) where
   pub length-cut : length (take n src) ≡ n
   length-cut = length-take-le n src (omega (arith, min-le-right (left .0) (length src)))
@@ -160,7 +160,7 @@ module _ (left : Left) (src : List ℕ) {n : ℕ} (h : n ≡ min (left .0) (leng
       ∙ ap (λ (k : ℕ). take k (take a src)) (sym (length-take a src))
       ∙ take-length (take a src)
 
--- what a write leaves
+-- Equal buffers give the same result of a write.
 left-by : (a : Answering) (count : ℕ) (d : Device) {io : List ℕ} {m : Marks} {t : Buffer} → Leaves (buffer io m) t → leaving a count d (buffer io m) ≡ leaving a count d t
 left-by a count d h = ap (leaving a count d) (h .same)
 
@@ -175,7 +175,7 @@ flipped : (a x : Bool) → x ≡ not a → not x ≡ a
 flipped true x h = rw h
 flipped false x h = rw h
 
--- all of the source or nothing: b is whether it was taken
+-- `b` says whether the source was taken: it is all of it, or nothing.
 module _ (d : Device) (s : Buffer) (src : List ℕ) {b : Bool} (hb : b ≡ not (lacksRoom (max 0 (length src)) s)) where
   lacks : {x : Bool} → b ≡ x → not x ≡ lacksRoom (length src) s
   lacks {x} q = flipped (lacksRoom (length src) s) x (sym q ∙ rw (max-eq-right zero-le) at hb)

@@ -1,6 +1,6 @@
--- proofs.Laws         what each way through a function owes
+-- proofs.Laws         what has to be shown for each way through a function
 -- proofs.Unique       no contract has a second answer
--- proofs.After        what is so after each call: for callers
+-- proofs.After        what is true after each call: laws for callers
 -- proofs.Computing    what cases compute with
 -- proofs.Cases        the cases of specs/Cases.antt hold
 pub mod Laws

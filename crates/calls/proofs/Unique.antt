@@ -1,5 +1,5 @@
--- No second answer satisfies a promise: what the `ensures` of a public call says is true of one answer alone, and of one content of
--- the slice that it may write to. `Post` is the contract itself, as the check reads it. Assumes nothing.
+-- No second answer satisfies a promise: only one answer makes the `ensures` of a public call true, and only one content of the slice that
+-- it may write to. `Post` is the contract itself, as the check reads it. Assumes nothing.
 use mathlib.Core.Path.{_≡_, refl, sym, ap, _∙_}
 use mathlib.Core.List.{List, [], _∷_}
 use Prim.Native.Nat.{ℕ}
@@ -36,16 +36,16 @@ use Rattle.calls.proofs.command.command.Reads as command
 use Rattle.calls.proofs.command.command_step.Kinds as command-step-kinds
 use Rattle.calls.proofs.command.command_step.Reads as command-step
 
--- ---- what is told of an answer tells the answer
+-- ---- what the definitions read of a result determines the result
 
--- a status
+-- This is the result of `set_status`.
 abbrev unstated : Stating → Stated
 unstated o = record { device = o .device; answer = named (o .answer) }
 
 unstated-stated : (x : Stated) → unstated (statedOf x) ≡ x
 unstated-stated x = rw (named-answer (x .answer))
 
--- data, beside the bytes
+-- This is the result of a read or write, without the bytes.
 abbrev unmoved : Moving → Moved
 unmoved o = record { device = o .device; report = record { answer = named (o .answer); count = o .count } }
 
@@ -57,7 +57,7 @@ moved-once x y b c p q =
     let e = p ∙ sym q in
     (sym (unmoved-moved x b) ∙ ap unmoved e ∙ unmoved-moved y c, ap (λ (o : Moving). o .bytes) e)
 
--- a reset or a request: the bytes tell the reply
+-- In the result of a reset or a control request, the bytes determine the reply.
 unreplied : List ℕ → Reply
 unreplied [] = reply.Nothing
 unreplied (n ∷ ns) = reply.MaxLun n
@@ -73,14 +73,14 @@ unhandled o = record { device = o .device; report = record { answer = named (o .
 unhandled-handled : (x : Handled) → unhandled (handledOf x) ≡ x
 unhandled-handled x = rw (named-answer (x .report .answer), unreplied-replied (x .report .reply))
 
--- a command shown
+-- This is the result of the call that shows the command.
 abbrev unshown : Showing → Shown
 unshown o = record { answer = named (o .answer); shown = o .shown; lun = o .lun; blocklength = o .blocklength; block = o .block }
 
 unshown-shown : (x : Shown) → unshown (shownOf x) ≡ x
 unshown-shown x = rw (named-answer (x .answer))
 
--- a step: what is offered tells the offer
+-- In the result of a step, the list determines the offer.
 unoffered : List Offered → Offer
 unoffered [] = offer.Nothing
 unoffered (o ∷ os) = offer.Command (o .lun) (o .command)

@@ -14,12 +14,13 @@ use Rattle.calls.specs.declared.Reply.the-variants.{Nothing, MaxLun}
 use Rattle.calls.specs.declared.Request.{Request}
 use Rattle.calls.specs.declared.Handled.{Handled}
 
--- the bytes that go back to the host
+-- These bytes go back to the host.
 abbrev pub replied : Reply → List ℕ
 replied Nothing = []
 replied (MaxLun n) = n ∷ []
 
--- the answer, what is asked of both endpoints, the bytes that go back, and the record
+-- A reset or a control request gives the answer, what is asked of both endpoints (`stalls`), the bytes that go back to the host, and the
+-- record.
 pub record Handling : Type 0 where
   pub answer : Answering
   pub stalls : Stalls
@@ -29,24 +30,26 @@ pub record Handling : Type 0 where
 abbrev pub handling : Answering → Stalls → List ℕ → Device → Handling
 handling a stalls bytes d = record { answer = a; stalls = stalls; bytes = bytes; device = d }
 
+-- This reads what the code returned, `r`, as such a record.
 abbrev pub handledOf : Handled → Handling
 handledOf r = handling (answerOf (r .report .answer)) (r .report .stalls) (replied (r .report .reply)) (r .device)
 
--- "Entering 0 clears status and left and unstalls both"
+-- The record `d` enters 0, with the answer 0. "Entering 0 clears status and left and unstalls both"
 unfoldable pub entering : Device → Handling
 entering d = handling (answer 0) Unstalled [] (entering0 d)
 
--- "Reset enters 0."
+-- This is a reset, for any record `d` over any IO buffer `io`. "Reset enters 0."
 unfoldable pub resetCall : Device → List ℕ → Handling
 resetCall d io = unlessBroken d io (handling (answer 10) Kept [] d) (entering d)
 
--- "0xFF enters 0, 0xFE answers max LUN"
+-- A control request with the number `request` counts: "0xFF enters 0, 0xFE answers max LUN". Any other changes nothing.
 unfoldable pub served : ℕ → Device → Handling
 served request d =
     cond (eqb request 0xFF) (entering d)
     (cond (eqb request 0xFE) (handling (answer 0) Kept (d .fixed .maxlun ∷ []) d) (handling (answer 0) Kept [] d))
 
--- "A control request counts only if device to host, class and interface (bmRequestType A1)"
+-- This is the control request `q`, for any record `d` over any IO buffer `io`. "A control request counts only if device to host, class
+-- and interface (bmRequestType A1)"
 unfoldable pub controlCall : Device → List ℕ → Request → Handling
 controlCall d io q =
     unlessBroken d io (handling (answer 10) Kept [] d)

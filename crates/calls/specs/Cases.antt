@@ -1,4 +1,4 @@
--- Cases of the calls: one table. proofs/Cases.antt has the statement that each holds. Assumes nothing.
+-- One table of cases of the calls. proofs/Cases.antt states that each of them holds. Assumes nothing.
 use mathlib.Core.Bool.{true, false}
 use mathlib.Core.List.{List, [], _∷_}
 use Prim.Native.Nat.{ℕ}
@@ -23,67 +23,71 @@ use Rattle.calls.specs.Data.{readCall, writeCall, writeAllCall}
 use Rattle.calls.specs.Bus.{resetCall, controlCall}
 use Rattle.calls.specs.Command.{showing, offered, stepping, commandCall, stepCall}
 
--- a device with P 8, max LUN 3 and an IO buffer of 32 bytes, three of them unread; L = 512, of which 2 are left; the command is 12 01
--- 80 00 FF, for LUN 1, with a block of so many bytes
+-- This device has P 8, max LUN 3 and an IO buffer of 32 bytes, three of which are unread. L is 512, and 2 bytes are left. The command is
+-- 12 01 80 00 FF, for LUN 1; `state` and `blocklength` are given.
 abbrev device : State → ℕ → Device
 device state blocklength =
     rebuilt (newDevice (fixed 8 3 32)) state (at 1 4)
     (record { tag = 7; length = 512; direction = In; lun = 1; blocklength = blocklength; block = 0x12 ∷ 0x01 ∷ 0x80 ∷ 0x00 ∷ 0xFF ∷ replicate 11 9 })
     Absent (record { 0 = 2 })
 
+-- This is its IO buffer.
 abbrev io : List ℕ
 io = 1 ∷ 2 ∷ 3 ∷ 4 ∷ replicate 28 5
 
+-- The firmware gives this status byte, and the figure `bytes`.
 abbrev figure : ℕ → ℕ → FirmwareStatus
 figure status bytes = record { status = status; figure = bytes }
 
+-- A control request has this bmRequestType, `type`, and this request `number`.
 abbrev request : ℕ → ℕ → Request
 request type number = record { requesttype = type; request = number }
 
+-- These are the cases.
 unfoldable pub table : List Case
 table =
     -- "L 512, figure 500: residue 12; 600: 0*": here as the status that is set
     case (setStatusCall (device DataTransferToHost 5) io (figure 2 500) .device .status) (Present PhaseError (record { 0 = 12 }))
     ∷ case (setStatusCall (device DataTransferToHost 5) io (figure 2 600) .device .status) (Present PhaseError (record { 0 = 0 }))
-    -- 2 takes one too, though no poll ends there
+    -- 2 accepts a status too, though no poll ends in 2.
     ∷ case (setStatusCall (device DataTransferNoData 5) io (figure 0 512) .answer) (answer 0)
-    -- a status byte above 2; a state that takes none; both leave all as it was
+    -- A status byte is above 2; a state accepts none. Both leave all as before.
     ∷ case (setStatusCall (device DataTransferToHost 5) io (figure 3 500)) (record { answer = answer 12; device = device DataTransferToHost 5 })
     ∷ case (setStatusCall (device CommandTransferInvalid 5) io (figure 0 500)) (record { answer = answer 12; device = device CommandTransferInvalid 5 })
-    -- 10 comes first: the lent buffer is a byte short
+    -- 10 comes first: the lent buffer is a byte short.
     ∷ case (setStatusCall (device DataTransferToHost 5) (replicate 31 5) (figure 3 500) .answer) (answer 10)
-    -- three are unread: two go to a destination of two, three to one of five
+    -- Three bytes are unread: a destination of two gets two, and one of five gets three.
     ∷ case (readCall (device DataTransferFromHost 5) io (8 ∷ 8 ∷ []) .count) 2
     ∷ case (readCall (device DataTransferFromHost 5) io (8 ∷ 8 ∷ []) .bytes) (2 ∷ 3 ∷ [])
     ∷ case (readCall (device DataTransferFromHost 5) io (replicate 5 8) .count) 3
     ∷ case (readCall (device DataTransferFromHost 5) io (replicate 5 8) .bytes) (2 ∷ 3 ∷ 4 ∷ 8 ∷ 8 ∷ [])
     ∷ case (readCall (device DataTransferFromHost 5) io (replicate 5 8) .device .marks) (at 4 4)
     ∷ case (readCall (device DataTransferToHost 5) io (8 ∷ 8 ∷ [])) (record { answer = answer 3; count = 0; device = device DataTransferToHost 5; bytes = 8 ∷ 8 ∷ [] })
-    -- two are left: of a source of three `write_data` takes two, `try_write_data_all` three
+    -- Two bytes are left: of a source of three, `write_data` takes two, and `try_write_data_all` takes three.
     ∷ case (writeCall (device DataTransferToHost 5) io (6 ∷ 7 ∷ 8 ∷ []) .count) 2
     ∷ case (writeCall (device DataTransferToHost 5) io (6 ∷ 7 ∷ 8 ∷ []) .bytes) (1 ∷ 2 ∷ 3 ∷ 4 ∷ 6 ∷ 7 ∷ replicate 26 5)
     ∷ case (writeAllCall (device DataTransferToHost 5) io (6 ∷ 7 ∷ 8 ∷ []) .count) 3
     ∷ case (writeAllCall (device DataTransferToHost 5) io (6 ∷ 7 ∷ 8 ∷ []) .device .marks) (at 1 7)
-    -- 29 fit after the move, and 30 do not: the move stays
+    -- 29 bytes fit after the move, and 30 do not: the move stays.
     ∷ case (writeAllCall (device DataTransferToHost 5) io (replicate 29 6) .bytes) (2 ∷ 3 ∷ 4 ∷ replicate 29 6)
     ∷ case (writeAllCall (device DataTransferToHost 5) io (replicate 30 6) .answer) (answer 1)
     ∷ case (writeAllCall (device DataTransferToHost 5) io (replicate 30 6) .count) 0
     ∷ case (writeAllCall (device DataTransferToHost 5) io (replicate 30 6) .device .marks) (at 0 3)
     ∷ case (writeAllCall (device DataTransferToHost 5) io (replicate 30 6) .bytes) (2 ∷ 3 ∷ 4 ∷ 4 ∷ replicate 28 5)
-    -- reset keeps the marks and clears left
+    -- A reset keeps the marks and clears left.
     ∷ case (resetCall (device DataTransferToHost 5) io .device .state) CommandTransfer
     ∷ case (resetCall (device DataTransferToHost 5) io .device .marks) (at 1 4)
     ∷ case (resetCall (device DataTransferToHost 5) io .device .left .0) 0
-    -- A1 FE answers max LUN; A1 FF is a reset; 21 FF, BOT's own reset, does not count
+    -- A1 FE answers max LUN. A1 FF is a reset. 21 FF, BOT's own reset, does not count.
     ∷ case (controlCall (device DataTransferToHost 5) io (request 0xA1 0xFE) .bytes) (3 ∷ [])
     ∷ case (controlCall (device DataTransferToHost 5) io (request 0xA1 0xFF)) (resetCall (device DataTransferToHost 5) io)
     ∷ case (controlCall (device DataTransferToHost 5) io (request 0x21 0xFF)) (record { answer = answer 0; stalls = Kept; bytes = []; device = device DataTransferToHost 5 })
-    -- a command is shown in every state but 0; it is offered while no status is present
+    -- A command is shown in every state but 0. It is offered while no status is present.
     ∷ case (commandCall (device CommandTransferInvalid 5) io) (showing (device CommandTransferInvalid 5 .wrapper))
     ∷ case (commandCall (device CommandTransfer 5) io .shown) false
     ∷ case (stepCall (device DataTransferToHost 5) io) (stepping (answer 0) (offered 1 (Inquiry true 128 255) ∷ []))
     ∷ case (stepCall (withStatus (Present PhaseError (record { 0 = 0 })) (device DataTransferToHost 5)) io) (stepping (answer 0) [])
     ∷ case (stepCall (device CommandTransfer 5) io) (stepping (answer 0) [])
-    -- 13: an empty block
+    -- 13: the block is empty.
     ∷ case (stepCall (device CommandTransferInvalid 0) io) (stepping (answer 13) [])
     ∷ []

@@ -1,4 +1,4 @@
--- What a call asks of the record. Assumes nothing: these are definitions.
+-- What a call takes from the record before it does its work. Assumes nothing: these are definitions.
 use Prim.Native.Nat.{ℕ}
 use mathlib.Core.Bool.{Bool}
 use mathlib.Core.List.{List}
@@ -7,10 +7,10 @@ use Rattle.buffer.specs.Buffer.{Buffer, buffer}
 use Rattle.ring.specs.States.{stateNumber}
 use Rattle.device.specs.declared.Device.{Device}
 
--- whether the device is in the state of this number
+-- The device `d` is in the state with the number `n`.
 unfoldable pub isIn : ℕ → Device → Bool
 isIn n d = eqb (stateNumber (d .state)) n
 
--- the IO buffer with the record's marks
+-- This is the IO buffer `io` with the marks of the record `d`.
 abbrev pub bufferOf : Device → List ℕ → Buffer
 bufferOf d io = buffer io (d .marks)

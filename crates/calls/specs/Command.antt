@@ -18,7 +18,8 @@ use Rattle.calls.specs.Checks.{isIn}
 
 -- ---- the command shown
 
--- the answer, whether a command is shown, its LUN, and its block: all 16 bytes that the record keeps, and how many of them count
+-- The call that shows the command gives the answer, whether a command is `shown`, its LUN, how many bytes its block has, and all 16 bytes
+-- that the record keeps of the block.
 pub record Showing : Type 0 where
   pub answer : Answering
   pub shown : Bool
@@ -26,26 +27,29 @@ pub record Showing : Type 0 where
   pub blocklength : ℕ
   pub block : List ℕ
 
+-- This reads what the code returned, `r`, as such a record.
 abbrev pub shownOf : Shown → Showing
 shownOf r = record { answer = answerOf (r .answer); shown = r .shown; lun = r .lun; blocklength = r .blocklength; block = r .block }
 
+-- The command of the wrapper `w` is shown, with the answer 0.
 abbrev pub showing : Wrapper → Showing
 showing w = record { answer = answer 0; shown = true; lun = w .lun; blocklength = w .blocklength; block = w .block }
 
--- nothing is shown, with this answer: everything else is 0
+-- Nothing is shown, with the answer `a`; every other number is 0.
 abbrev pub hiding : Answering → Showing
 hiding a = record { answer = a; shown = false; lun = 0; blocklength = 0; block = replicate 16 0 }
 
--- "A command is shown in every state but 0"
+-- "A command is shown in every state but 0": `d` is the record.
 unfoldable pub isShown : Device → Bool
 isShown d = not (isIn 0 d)
 
+-- This is the call that shows the command, for any record `d` over any IO buffer `io`.
 unfoldable pub commandCall : Device → List ℕ → Showing
 commandCall d io = unlessBroken d io (hiding (answer 10)) (cond (isShown d) (showing (d .wrapper)) (hiding (answer 0)))
 
 -- ---- the command step
 
--- a command that is offered, with its LUN
+-- The command step offers a command with its LUN.
 pub record Offered : Type 0 where
   pub lun : ℕ
   pub command : ScsiCommand
@@ -53,11 +57,12 @@ pub record Offered : Type 0 where
 abbrev pub offered : ℕ → ScsiCommand → Offered
 offered lun c = record { lun = lun; command = c }
 
+-- A step of the code offers nothing, or one command; here that is a list.
 abbrev pub offers : Offer → List Offered
 offers Nothing = []
 offers (Command lun c) = offered lun c ∷ []
 
--- the answer, and what is offered
+-- The command step gives the answer and what it offers.
 pub record Stepping : Type 0 where
   pub answer : Answering
   pub offers : List Offered
@@ -65,22 +70,24 @@ pub record Stepping : Type 0 where
 abbrev pub stepping : Answering → List Offered → Stepping
 stepping a os = record { answer = a; offers = os }
 
+-- This reads what the code returned, `r`, as such a record.
 abbrev pub steppedOf : Step → Stepping
 steppedOf r = stepping (answerOf (r .answer)) (offers (r .offer))
 
--- "the command step offers it when no status is present"
+-- "the command step offers it when no status is present": `d` is the record, and the command must be shown too.
 unfoldable pub isOffered : Device → Bool
 isOffered d = isShown d && not (isPresent (d .status))
 
--- the decoded command of a LUN; 13: "decoding an empty block"
+-- Decoding gave `o`: its command, if there is one, is offered with this `lun`. The answer is that of decoding; 13 is "decoding an empty
+-- block".
 unfoldable pub offering : ℕ → Decoding → Stepping
 offering lun o = stepping (answer (o .answer)) (map (offered lun) (o .commands))
 
--- the command block: as many bytes as its length says
+-- This is the command block of the wrapper `w`: as many bytes as its block length says.
 unfoldable pub blockOf : Wrapper → List ℕ
 blockOf w = take (w .blocklength) (w .block)
 
--- "nothing offered gives 0"
+-- This is the command step, for any record `d` over any IO buffer `io`. "nothing offered gives 0".
 unfoldable pub stepCall : Device → List ℕ → Stepping
 stepCall d io =
     unlessBroken d io (stepping (answer 10) [])

@@ -1,5 +1,5 @@
--- What a reader of the calls between polls must believe, in document 01's words.
---     Checks     10 comes first; the state that a call works in
+-- What a reader must believe about the calls between polls, in document 01's words.
+--     Checks     the state that a call works in, and its buffer
 --     Status     `set_status`
 --     Data       `read_data`, `write_data` and `try_write_data_all`
 --     Bus        reset and control requests

@@ -13,7 +13,8 @@ ghost use Rattle.scsi.specs.Decoding.{plainCall};
 ghost use Rattle.calls.specs.Command.{shownOf, commandCall, steppedOf, isOffered, offering, stepCall};
 ghost use Rattle.calls.specs.Inner.Returned.{hides, offersNone};
 
-// The answer, whether a command is shown, its LUN and its block, which has so many bytes.
+// The call that shows the command gives the answer, whether a command is shown, its LUN, and its block: the first `blocklength` bytes of
+// `block`.
 pub struct Shown {
     pub answer: Answer,
     pub shown: bool,
@@ -22,12 +23,13 @@ pub struct Shown {
     pub block: [u8; 16],
 }
 
-// The command that a step offers.
+// A step offers nothing, or a command with its LUN.
 pub enum Offer {
     Nothing,
     Command(u8, ScsiCommand),
 }
 
+// The command step gives the answer and the offer.
 pub struct Step {
     pub answer: Answer,
     pub offer: Offer,
@@ -47,7 +49,7 @@ fn hidden(answer: Answer) -> Shown
     }
 }
 
-// The command, in every state but 0.
+// The command is shown in every state but 0.
 pub fn command(device: Device, io: &[u8]) -> Shown
     ensures { λ r. ⌜ shownOf r ≡ commandCall device (now (io .entry)) ⌝ }
 {
@@ -78,7 +80,7 @@ fn nothing(answer: Answer) -> Step
     }
 }
 
-// The command of this LUN that the block's first bytes, so many, decode to.
+// The first `blocklength` bytes of `block` are decoded, and the command is offered with this `lun`.
 fn decoded(lun: u8, blocklength: u8, block: [u8; 16]) -> Step
     requires { ⌜ blocklength ≤ 16 ⌝ }
     ensures { λ r. ⌜ steppedOf r ≡ offering lun (plainCall (take blocklength block)) ⌝ }
@@ -94,7 +96,7 @@ fn decoded(lun: u8, blocklength: u8, block: [u8; 16]) -> Step
     }
 }
 
-// Whether the step offers the command: it is shown, and no status is present.
+// This says whether the step offers the command: it is shown, and no status is present.
 fn offers(device: Device) -> bool
     ensures { λ r. ⌜ r ≡ isOffered device ⌝ }
 {
@@ -105,7 +107,7 @@ fn offers(device: Device) -> bool
     !present(status)
 }
 
-// The command step: the command, decoded, where the firmware is to act on it.
+// The command step offers the command, decoded, while the firmware has set no status for it.
 pub fn command_step(device: Device, io: &[u8]) -> Step
     ensures { λ r. ⌜ steppedOf r ≡ stepCall device (now (io .entry)) ⌝ }
 {

@@ -1,5 +1,5 @@
-// What the firmware and the bus call between polls, on the record by value. Every call takes any record, any buffers and any
-// numbers, and ends with one of document 01's answers; 10 comes first.
+// The firmware and the bus make these calls between polls, on the record by value. Every call takes any record, any buffers and any
+// numbers, and ends with one of document 01's answers; 10 is checked first. `device` is the record and `io` is the IO buffer.
 //     command    the command shown to the firmware, and the command step
 pub mod command;
 
@@ -30,46 +30,50 @@ ghost use Rattle.calls.specs.Inner.Returned.{refuses, unmoved, movesTo, 
 ghost use Rattle.calls.specs.Data.{movedOf, readCall, writeCall, writeAllCall};
 ghost use Rattle.calls.specs.Bus.{handledOf, served, resetCall, controlCall};
 
-// A status byte, and the firmware's figure: how many bytes it dealt with.
+// The firmware gives a status byte and its figure: how many bytes it dealt with.
 pub struct FirmwareStatus {
     pub status: u8,
     pub figure: u32,
 }
 
+// `set_status` gives the record and the answer.
 pub struct Stated {
     pub device: Device,
     pub answer: Answer,
 }
 
-// The answer, and how many bytes were read or written.
+// A read or write reports the answer and how many bytes were read or written.
 pub struct Count {
     pub answer: Answer,
     pub count: usize,
 }
 
+// A read or write gives the record and that report.
 pub struct Moved {
     pub device: Device,
     pub report: Count,
 }
 
-// A control request's first two bytes.
+// These are the first two bytes of a control request.
 pub struct Request {
     pub requesttype: u8,
     pub request: u8,
 }
 
-// What a control request gets back: nothing, or one byte.
+// The host gets nothing back from a control request, or one byte.
 pub enum Reply {
     Nothing,
     MaxLun(u8),
 }
 
+// A reset or a control request reports the answer, what is asked of both endpoints, and what goes back to the host.
 pub struct Controlled {
     pub answer: Answer,
     pub stalls: Stalls,
     pub reply: Reply,
 }
 
+// A reset or a control request gives the record and that report.
 pub struct Handled {
     pub device: Device,
     pub report: Controlled,
@@ -77,14 +81,14 @@ pub struct Handled {
 
 // ---- the record
 
-// Whether the record is broken, over an IO buffer of so many bytes.
+// This says whether the record is broken over an IO buffer of `len` bytes.
 pub(crate) fn broken(device: Device, len: usize) -> bool
     ensures { λ r. ⌜ r ≡ not (isWhole (numbersOf device) len) ⌝ }
 {
     !whole(numbers_of(device), len)
 }
 
-// Whether the device is in the state of this number.
+// This says whether the device is in the state with this `number`.
 pub(crate) fn is_in(device: Device, number: u8) -> bool
     ensures { λ r. ⌜ r ≡ isIn number device ⌝ }
 {
@@ -92,6 +96,7 @@ pub(crate) fn is_in(device: Device, number: u8) -> bool
     state_number(state) == number
 }
 
+// The record gets this `status`, and all else stays.
 fn with_status(device: Device, status: Status) -> Device
     ensures { λ r. ⌜ r ≡ withStatus status device ⌝ }
 {
@@ -104,7 +109,7 @@ fn with_status(device: Device, status: Status) -> Device
 
 // ---- the status
 
-// Whether a status is accepted in the state of this number.
+// This says whether a status is accepted in the state with the number `state`.
 fn takes_status(state: u8) -> bool
     ensures { λ r. ⌜ r ≡ takesStatus state ⌝ }
 {
@@ -120,7 +125,7 @@ fn takes_status(state: u8) -> bool
     state == 7
 }
 
-// No status was taken.
+// No status was taken, and the record stays.
 fn untaken(device: Device, answer: Answer) -> Stated
     ensures { λ r. ⌜ r ≡ refuses device answer ⌝ }
 {
@@ -130,7 +135,7 @@ fn untaken(device: Device, answer: Answer) -> Stated
     }
 }
 
-// In a state that takes one: bytes above 2 are refused.
+// The state accepts a status; a status byte above 2 is still refused.
 fn accept(device: Device, given: FirmwareStatus) -> Stated
     ensures { λ r. ⌜ statedOf r ≡ acceptedStatus device given ⌝ }
 {
@@ -149,7 +154,7 @@ fn accept(device: Device, given: FirmwareStatus) -> Stated
     }
 }
 
-// The status of the command; a later one replaces the earlier.
+// The firmware sets the status of the command; a later one replaces the earlier.
 pub fn set_status(device: Device, io: &[u8], given: FirmwareStatus) -> Stated
     ensures { λ r. ⌜ statedOf r ≡ setStatusCall device (now (io .entry)) given ⌝ }
 {
@@ -165,7 +170,7 @@ pub fn set_status(device: Device, io: &[u8], given: FirmwareStatus) -> Stated
 
 // ---- data
 
-// Nothing was read or written.
+// Nothing was read or written, and the record stays.
 fn refused(device: Device, answer: Answer) -> Moved
     ensures { λ r. ⌜ r ≡ unmoved device answer ⌝ }
 {
@@ -178,7 +183,7 @@ fn refused(device: Device, answer: Answer) -> Moved
     }
 }
 
-// So many bytes were read or written, and the marks are now these.
+// `count` bytes were read or written, and the record gets these `marks`.
 fn left_at(device: Device, marks: Marks, answer: Answer, count: usize) -> Moved
     ensures { λ r. ⌜ r ≡ movesTo device marks answer count ⌝ }
 {
@@ -193,7 +198,7 @@ fn left_at(device: Device, marks: Marks, answer: Answer, count: usize) -> Moved
     }
 }
 
-// The first unread bytes go to dst, as many as it holds.
+// The first unread bytes go to `dst`, as many as it holds.
 pub fn read_data(device: Device, dst: &mut [u8], io: &[u8]) -> Moved
     ensures { λ r. ⌜ movedOf r (now (dst .exit)) ≡ readCall device (now (io .entry)) (now (dst .entry)) ⌝ }
 {
@@ -209,7 +214,7 @@ pub fn read_data(device: Device, dst: &mut [u8], io: &[u8]) -> Moved
     refused(device, Answer::InvalidState)
 }
 
-// What fits of src goes into the buffer, and at most as much as is left.
+// The first bytes of `src` go into the buffer: as many as fit, and no more than are left.
 pub fn write_data(device: Device, io: &mut [u8], src: &[u8]) -> Moved
     ensures { λ r. ⌜ movedOf r (now (io .exit)) ≡ writeCall device (now (io .entry)) (now (src .entry)) ⌝ }
 {
@@ -227,7 +232,7 @@ pub fn write_data(device: Device, io: &mut [u8], src: &[u8]) -> Moved
     refused(device, Answer::InvalidState)
 }
 
-// All of src goes into the buffer, or nothing, whatever is left.
+// All of `src` goes into the buffer, or nothing; left does not limit it.
 pub fn try_write_data_all(device: Device, io: &mut [u8], src: &[u8]) -> Moved
     ensures { λ r. ⌜ movedOf r (now (io .exit)) ≡ writeAllCall device (now (io .entry)) (now (src .entry)) ⌝ }
 {
@@ -249,7 +254,7 @@ pub fn try_write_data_all(device: Device, io: &mut [u8], src: &[u8]) -> Moved
 
 // ---- the bus
 
-// No endpoint is touched, and the record stays.
+// Nothing is asked of the endpoints, and the record stays.
 fn kept(device: Device, answer: Answer, reply: Reply) -> Handled
     ensures { λ r. ⌜ r ≡ keeps device answer reply ⌝ }
 {
@@ -263,7 +268,7 @@ fn kept(device: Device, answer: Answer, reply: Reply) -> Handled
     }
 }
 
-// Entering 0 clears status and left and unstalls both; the buffer and its marks stay.
+// 0 is entered: status and left are cleared and both endpoints unstalled; the buffer and its marks stay.
 fn enter(device: Device) -> Handled
     ensures { λ r. ⌜ r ≡ enters0 device ⌝ }
 {
@@ -297,7 +302,7 @@ pub fn reset(device: Device, io: &[u8]) -> Handled
     enter(device)
 }
 
-// A request that counts.
+// The control request counts; only its number, `request`, decides.
 fn serve(device: Device, request: u8) -> Handled
     ensures { λ r. ⌜ handledOf r ≡ served request device ⌝ }
 {
@@ -310,7 +315,7 @@ fn serve(device: Device, request: u8) -> Handled
     kept(device, Answer::Done, Reply::Nothing)
 }
 
-// A control request: only those to the host, of the class and for an interface, count.
+// A control request counts only if it goes from device to host, is a class request, and is for an interface.
 pub fn control(device: Device, io: &[u8], request: Request) -> Handled
     ensures { λ r. ⌜ handledOf r ≡ controlCall device (now (io .entry)) request ⌝ }
 {

@@ -1,4 +1,4 @@
--- Laws of the record: what each way through a function owes (`ways`). Assumes nothing.
+-- Laws of the record: what has to be shown for each way through a function (`ways`). Assumes nothing.
 use mathlib.Core.Path.{_≡_, sym, ap, _∙_}
 use mathlib.Core.Bool.{Bool, true, false, not}
 use Prim.Native.Nat.{ℕ, _≤_, _<_}
@@ -69,7 +69,7 @@ module _ (f : Fixed) where
         unfolding creation
         gives-0 e l = rw (le-ltb _ _ a, le-ltb _ _ b, le-ltb _ _ c, ← h, not-false r e, le-ltb _ _ l)
 
-  -- the answer says whether there is a device
+  -- The answer says whether there is a device.
   module _ (a : Answer) (h : answerOf a ≡ answer (creation f)) {n : ℕ} (k : n ≡ answerOf a .number) where
     numbered : n ≡ creation f
     numbered = k ∙ ap (λ (x : Answering). x .number) h
@@ -101,7 +101,7 @@ module _ (lun blocklength : ℕ) where
   unfolding commandFits
   command-long h = rw (lt-leb _ _ h)
 
--- with a status, and without
+-- This holds with a status and without one.
 pub fits-by : (s : State) (b c : Bool) {r : Bool} → b ≡ c → r ≡ statusFits s c → r ≡ statusFits s b
 fits-by s b c q k = rw q k
 

@@ -1,5 +1,5 @@
--- proofs.Laws         what each way through a function owes
--- proofs.Wholly       what follows for a whole record; the test says whether it is one
+-- proofs.Laws         what has to be shown for each way through a function
+-- proofs.Wholly       what follows for a whole record; the test says whether a record is whole
 -- proofs.Unique       no second answer satisfies a promise
 -- proofs.Computing    what cases compute with
 -- proofs.Cases        the cases of specs/Cases.antt hold

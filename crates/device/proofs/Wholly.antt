@@ -1,9 +1,9 @@
 -- What follows for a whole record.
 --     is-whole, whole-is    the test says whether a record is whole
---     passes, stops, either what a call that checks 10 first comes to
+--     passes, stops, either what a call gives that checks 10 first
 --     whole-sound           its marks are sound over the lent buffer
 --     absent-in-0           in 0 no status is present
---     packet-below, lun-below, size-below   what creation takes is small
+--     packet-below, lun-below, size-below   the numbers that creation accepts are small
 --     wrapper-fits, packet-fits, packet-bounds   the buffer holds a wrapper and a packet, and P is 8 to 64
 -- Assumes nothing.
 use mathlib.Core.Path.{_≡_, refl, sym, _∙_}
@@ -25,7 +25,7 @@ use Rattle.device.specs.Device.{isPresent, numbersOf}
 use Rattle.device.specs.Create.{isPacketSize, creation}
 use Rattle.device.specs.Broken.{commandFits, statusFits, Whole, isWhole, unlessBroken}
 
--- the rules, as facts, from the tests
+-- The tests give the rules as facts.
 whole-by : (n : Numbers) (len : ℕ) → eqb (n .fixed .size) len ≡ true → eqb (creation (n .fixed)) 0 ≡ true → isSound (n .fixed .size) (n .marks) ≡ true
     → commandFits (n .lun) (n .blocklength) ≡ true → statusFits (n .state) (isPresent (n .status)) ≡ true → Whole n len
 unfolding isSound commandFits
@@ -39,7 +39,7 @@ whole-by n len a b c d f = record {
   status = f;
 }
 
--- a conjunction of five
+-- This takes a conjunction of five tests apart.
 five : {A : Type 0} (a b c d f : Bool) → (a ≡ true → b ≡ true → c ≡ true → d ≡ true → f ≡ true → A) → a && (b && (c && (d && f))) ≡ true → A
 five a b c d f k e =
     let bcdf = and-right a (b && (c && (d && f))) e in
@@ -55,7 +55,7 @@ pub whole-is : (n : Numbers) (len : ℕ) → Whole n len → isWhole n len ≡ t
 unfolding isWhole isSound commandFits
 whole-is n len w = rw (eq-eqb _ _ (w .lent), eq-eqb _ _ (w .created), le-leb _ _ (w .order), le-leb _ _ (w .within), le-leb _ _ (w .block), le-leb _ _ (w .lun)) (w .status)
 
--- what the entry's test gives to what follows it
+-- The test at the start of a call gives this to what follows it.
 pub tested : (n : Numbers) (len : ℕ) {r : Bool} → r ≡ isWhole n len → r ≡ true → Whole n len
 tested n len h e = is-whole n len (sym h ∙ e)
 
@@ -76,14 +76,14 @@ module _ {A : Type 0} (d : Device) (io : List ℕ) where
   unfolding unlessBroken
   stops h refused done = rw h
 
-  -- what holds of a refusal, and of what is done with a whole record, holds of the call
+  -- If `P` holds of the refusal and of what is done with a whole record, it holds of the call.
   pub either : (P : A → Type 0) {refused done : A} → P refused → (Whole (numbersOf d) (length io) → P done) → P (unlessBroken d io refused done)
   unfolding unlessBroken
   either P p q = of-picked P (isWhole (numbersOf d) (length io)) (λ e. q (is-whole (numbersOf d) (length io) e)) (λ _. p)
 
 -- ---- the packet size and the buffer
 
--- no creation rule is violated: each of the tests
+-- No creation rule is violated, so each test is known.
 unviolated : (a b c d e : Bool) → _≡_ {A = ℕ} (cond a 2 (cond (b || c) 5 (cond d (cond e 9 0) 8))) 0 → (b ≡ false) × (c ≡ false) × (d ≡ true) × (e ≡ false) × (a ≡ false)
 unviolated true b c d e h = absurd (omega (arith, h))
 unviolated false true c d e h = absurd (omega (arith, h))
@@ -97,7 +97,7 @@ unfolding creation
 rules f e = unviolated (ltb 15 (f .maxlun)) (ltb (f .size) 31) (ltb (f .size) (f .packetsize)) (isPacketSize (f .packetsize)) (ltb 65536 (f .size)) e
 
 module _ (n : Numbers) (len : ℕ) (w : Whole n len) where
-  -- a wrapper fits into the buffer, and so does a packet
+  -- A wrapper fits into the buffer, and so does a packet.
   pub wrapper-fits : 31 ≤ len
   wrapper-fits = omega (arith, ltb-false (n .fixed .size) 31 (rules (n .fixed) (w .created) .0), w .lent)
 
@@ -111,7 +111,7 @@ module _ (n : Numbers) (len : ℕ) (w : Whole n len) where
   pub packet-known : isPacketSize (n .fixed .packetsize) ≡ true
   packet-known = rules (n .fixed) (w .created) .2
 
--- what is one of four has what each of them has
+-- If one of two tests is true, what follows from each of them follows.
 or-true : (a b : Bool) {A : Type 0} → (a ≡ true → A) → (b ≡ true → A) → (a || b) ≡ true → A
 or-true true b f g h = f refl
 or-true false b f g h = g h
@@ -126,7 +126,7 @@ packet-bounds p h =
     (or-true (eqb p 16) _ (within p 16 (omega arith) (omega arith))
     (or-true (eqb p 32) _ (within p 32 (omega arith) (omega arith)) (within p 64 (omega arith) (omega arith)))) h
 
--- what creation takes is small: P and max LUN are bytes, the size has 32 bits
+-- The numbers that creation accepts are small: P and max LUN fit into a byte, and the size into 32 bits.
 pub packet-below : (f : Fixed) → creation f ≡ 0 → f .packetsize < 256
 packet-below f e = omega (arith, packet-bounds (f .packetsize) (rules f e .2) .1)
 

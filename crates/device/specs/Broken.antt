@@ -13,11 +13,12 @@ use Rattle.device.specs.declared.Numbers.{Numbers}
 use Rattle.device.specs.Device.{isPresent, numbersOf}
 use Rattle.device.specs.Create.{creation}
 
--- "block length above 16; LUN above 15"
+-- `lun` and `blocklength` are in their bounds. A record is broken by "block length above 16; LUN above 15".
 unfoldable pub commandFits : ℕ → ℕ → Bool
 commandFits lun blocklength = leb blocklength 16 && leb lun 15
 
--- "a status present in CommandTransfer or CommandTransferInvalid; none present in StatusTransfer or either Ending state"
+-- This says whether it fits the state that a status is `present`, or that none is. A record is broken by "a status present in
+-- CommandTransfer or CommandTransferInvalid; none present in StatusTransfer or either Ending state".
 abbrev pub statusFits : State → Bool → Bool
 statusFits CommandTransfer present = not present
 statusFits CommandTransferInvalid present = not present
@@ -29,7 +30,8 @@ statusFits DataTransferToHostEnding present = present
 statusFits DataTransferFromHost present = true
 statusFits DataTransferFromHostEnding present = present
 
--- A whole record over a lent IO buffer of len bytes. As a fact, and as a test.
+-- A record with the numbers `n` is whole over a lent IO buffer of `len` bytes. This is a fact, rule by rule; the quotes say what would
+-- break the record.
 pub record Whole (n : Numbers) (len : ℕ) : Type 0 where
   -- "the lent IO buffer's length differs from the recorded one"
   pub lent : n .fixed .size ≡ len
@@ -42,6 +44,7 @@ pub record Whole (n : Numbers) (len : ℕ) : Type 0 where
   pub lun : n .lun ≤ 15
   pub status : statusFits (n .state) (isPresent (n .status)) ≡ true
 
+-- This is the same as a test.
 unfoldable pub isWhole : Numbers → ℕ → Bool
 isWhole n len =
     eqb (n .fixed .size) len
@@ -50,6 +53,7 @@ isWhole n len =
     && (commandFits (n .lun) (n .blocklength)
     && statusFits (n .state) (isPresent (n .status)))))
 
--- "Every other device call checks 10 first": then `refused`, all as before; else `done`
+-- "Every other device call checks 10 first": over the IO buffer `io`, a call gives `refused` if the record `d` is broken, and `done` if
+-- it is whole.
 unfoldable pub unlessBroken : {A : Type 0} → Device → List ℕ → A → A → A
 unlessBroken d io refused done = cond (isWhole (numbersOf d) (length io)) done refused

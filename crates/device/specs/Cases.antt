@@ -1,4 +1,5 @@
--- Document 01's cases of creation, and ours of broken records: one table. proofs/Cases.antt has the statement that each holds. Assumes nothing.
+-- One table of cases: document 01's of creation, and ours of broken records. proofs/Cases.antt states that each of them holds. Assumes
+-- nothing.
 use mathlib.Core.Bool.{Bool, true, false}
 use mathlib.Core.List.{List, [], _∷_}
 use Prim.Native.Nat.{ℕ}
@@ -25,20 +26,22 @@ starred =
     ∷ case (createCall (fixed 8 0 31)) (record { answer = answer 0; device = newDevice (fixed 8 0 31) })
     ∷ []
 
--- a whole record with P 8 and a buffer of 31, and these in it
+-- This record has P 8, max LUN 0 and an IO buffer of 31 bytes, and the parts that are given; nothing is left.
 abbrev record-of : State → Status → Marks → ℕ → ℕ → Numbers
 record-of state status marks lun blocklength = record { fixed = fixed 8 0 31; state = state; marks = marks; tag = 0; lun = lun; blocklength = blocklength; status = status; left = record { 0 = 0 } }
 
+-- This status says that the command passed, with residue 0.
 abbrev passed : Status
 passed = Present Passed (record { 0 = 0 })
 
--- a new record with these sizes, over a buffer of that size
+-- This says whether a new record with these numbers, over a buffer of that `size`, is whole.
 abbrev sized : ℕ → ℕ → ℕ → Bool
 sized p maxlun size = isWhole (numbersOf (newDevice (fixed p maxlun size))) size
 
+-- These are our own cases.
 unfoldable pub ours : List Case
 ours =
-    -- "63 with P 64 gives 5; P 24 gives 8; 65,537 gives 9": and the order of the rules
+    -- "63 with P 64 gives 5; P 24 gives 8; 65,537 gives 9", and the order of the rules
     case (creation (fixed 64 0 63)) 5
     ∷ case (creation (fixed 24 0 64)) 8
     ∷ case (creation (fixed 64 0 65537)) 9
@@ -47,7 +50,7 @@ ours =
     ∷ case (creation (fixed 64 0 65536)) 0
     ∷ case (creation (fixed 65600 0 65536)) 5
     ∷ case (creation (fixed 264 0 65536)) 8
-    -- each way to be broken, beside a record that is whole
+    -- a record that is whole, and then each way to be broken
     ∷ case (isWhole (record-of DataTransferToHost Absent (at 3 31) 15 16) 31) true
     ∷ case (isWhole (record-of DataTransferToHost Absent (at 3 31) 15 16) 32) false
     ∷ case (isWhole (record-of DataTransferToHost Absent (at 4 3) 15 16) 31) false
@@ -59,7 +62,7 @@ ours =
     ∷ case (isWhole (record-of StatusTransfer Absent (at 0 0) 0 0) 31) false
     ∷ case (isWhole (record-of DataTransferToHostEnding Absent (at 0 0) 0 0) 31) false
     ∷ case (isWhole (record-of DataTransferFromHostEnding Absent (at 0 0) 0 0) 31) false
-    -- "a creation rule is violated": each of them
+    -- "a creation rule is violated": each rule in turn
     ∷ case (sized 8 15 31) true
     ∷ case (sized 8 16 31) false
     ∷ case (sized 8 0 30) false

@@ -11,36 +11,39 @@ use Rattle.device.specs.declared.Fixed.{Fixed}
 use Rattle.device.specs.declared.Device.{Device}
 use Rattle.device.specs.declared.create.Created.{Created}
 
--- "packet size P is 8, 16, 32 or 64"
+-- `p` is in the domain: "packet size P is 8, 16, 32 or 64".
 unfoldable pub isPacketSize : ℕ → Bool
 isPacketSize p = eqb p 8 || (eqb p 16 || (eqb p 32 || eqb p 64))
 
--- what creation is given, P, max LUN and the IO buffer's length, and what it fixes
+-- Creation is given the packet size `p`, the max LUN `maxlun` and the length `size` of the IO buffer. It fixes them: they never change.
 abbrev pub fixed : ℕ → ℕ → ℕ → Fixed
 fixed p maxlun size = record { packetsize = p; maxlun = maxlun; size = size }
 
--- 2 "max LUN above 15", 5 "buffer below 31 or below P", 8 "P not in the domain", 9 "buffer above 65,536"
+-- Creation with the numbers `f` gives this answer: 2 "max LUN above 15", 5 "buffer below 31 or below P", 8 "P not in the domain", 9
+-- "buffer above 65,536", and otherwise 0.
 unfoldable pub creation : Fixed → ℕ
 creation f =
     cond (ltb 15 (f .maxlun)) 2
     (cond (ltb (f .size) 31 || ltb (f .size) (f .packetsize)) 5
     (cond (isPacketSize (f .packetsize)) (cond (ltb 65536 (f .size)) 9 0) 8))
 
--- A new device waits for a wrapper; before the first one tag, L, LUN and block are 0.
+-- A new device with the numbers `f` waits for a wrapper. Until the first one comes, tag, L, LUN and block are 0.
 abbrev pub newDevice : Fixed → Device
 newDevice f = record { fixed = f; state = CommandTransfer; marks = at 0 0; wrapper = blank; status = Absent; left = record { 0 = 0 } }
 
--- "no device": all of it is 0
+-- "no device" is a record in which every number is 0.
 abbrev pub noDevice : Device
 noDevice = newDevice (fixed 0 0 0)
 
--- What creation gives: the answer, and with 0 a device.
+-- Creation gives an answer, and a device if the answer is 0.
 pub record Creation : Type 0 where
   pub answer : Answering
   pub device : Device
 
+-- This reads what the code returned, `r`, as such a record.
 abbrev pub createdOf : Created → Creation
 createdOf r = record { answer = answerOf (r .answer); device = r .device }
 
+-- This is creation with any numbers `f`.
 unfoldable pub createCall : Fixed → Creation
 createCall f = record { answer = answer (creation f); device = cond (eqb (creation f) 0) (newDevice f) noDevice }

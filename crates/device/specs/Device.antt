@@ -10,35 +10,39 @@ use Rattle.device.specs.declared.Status.the-variants.{Absent, Present}
 use Rattle.device.specs.declared.Device.{Device}
 use Rattle.device.specs.declared.Numbers.{Numbers}
 
--- whether a status is present
+-- This says whether a status is present.
 abbrev pub isPresent : Status → Bool
 isPresent Absent = false
 isPresent (Present status residue) = true
 
--- of a record what decides
+-- These are the numbers of the record `d` that decide whether it is broken and what a poll does.
 abbrev pub numbersOf : Device → Numbers
 numbersOf d = record { fixed = d .fixed; state = d .state; marks = d .marks; tag = d .wrapper .tag; lun = d .wrapper .lun; blocklength = d .wrapper .blocklength; status = d .status; left = d .left }
 
--- a record with these parts, and all else as it was: every change of a record is one of these
+-- The record `d` gets these parts, and what creation fixed stays. Every change of a record is one of these.
 abbrev pub rebuilt : Device → State → Marks → Wrapper → Status → Left → Device
 rebuilt d state marks wrapper status left = record { fixed = d .fixed; state = state; marks = marks; wrapper = wrapper; status = status; left = left }
 
--- with one of its parts changed
+-- The record `d` gets the state `s`.
 abbrev pub inState : State → Device → Device
 inState s d = rebuilt d s (d .marks) (d .wrapper) (d .status) (d .left)
 
+-- The record `d` gets the marks `m`.
 abbrev pub withMarks : Marks → Device → Device
 withMarks m d = rebuilt d (d .state) m (d .wrapper) (d .status) (d .left)
 
+-- The record `d` gets the wrapper `w`.
 abbrev pub withWrapper : Wrapper → Device → Device
 withWrapper w d = rebuilt d (d .state) (d .marks) w (d .status) (d .left)
 
+-- The record `d` gets the status `s`.
 abbrev pub withStatus : Status → Device → Device
 withStatus s d = rebuilt d (d .state) (d .marks) (d .wrapper) s (d .left)
 
+-- In the record `d`, left becomes `l`.
 abbrev pub withLeft : Left → Device → Device
 withLeft l d = rebuilt d (d .state) (d .marks) (d .wrapper) (d .status) l
 
--- "Entering 0 clears status and left .. it does not empty the buffer."
+-- The record `d` enters 0. "Entering 0 clears status and left .. it does not empty the buffer."
 abbrev pub entering0 : Device → Device
 entering0 d = inState CommandTransfer (withStatus Absent (withLeft (record { 0 = 0 }) d))

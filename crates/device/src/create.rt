@@ -1,4 +1,4 @@
-// A new device, and the rules that it has to meet.
+// A new device, and the rules that its numbers must meet.
 use crate::Device;
 use crate::Fixed;
 use crate::Status;
@@ -12,12 +12,13 @@ ghost use lib.Dec.{eqb};
 ghost use Rattle.answers.specs.Answers.{answer, answerOf};
 ghost use Rattle.device.specs.Create.{isPacketSize, creation, newDevice, noDevice, createdOf, createCall};
 
-// The answer, and a device: with any answer but 0 there is no device, and all of this one is 0.
+// Creation gives an answer and a device. With any answer but 0 there is no device, and every number of this one is 0.
 pub struct Created {
     pub answer: Answer,
     pub device: Device,
 }
 
+// Only these four packet sizes are in 01's domain.
 pub fn is_packet_size(p: usize) -> bool
     ensures { λ r. ⌜ r ≡ isPacketSize p ⌝ }
 {
@@ -33,7 +34,7 @@ pub fn is_packet_size(p: usize) -> bool
     p == 64
 }
 
-// Which creation rule is violated first.
+// This is the answer for the first creation rule that is violated, or 0.
 fn judged(fixed: Fixed) -> Answer
     ensures { λ r. ⌜ answerOf r ≡ answer (creation fixed) ⌝ }
 {
@@ -55,14 +56,14 @@ fn judged(fixed: Fixed) -> Answer
     Answer::Done
 }
 
-// Whether a device may be so: no creation rule is violated.
+// A device may have these numbers if no creation rule is violated.
 pub(crate) fn creatable(fixed: Fixed) -> bool
     ensures { λ r. ⌜ r ≡ eqb (creation fixed) 0 ⌝ }
 {
     answer_number(judged(fixed)) == 0
 }
 
-// A device that waits for its first wrapper.
+// This device waits for its first wrapper.
 fn blank(fixed: Fixed) -> Device
     ensures { λ r. ⌜ r ≡ newDevice fixed ⌝ }
 {
@@ -77,7 +78,7 @@ fn blank(fixed: Fixed) -> Device
     }
 }
 
-// "No device": all of it is 0.
+// This stands for "no device": every number is 0.
 pub fn none() -> Device
     ensures { λ r. ⌜ r ≡ noDevice ⌝ }
 {
@@ -88,6 +89,7 @@ pub fn none() -> Device
     })
 }
 
+// A device is created with these numbers, or refused.
 pub fn create(fixed: Fixed) -> Created
     ensures { λ r. ⌜ createdOf r ≡ createCall fixed ⌝ }
 {

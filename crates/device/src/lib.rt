@@ -1,4 +1,4 @@
-// The device record, whether it is broken, and a new one.
+// The device record, a test whether it is broken, and its creation.
 pub mod create;
 
 use crate::create::creatable;
@@ -14,19 +14,20 @@ ghost use mathlib.Core.Bool.{true, false};
 ghost use Rattle.device.specs.Device.{isPresent, numbersOf, rebuilt};
 ghost use Rattle.device.specs.Broken.{commandFits, statusFits, isWhole};
 
-// The firmware's status, with the residue reported.
+// This is the firmware's status, with the residue that the host is told.
 pub enum Status {
     Absent,
     Present(CommandStatus, Residue),
 }
 
-// What never changes after creation: the packet size P, the max LUN, and how many bytes the IO buffer has.
+// These numbers never change after creation: the packet size P, the max LUN, and the length of the IO buffer.
 pub struct Fixed {
     pub packetsize: usize,
     pub maxlun: u8,
     pub size: usize,
 }
 
+// The device record holds everything that a poll or a call must know from before.
 pub struct Device {
     pub fixed: Fixed,
     pub state: State,
@@ -36,7 +37,8 @@ pub struct Device {
     pub left: Left,
 }
 
-// Of the record what decides whether it is broken and what a poll does: numbers and small enums, no bytes.
+// These numbers of the record decide whether it is broken and what a poll does. They are numbers and small enums; the command block is
+// not among them.
 pub struct Numbers {
     pub fixed: Fixed,
     pub state: State,
@@ -48,6 +50,7 @@ pub struct Numbers {
     pub left: Left,
 }
 
+// This says whether a status is present.
 pub fn present(status: Status) -> bool
     ensures { λ r. ⌜ r ≡ isPresent status ⌝ }
 {
@@ -57,6 +60,7 @@ pub fn present(status: Status) -> bool
     }
 }
 
+// These are the numbers of the record `d` that decide.
 pub fn numbers_of(d: Device) -> Numbers
     ensures { λ r. ⌜ r ≡ numbersOf d ⌝ }
 {
@@ -78,7 +82,8 @@ pub fn numbers_of(d: Device) -> Numbers
     }
 }
 
-// The record with these parts, and all else as it was. Every change of a record goes through here.
+// The record `d` gets these parts, and what creation fixed stays. Every change of a record goes through here, except a change of the
+// marks alone.
 pub fn rebuilt(
     d: Device,
     state: State,
@@ -100,6 +105,7 @@ pub fn rebuilt(
     }
 }
 
+// This says whether LUN and block length are in their bounds.
 fn command_fits(lun: u8, blocklength: u8) -> bool
     ensures { λ r. ⌜ r ≡ commandFits lun blocklength ⌝ }
 {
@@ -109,7 +115,7 @@ fn command_fits(lun: u8, blocklength: u8) -> bool
     false
 }
 
-// Whether a status may be there in a state.
+// This says whether a status may be present in this `state`.
 fn takes_one(state: State) -> bool
     ensures { λ r. ⌜ r ≡ statusFits state true ⌝ }
 {
@@ -126,7 +132,7 @@ fn takes_one(state: State) -> bool
     }
 }
 
-// Whether a status may be missing in a state.
+// This says whether a status may be missing in this `state`.
 fn does_without(state: State) -> bool
     ensures { λ r. ⌜ r ≡ statusFits state false ⌝ }
 {
@@ -143,6 +149,7 @@ fn does_without(state: State) -> bool
     }
 }
 
+// This says whether a status may be `present`, or missing, in this `state`.
 fn status_fits(state: State, present: bool) -> bool
     ensures { λ r. ⌜ r ≡ statusFits state present ⌝ }
 {
@@ -152,7 +159,7 @@ fn status_fits(state: State, present: bool) -> bool
     does_without(state)
 }
 
-// Not broken, over an IO buffer of so many bytes.
+// This says whether a record with the numbers `n` is whole, that is not broken, over an IO buffer of `len` bytes.
 pub fn whole(n: Numbers, len: usize) -> bool
     ensures { λ r. ⌜ r ≡ isWhole n len ⌝ }
 {

@@ -1,6 +1,6 @@
--- What the law of a thin call (`Law.antt`) is told of each call: its parameters behind the record, and its promise, in which the record d
--- and the arguments a are those at entry, and the record d′, the answer r and the arguments z those at exit. Each promise is the call's
--- `ensures`; `Unique.antt` shows it. Assumes nothing.
+-- The law of a thin call (`Law.antt`) is given these for each call: its parameters after the record, and its promise. In a promise the
+-- record d and the arguments a are those at entry; the record d′, the answer r and the arguments z are those at exit. Each promise is the
+-- call's `ensures`, as `Unique.antt` shows. Assumes nothing.
 use mathlib.Core.Path.{_≡_}
 use mathlib.Core.List.{List, [], _∷_}
 use denote.Ref.{now}

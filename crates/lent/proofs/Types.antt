@@ -1,4 +1,5 @@
--- The plain types that the calls name, as `Data.antt` asks for them, of the modules that a check makes of each type. Assumes nothing.
+-- The plain types that the calls name, as `Data.antt` asks for them, made from the modules that a check makes of each type. Assumes
+-- nothing.
 use mathlib.Core.Path.{refl}
 use Rattle.thin.proofs.Data.{Data, Pair, struct-data, enum-data, struct-pair}
 use Rattle.answers.proofs.Answer as Answer

@@ -1,6 +1,6 @@
--- No second answer satisfies a promise, and the reference holds no second record: what the `ensures` of a lent call says is true of one
--- record at exit alone, of one answer, and of one content of the slices that the call may write to. So it is, since it is so of the calls by
--- value. Assumes nothing.
+-- No second answer satisfies a promise, and the reference holds no second record: only one record at exit, one answer and one content of
+-- the slices that the call may write to make the `ensures` of a lent call true. This follows from the same fact about the calls by value.
+-- Assumes nothing.
 use mathlib.Core.Path.{_≡_, ap}
 use mathlib.Core.List.{List}
 use Prim.Native.Nat.{ℕ}
@@ -35,9 +35,9 @@ use Rattle.lent.proofs.try_write_data_all as try-write-data-all
 use Rattle.lent.proofs.reset as reset
 use Rattle.lent.proofs.control as control
 
--- ---- the promises are the contracts: what is read below of a promise is read of the call's own clause
+-- ---- the promises are the contracts: what is shown below of a promise holds of the call's own clause
 
--- the clause that a call ensures and the fact φ: each follows from the other
+-- The clause that a call ensures and the fact φ follow from each other.
 abbrev Reads : {M : Type 1} (𝓤 : URA M) (T : Ended) → Clauses 𝓤 T
     → ((κs : Lfts (T .signature .lifetimes)) → Args (T .signature) κs → Res (T .signature) κs → AtExit T κs → Type 0) → Type 1
 Reads 𝓤 T c φ =
@@ -69,14 +69,15 @@ module _ {M : Type 1} (𝓤 : URA M) (H : Heap 𝓤) (A : Atoms 𝓤) (m : Memor
 
 -- ---- no second answer
 
--- two outcomes of a promise for the same record and the same arguments are the same: the record, the answer, and what `look` sees at exit
+-- Two outcomes of a promise, for the same record and the same arguments, are the same: the record, the answer, and what `look` sees at
+-- exit.
 abbrev Only : {B : Type 0} (D X : Data) (O : Pair D X) {n : ℕ} (ks : List (Kind n)) → Promise D X O ks
     → ((κs : Lfts n) → Outs κs (slots ks) (all yes (slots ks)) → B) → Type 0
 Only D X O {n} ks P look =
     (κs : Lfts n) (d : D .row .Denot) (a : Denots (typesAt (slots ks) κs)) (x y : D .row .Denot) (r s : X .row .Denot)
     (z w : Outs κs (slots ks) (all yes (slots ks))) → P κs d a x r z → P κs d a y s w → (x ≡ y) × (r ≡ s) × (look κs z ≡ look κs w)
 
--- what is one of the core's answer, the record with what it reports, is one of both
+-- If the core's answer, the record with what it reports, is the same, then so are both of its parts.
 apart : {B : Type 0} (D X : Data) (O : Pair D X) (m m′ : O .row .Denot) {u v : B} → (m ≡ m′) × (u ≡ v) → (O .fst m ≡ O .fst m′) × (O .snd m ≡ O .snd m′) × (u ≡ v)
 apart D X O m m′ e = (ap (O .fst) (e .0), ap (O .snd) (e .0), e .1)
 

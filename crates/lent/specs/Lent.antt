@@ -1,5 +1,5 @@
--- What a call over a lent record comes to: the record that the reference holds at exit and what the call returns, as the definitions of
--- `bbb` and `calls` read them where both come back by value. Assumes nothing: these are definitions.
+-- The result of a call over a lent record: `d` is the record that the reference holds after the call. Together with what the call returns
+-- it is read as the definitions of `bbb` and `calls` read a result by value. Assumes nothing: these are definitions.
 use Prim.Native.Nat.{ℕ}
 use mathlib.Core.List.{List}
 use Rattle.answers.specs.declared.Answer.{Answer}
@@ -12,18 +12,19 @@ use Rattle.calls.specs.Status.{Stating, statedOf}
 use Rattle.calls.specs.Data.{Moving, movedOf}
 use Rattle.calls.specs.Bus.{Handling, handledOf}
 
--- a poll: beside the record, what it reports, the IO buffer and the packet buffer
+-- A poll leaves the record `d`, the IO buffer `io` and the packet buffer `packet`, and returns its `report`.
 abbrev pub pollingWith : Device → Report → List ℕ → List ℕ → Polling
 pollingWith d report io packet = pollingOf (record { device = d; report = report }) io packet
 
--- a status
+-- `set_status` leaves the record `d` and returns the `answer`.
 abbrev pub statingWith : Device → Answer → Stating
 statingWith d answer = statedOf (record { device = d; answer = answer })
 
--- data: beside the record, the answer with the count, and the bytes of what the call may write to
+-- A read or write leaves the record `d` and returns the answer with its `count`; `bytes` is the slice that it may write to, after the
+-- call.
 abbrev pub movingWith : Device → Count → List ℕ → Moving
 movingWith d count bytes = movedOf (record { device = d; report = count }) bytes
 
--- a reset or a request
+-- A reset or a control request leaves the record `d` and returns its `report`.
 abbrev pub handlingWith : Device → Controlled → Handling
 handlingWith d report = handledOf (record { device = d; report = report })

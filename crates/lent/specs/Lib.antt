@@ -1,3 +1,3 @@
--- What a reader of the lent calls must believe beside the definitions of `bbb` and `calls`.
---     Lent    what a call over a lent record comes to
+-- What a reader must believe about the lent calls, besides the definitions of `bbb` and `calls`.
+--     Lent    the result of a call over a lent record
 pub mod Lent

@@ -1,7 +1,7 @@
-// "The firmware keeps one device record": it lends the record to a call, and finds the record of after the call in its place. Each call
-// here is thin: it takes the record out, makes the call of that name on the record by value, and puts back the record that came out.
-// Every call takes any record, any buffers and any numbers, and promises what the call by value promises, of what the reference holds
-// at entry and at exit.
+// "The firmware keeps one device record" and lends it to a call; after the call the record has changed in its place. Each call here is
+// thin: it takes the record `d` out of the reference, makes the call of the same name on it by value, and puts the new record back. Every
+// call takes any record, any buffers and any numbers. It promises what the call by value promises, for what the reference holds at entry
+// and at exit.
 use answers::Answer;
 use bbb::Report;
 use bbb::Turn;
@@ -17,7 +17,7 @@ ghost use Rattle.calls.specs.Data.{readCall, writeCall, writeAllCall};
 ghost use Rattle.calls.specs.Bus.{resetCall, controlCall};
 ghost use Rattle.lent.specs.Lent.{pollingWith, statingWith, movingWith, handlingWith};
 
-// One poll.
+// This makes one poll.
 pub fn poll(
     d: &mut Device,
     io: &mut [u8],
@@ -34,7 +34,7 @@ pub fn poll(
     r.report
 }
 
-// The status of the command.
+// The firmware sets the status of the command.
 pub fn set_status(d: &mut Device, io: &[u8], given: FirmwareStatus) -> Answer
     ensures { λ r. ⌜ statingWith (now (d .exit)) r ≡ setStatusCall (now (d .entry)) (now (io .entry)) given ⌝ }
 {
@@ -44,7 +44,7 @@ pub fn set_status(d: &mut Device, io: &[u8], given: FirmwareStatus) -> Answer
     r.answer
 }
 
-// The first unread bytes go to dst.
+// The first unread bytes go to `dst`.
 pub fn read_data(d: &mut Device, dst: &mut [u8], io: &[u8]) -> Count
     ensures { λ r. ⌜ movingWith (now (d .exit)) r (now (dst .exit)) ≡ readCall (now (d .entry)) (now (io .entry)) (now (dst .entry)) ⌝ }
 {
@@ -54,7 +54,7 @@ pub fn read_data(d: &mut Device, dst: &mut [u8], io: &[u8]) -> Count
     r.report
 }
 
-// What fits of src goes into the buffer.
+// The first bytes of `src` go into the buffer: as many as fit, and no more than are left.
 pub fn write_data(d: &mut Device, io: &mut [u8], src: &[u8]) -> Count
     ensures { λ r. ⌜ movingWith (now (d .exit)) r (now (io .exit)) ≡ writeCall (now (d .entry)) (now (io .entry)) (now (src .entry)) ⌝ }
 {
@@ -64,7 +64,7 @@ pub fn write_data(d: &mut Device, io: &mut [u8], src: &[u8]) -> Count
     r.report
 }
 
-// All of src goes into the buffer, or nothing.
+// All of `src` goes into the buffer, or nothing.
 pub fn try_write_data_all(d: &mut Device, io: &mut [u8], src: &[u8]) -> Count
     ensures { λ r. ⌜ movingWith (now (d .exit)) r (now (io .exit)) ≡ writeAllCall (now (d .entry)) (now (io .entry)) (now (src .entry)) ⌝ }
 {
@@ -84,7 +84,7 @@ pub fn reset(d: &mut Device, io: &[u8]) -> Controlled
     r.report
 }
 
-// A control request.
+// This handles a control request.
 pub fn control(d: &mut Device, io: &[u8], request: Request) -> Controlled
     ensures { λ r. ⌜ handlingWith (now (d .exit)) r ≡ controlCall (now (d .entry)) (now (io .entry)) request ⌝ }
 {

@@ -1,4 +1,4 @@
--- Laws of one packet: what each way through a function owes (`ways`). Assumes nothing.
+-- Laws of one packet: what has to be shown for each way through a function (`ways`). Assumes nothing.
 use mathlib.Core.Path.{_≡_, refl, sym, ap, _∙_}
 use mathlib.Core.Bool.{Bool, true, false, not, cond}
 use mathlib.Core.List.{List, []}
@@ -38,7 +38,7 @@ moves-most e n h = rw h (by (serves e))
     by true = omega arith
     by false = omega arith
 
--- what the endpoint hands over
+-- These laws are about what the endpoint hands over.
 module _ (e : Endpoint) (packet : List ℕ) {b : Bool} (h : b ≡ serves e) where
   pub handed-all : b ≡ true → packet ≡ handed e packet
   unfolding handed
@@ -66,7 +66,7 @@ module _ (t : Put) (e : Endpoint) (n : ℕ) where
   pub reports-none : t .done ≡ false → Reports t e n (record { answer = IoBufferOverflow; taken = false; count = 0; marks = t .marks })
   reports-none q = record { answer = rw q; taken = rw q; count = rw q; marks = refl }
 
--- a test that was taken the other way round
+-- This turns a test that the code makes the other way round.
 unless : {A : Type 0} (b : Bool) (x y : A) → cond (not b) x y ≡ cond b y x
 unless true x y = refl
 unless false x y = refl
@@ -95,7 +95,7 @@ module _ (e : Endpoint) (n : ℕ) where
   unfolding sendAnswer
   sends-something o q h = rw (ne-eqb _ _ q) h
 
--- an endpoint that does its part answers 0, with nothing unread too
+-- An endpoint that does its part answers 0, even with nothing unread.
 pub answers-0 : (e : Endpoint) → serves e ≡ true → answeredBy e ≡ answer 0
 answers-0 Served h = refl
 answers-0 Busy h = ap (λ (b : Bool). cond b (answer 0) (answer 6)) h
@@ -106,12 +106,12 @@ unfolding sendAnswer
 answer-served e n serving = of-picked (λ (t : Answering). t ≡ answer 0) (eqb n 0) (λ _. refl) (λ _. answers-0 e serving)
 
 module _ (p : ℕ) (e : Endpoint) (s : Buffer) where
-  -- nothing is sent where the endpoint does not do its part
+  -- Nothing is sent if the endpoint does not do its part.
   pub sent-unserved : serves e ≡ false → sentCount p e s ≡ 0
   unfolding sentCount ready accepted
   sent-unserved idle = rw idle (min-zero (unread s))
 
-  -- then the buffer and the packet buffer stay
+  -- If nothing is sent, the buffer and the packet buffer stay.
   module _ (k : sentCount p e s ≡ 0) where
     pub off-nothing : sentOff p e s ≡ s
     unfolding sentCount sentOff readOff

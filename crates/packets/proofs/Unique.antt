@@ -1,5 +1,5 @@
--- No second answer satisfies a promise, and no second content of the slice that it may write to. `Post` is the contract itself, as the
--- check reads it. Assumes nothing.
+-- No second answer satisfies a promise, and no second content of the slice that a function may write to. `Post` is the contract itself,
+-- as the check reads it. Assumes nothing.
 use mathlib.Core.Path.{_≡_, sym, ap, _∙_}
 use mathlib.Core.Bool.{Bool}
 use mathlib.Core.List.{List}
@@ -24,7 +24,7 @@ use Rattle.packets.proofs.fill.Reads as fill
 use Rattle.packets.proofs.put_status.Kinds as put-status-kinds
 use Rattle.packets.proofs.put_status.Reads as put-status
 
--- a record is told by its parts
+-- A record is determined by its parts.
 abbrev received : Answer → Bool → ℕ → Marks → Received
 received o t n m = record { answer = o; taken = t; count = n; marks = m }
 

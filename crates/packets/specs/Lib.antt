@@ -1,4 +1,4 @@
--- What a reader of one packet must believe.
+-- What a reader must believe about one packet.
 --     Packets    one packet read or sent, and what is written into the buffer before it is sent
 --     Inner      what only inner functions need
 pub mod Packets

@@ -1,4 +1,6 @@
--- One packet: what a read, a send, the fill and the status leave, over the buffer's definitions. Assumes nothing: these are definitions.
+-- One packet: what a read, a send, the fill and the status leave in the buffer. The definitions of crates/buffer/specs/Buffer.antt say
+-- what its operations do. In all of them `p` is the packet size P, `e` is what the endpoint does, and `s` is the IO buffer before.
+-- Assumes nothing: these are definitions.
 use mathlib.Core.Bool.{Bool, false, cond}
 use mathlib.Core.List.{List, []}
 use Prim.Native.Nat.{ℕ, _-_, min}
@@ -14,53 +16,57 @@ use Rattle.wrapper.specs.Status.{statusBytes}
 
 -- ---- "OUT reads (a packet of 0 to P bytes, busy, or an error)"
 
--- What the endpoint hands over: the packet, where it does its part.
+-- The endpoint hands over the `packet` that it offers if it does its part, and nothing otherwise.
 unfoldable pub handed : Endpoint → List ℕ → List ℕ
 handed e packet = cond (serves e) packet []
 
--- "1: room, after moving, is below P (packet read)"; only then is the endpoint asked.
+-- A read answers 1 if "room, after moving, is below P (packet read)". Otherwise the endpoint is asked and gives the answer.
 unfoldable pub readAnswer : ℕ → Endpoint → Buffer → Answering
 readAnswer p e s = cond (lacksRoom p s) (answer 1) (answeredBy e)
 
--- Whether a packet was taken, and how many bytes it brought.
+-- A packet is taken if there is room for `p` bytes and the endpoint does its part.
 unfoldable pub takesOne : ℕ → Endpoint → Buffer → Bool
 takesOne p e s = cond (lacksRoom p s) false (serves e)
 
+-- This is the number of bytes that the `packet` brings, 0 if none is taken.
 unfoldable pub brought : ℕ → Endpoint → List ℕ → Buffer → ℕ
 brought p e packet s = cond (lacksRoom p s) 0 (length (handed e packet))
 
--- The buffer then: room was made for P bytes, and what was handed over stands behind the write mark.
+-- This is the buffer after a read. If room for `p` bytes is missing, the unread bytes move to the front; if there is room then, what was
+-- handed over stands after them.
 unfoldable pub received : ℕ → Endpoint → List ℕ → Buffer → Buffer
 received p e packet s = writtenAll p (handed e packet) s
 
 -- ---- "one IN write (accepted whole, busy, or an error)"
 
--- How many bytes IN may take: P where it does its part.
+-- IN accepts up to `p` bytes if it does its part, and none otherwise.
 unfoldable pub accepted : Endpoint → ℕ → ℕ
 accepted e p = cond (serves e) p 0
 
--- "nothing unread sends nothing, answer 0"
+-- `unread` is how many bytes are unread before a send. "nothing unread sends nothing, answer 0"; otherwise the endpoint gives the answer.
 unfoldable pub sendAnswer : Endpoint → ℕ → Answering
 sendAnswer e unread = cond (eqb unread 0) (answer 0) (answeredBy e)
 
--- "send min(P, unread)": so many bytes, and the buffer and the packet buffer then.
+-- This is the number of bytes sent: "send min(P, unread)" if IN does its part, and 0 otherwise.
 unfoldable pub sentCount : ℕ → Endpoint → Buffer → ℕ
 sentCount p e s = ready (accepted e p) s
 
+-- This is the buffer after the send: the bytes that were sent count as read.
 unfoldable pub sentOff : ℕ → Endpoint → Buffer → Buffer
 sentOff p e s = readOff (accepted e p) s
 
--- "The packet buffer holds the sent bytes in front, the rest unchanged."
+-- This is the packet buffer after the send; it was `packet`. "The packet buffer holds the sent bytes in front, the rest unchanged."
 unfoldable pub sentInto : ℕ → Endpoint → Buffer → List ℕ → List ℕ
 sentInto p e s packet = overlay packet 0 (given (accepted e p) s)
 
 -- ---- what is written before it is sent
 
--- "if fewer than min(left, P) bytes are unread, fill with 0xFF to that number": by none where there are as many. (A difference of ℕ is
--- 0 where it would be below.)
+-- This is the buffer `s` as state 6 sends from it: "if fewer than min(left, P) bytes are unread, fill with 0xFF to that number". If that
+-- many are unread, nothing is filled in: a difference of ℕ is 0 where it would be below 0.
 unfoldable pub filledUp : ℕ → Left → Buffer → Buffer
 filledUp p left s = filled 0xFF (min (left .0) p - unread s) s
 
--- "empties the buffer, writes the status into it"
+-- The status with this `tag`, this `residue` and the number `status` is put into the buffer `s`: 3 "empties the buffer, writes the status
+-- into it".
 unfoldable pub withStatus : ℕ → Residue → ℕ → Buffer → Buffer
 withStatus tag residue status s = written (statusBytes tag residue status) (emptied s)

@@ -1,4 +1,4 @@
-// One packet: read into the IO buffer or sent from it, and what is written into the buffer before it is sent.
+// One packet is read into the IO buffer or sent from it; before a send the buffer may be filled up or get the status.
 use answers::Answer;
 use answers::Endpoint;
 use answers::answered;
@@ -20,7 +20,7 @@ ghost use Rattle.wrapper.specs.Status.{statusNumber};
 ghost use Rattle.packets.specs.Packets.{sendAnswer, filledUp, withStatus};
 ghost use Rattle.packets.specs.Inner.Packets.{Reports, Reads, Sends};
 
-// After a packet was asked of OUT: the answer, whether a packet was taken, of how many bytes, and the marks.
+// After OUT was asked for a packet, these are the answer, whether a packet was taken, how many bytes it brought, and the marks.
 pub struct Received {
     pub answer: Answer,
     pub taken: bool,
@@ -28,14 +28,14 @@ pub struct Received {
     pub marks: Marks,
 }
 
-// After a packet was offered to IN: the answer, how many bytes it took, and the marks.
+// After a packet was offered to IN, these are the answer, how many bytes IN took, and the marks.
 pub struct Sent {
     pub answer: Answer,
     pub count: usize,
     pub marks: Marks,
 }
 
-// What is reported of a read for which room was asked, and n bytes put in where there was room.
+// A read reports this after room was asked for: `t` is what came of that, and `n` bytes were put in if there was room.
 fn reported(t: Put, out: Endpoint, n: usize) -> Received
     ensures { λ r. ⌜ Reports t out n r ⌝ }
 {
@@ -56,7 +56,7 @@ fn reported(t: Put, out: Endpoint, n: usize) -> Received
     }
 }
 
-// One packet from OUT. Room for p bytes is asked for before the endpoint, and so also where that is busy.
+// One packet is read from OUT. Room for `p` bytes is asked for before the endpoint is, so the unread bytes may move even if OUT is busy.
 pub fn read_packet(io: &mut [u8], m: Marks, p: usize, out: Endpoint, packet: &[u8]) -> Received
     requires { ⌜ Sound (buffer (now io) m) × (length (now packet) ≤ p) ⌝ }
     ensures { λ r. ⌜ Reads p out (now (packet .entry)) (buffer (now (io .entry)) m) r (now (io .exit)) ⌝ }
@@ -69,7 +69,7 @@ pub fn read_packet(io: &mut [u8], m: Marks, p: usize, out: Endpoint, packet: &[u
     reported(t, out, 0)
 }
 
-// With nothing unread the endpoint is not asked.
+// With nothing unread the endpoint is not asked, and the answer is 0.
 fn send_answer(unread: usize, e: Endpoint) -> Answer
     ensures { λ r. ⌜ answerOf r ≡ sendAnswer e unread ⌝ }
 {
@@ -79,7 +79,7 @@ fn send_answer(unread: usize, e: Endpoint) -> Answer
     answered(e)
 }
 
-// One packet to IN: at most p unread bytes go to the packet buffer's front.
+// One packet is sent to IN: up to `p` unread bytes go to the front of the packet buffer.
 pub fn send_packet(io: &[u8], m: Marks, p: usize, e: Endpoint, packet: &mut [u8]) -> Sent
     requires { ⌜ Sound (buffer (now io) m) × (p ≤ length (now packet)) ⌝ }
     ensures { λ r. ⌜ Sends p e (buffer (now (io .entry)) m) (now (packet .entry)) r (now (packet .exit)) ⌝ }
@@ -100,7 +100,7 @@ pub fn send_packet(io: &[u8], m: Marks, p: usize, e: Endpoint, packet: &mut [u8]
     }
 }
 
-// 0xFF up to min(left, p) unread bytes.
+// The buffer is filled with 0xFF until min(`left`, `p`) bytes are unread.
 pub fn fill(io: &mut [u8], m: Marks, p: usize, left: Left) -> Marks
     requires { ⌜ Sound (buffer (now io) m) ⌝ }
     ensures { λ r. ⌜ Leaves (buffer (now (io .exit)) r) (filledUp p left (buffer (now (io .entry)) m)) ⌝ }
@@ -114,7 +114,7 @@ pub fn fill(io: &mut [u8], m: Marks, p: usize, left: Left) -> Marks
     m
 }
 
-// The buffer is emptied and the status written into it.
+// The buffer is emptied, and the status is written into it.
 pub fn put_status(io: &mut [u8], tag: u32, residue: Residue, status: CommandStatus) -> Marks
     ensures { λ r. ⌜ Leaves (buffer (now (io .exit)) r) (withStatus tag residue (statusNumber status) (buffer (now (io .entry)) (at 0 0))) ⌝ }
 {

@@ -1,4 +1,4 @@
--- To unfold this is to unfold all that cases over this crate's definitions compute with. Assumes nothing.
+-- Whoever unfolds this unfolds everything that cases over this crate's definitions compute with. Assumes nothing.
 use Rattle.wrapper.proofs.Computing as wrapper
 use Rattle.ring.specs.States.{stateOfNumber}
 use Rattle.recordbytes.specs.Record.{isKnown, statusBy, statusAt, marksAt, wrapperAt, fixedAt, deviceAt, store, storeState, storeMarks, storeLeft, storeWrapper, storeDevice, newRecord}

@@ -1,4 +1,4 @@
--- proofs.Reading      what each way through a function that reads owes
+-- proofs.Reading      what has to be shown for each way through a function that reads
 -- proofs.Storing      what storing one number leaves
 -- proofs.Stored       what storing many leaves
 -- proofs.Parts        the parts of a device

@@ -1,5 +1,5 @@
--- The parts of a device, stored one after the other as `storeDevice` has them: a part that did not change writes nothing, whatever was
--- stored before it. So a call that stores the parts that it changes leaves the bytes of the whole device.
+-- The parts of a device are stored one after the other, as `storeDevice` has them. A part that did not change writes nothing, whatever
+-- was stored before it. So a call that stores the parts that it changes leaves the bytes of the whole device.
 --     device-kept                  nothing changed
 --     status-alone, marks-alone    one part changed
 --     entered                      status, state and left changed
@@ -31,7 +31,7 @@ use Rattle.recordbytes.specs.Record.{statusAt, marksAt, wrapperAt, devic
 use Rattle.recordbytes.proofs.Storing.{isApart}
 use Rattle.recordbytes.proofs.Stored.{Write, write, storeAll, areWithin, areApart, length-all, get-elsewhere, Known, state-kept, marks-kept, left-kept, status-kept, wrapper-kept}
 
--- ---- behind numbers that stand elsewhere
+-- ---- after numbers that stand elsewhere
 
 module _ (r : List ℕ) (k : Known r) (ws : List Write) (within : areWithin 52 ws ≡ true) where
   reads : (g : Field) → areApart g ws ≡ true → get g (storeAll ws r) ≡ get g r
@@ -49,19 +49,19 @@ module _ (r : List ℕ) (k : Known r) (ws : List Write) (within : areWithin 52 w
 
 -- ---- a call's parts
 
--- the numbers of a status
+-- These are the numbers of a status.
 abbrev pub statusWrites : Status → List Write
 statusWrites Absent = write field.present 0 ∷ []
 statusWrites (Present byte residue) = write field.present 1 ∷ write field.residue (residue .0) ∷ write field.status (statusNumber byte) ∷ []
 
--- the numbers of a wrapper; its block is laid over behind them
+-- These are the numbers of a wrapper; its block is stored after them.
 abbrev pub wrapperWrites : Wrapper → List Write
 wrapperWrites w =
     write field.direction (directionNumber (w .direction)) ∷ write field.lun (w .lun) ∷ write field.blockLength (w .blocklength)
     ∷ write field.tag (w .tag) ∷ write field.declared (w .length) ∷ []
 
 module _ (r : List ℕ) (long : length r ≡ field.recordSize) (w : Wrapper) (sixteen : length (w .block) ≡ 16) where
-  -- a field in front of the block, which is laid over behind it
+  -- This is about a field with a place below the block, which is stored later.
   pub before-block : (g : Field) → g .start + g .width ≤ 36 → get g (storeWrapper w r) ≡ get g (storeAll (wrapperWrites w) r)
   unfolding storeWrapper get bytesAt
   before-block g h =
@@ -69,7 +69,7 @@ module _ (r : List ℕ) (long : length r ≡ field.recordSize) (w : Wrapper) (si
       let whole : length q ≡ 52 = length-all 52 (wrapperWrites w) r long refl in
       ap (λ (l : List ℕ). counted (ordered (g .order) l)) (part-before q 36 (w .block) (g .start) (g .width) h (omega arith))
 
-  -- and apart from the wrapper's numbers
+  -- This field also stands apart from the wrapper's numbers.
   pub behind-wrapper : (g : Field) → g .start + g .width ≤ 36 → areApart g (wrapperWrites w) ≡ true → get g (storeWrapper w r) ≡ get g r
   behind-wrapper g h a = before-block g h ∙ get-elsewhere 52 g (wrapperWrites w) r long refl a
 
@@ -112,7 +112,7 @@ module _ (r : List ℕ) (k : Known r) where
     unfolding storeDevice deviceAt
     parsed s m l = ap (λ (q : List ℕ). storeLeft l (storeMarks m (storeState s q))) status-behind-wrapper
 
-  -- what did not change, behind a status; and behind a status and a state
+  -- These parts did not change, after a status was stored, or a status and a state.
   state-next : (x : Status) → storeState state₀ (storeStatus x r) ≡ storeStatus x r
   unfolding isApart
   state-next Absent = state-behind r k (statusWrites Absent) refl refl
@@ -132,12 +132,12 @@ module _ (r : List ℕ) (k : Known r) where
   unfolding deviceAt
   entered x s l = polled x s (marksAt r) l ∙ ap (storeLeft l) (marks-next x s)
 
-  -- a status and marks: state and left stay
+  -- A status and marks changed: state and left stay.
   status-marks : (x : Status) (m : Marks) → storeDevice (withMarks m (withStatus x (deviceAt r))) r ≡ storeMarks m (storeStatus x r)
   unfolding deviceAt
   status-marks x m = polled x state₀ m left₀ ∙ ap (λ (q : List ℕ). storeLeft left₀ (storeMarks m q)) (state-next x) ∙ left-next x m
 
-  -- state, marks and left; and marks and left
+  -- State, marks and left changed, or marks and left.
   pub moved-to : (s : State) (m : Marks) (l : Left) → storeDevice (inState s (withMarks m (withLeft l (deviceAt r)))) r ≡ storeLeft l (storeMarks m (storeState s r))
   unfolding deviceAt
   moved-to s m l = polled (statusAt r) s m l ∙ ap (λ (q : List ℕ). storeLeft l (storeMarks m (storeState s q))) status-stays

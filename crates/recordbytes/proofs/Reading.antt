@@ -1,4 +1,4 @@
--- Laws of reading a record: what each way through a function owes (`ways`). Assumes nothing.
+-- Laws of reading a record: what has to be shown for each way through a function (`ways`). Assumes nothing.
 use mathlib.Core.Path.{_≡_, sym}
 use mathlib.Core.Bool.{false}
 use mathlib.Core.List.{List}

@@ -1,8 +1,8 @@
 -- The round trip of the record.
 --     back, back-known         a device that was stored is read back, and the bytes are still a record
 --     new-holds, new-known     the bytes of a new device are a record, and hold it
---     of-read, of-new          where the first two apply: each record is that of the device which it holds, and a new one is a new device's
--- With `Parts.device-kept`, by which storing back what was read changes no byte, these are the two laws of a record that is read and
+--     of-read, of-new          when the first two apply: each record is that of the device which it holds, and a new one is a new device's
+-- By `Parts.device-kept`, storing back what was read changes no byte. With it these are the two laws of a record that is read and
 -- written: nothing is lost on the way into the bytes, and nothing on the way out. Assumes nothing.
 use mathlib.Core.Path.{_≡_, refl, sym, ap, _∙_}
 use mathlib.Core.Bool.{true, _&&_}
@@ -46,7 +46,7 @@ a-byte n k h b = omega (arith, leb-true n k h)
 -- ---- the wrapper's fields
 
 module _ (r : List ℕ) (long : length r ≡ field.recordSize) (w : Wrapper) (sixteen : length (w .block) ≡ 16) where
-  -- one of the wrapper's numbers: the block is laid over behind it
+  -- This is one of the wrapper's numbers; the block is stored after it.
   in-wrapper : (before : List Write) (g : Field) (x : ℕ) (after : List Write) → before ++ (write g x ∷ after) ≡ wrapperWrites w
       → g .start + g .width ≤ 36 → areApart g after ≡ true → x < 256 ^ g .width → get g (storeWrapper w r) ≡ x
   in-wrapper before g x after e h a b =
@@ -67,7 +67,7 @@ module _ (r : List ℕ) (long : length r ≡ field.recordSize) (w : Wrapper) (si
 
 -- ---- the status's fields
 
--- a field apart from all three of them
+-- The field stands apart from all three of them.
 abbrev besideStatus : Field → Type 0
 besideStatus g = areApart g (statusWrites (Present Passed (record { 0 = 0 }))) ≡ true
 
@@ -89,7 +89,7 @@ module _ (q : List ℕ) (long : length q ≡ field.recordSize) where
       let byte = get-there 52 (write field.present 1 ∷ write field.residue (x .0) ∷ []) field.status (statusNumber b) [] q long refl refl (a-byte _ 2 (status-small b) (lit< tt)) in
       rw (flag, residue, byte, status-back b)
 
-  -- what a test of flag and status byte sees
+  -- A test of the flag and the status byte sees these.
   flag-small : (s : Status) → get field.present (storeStatus s q) ≤ 1
   unfolding isApart
   flag-small Absent = rw (get-there 52 [] field.present 0 [] q long refl refl (lit< tt)) (leb-true 0 1 refl)
@@ -104,12 +104,12 @@ module _ (q : List ℕ) (long : length q ≡ field.recordSize) where
 
 -- ---- the whole device
 
--- the numbers that are stored last
+-- These numbers are stored last.
 abbrev lastWrites : Device → List Write
 lastWrites d = write field.state (stateNumber (d .state)) ∷ write field.readMark (d .marks .read) ∷ write field.writeMark (d .marks .write) ∷ write field.left (d .left .0) ∷ []
 
 module _ (d : Device) (r : List ℕ) (long : length r ≡ field.recordSize) (sixteen : length (d .wrapper .block) ≡ 16) where
-  -- behind the wrapper, and behind wrapper and status
+  -- These are the bytes after the wrapper was stored, and after wrapper and status were.
   abbrev first : List ℕ
   first = storeWrapper (d .wrapper) r
 
@@ -129,14 +129,14 @@ module _ (d : Device) (r : List ℕ) (long : length r ≡ field.recordSize) (six
   pub length-device : length (storeDevice d r) ≡ field.recordSize
   length-device = rw in-turn (length-all 52 (lastWrites d) second length-second refl)
 
-  -- a field that is stored last
+  -- This is a field among those that are stored last.
   at-last : (before : List Write) (g : Field) (x : ℕ) (after : List Write) → before ++ (write g x ∷ after) ≡ lastWrites d → areApart g after ≡ true → x < 256 ^ g .width → get g (storeDevice d r) ≡ x
   at-last before g x after e a b =
       ap (get g) in-turn
       ∙ ap (λ (ws : List Write). get g (storeAll ws second)) (sym e)
       ∙ get-there 52 before g x after second length-second (ap (areWithin 52) e) a b
 
-  -- a field of the status, and one of the wrapper or of none
+  -- This is a field of the status, or one of the wrapper or of none.
   of-status : (g : Field) → areApart g (lastWrites d) ≡ true → get g (storeDevice d r) ≡ get g second
   of-status g a = rw in-turn (get-elsewhere 52 g (lastWrites d) second length-second refl a)
 
@@ -147,11 +147,11 @@ module _ (d : Device) (r : List ℕ) (long : length r ≡ field.recordSize) (six
   unfolding get
   of-first g a b = rw (bytes-first g a b)
 
-  -- a field that no part of a device stands in
+  -- No part of a device stands in this field.
   of-none : (g : Field) → areApart g (lastWrites d) ≡ true → besideStatus g → g .start + g .width ≤ 36 → areApart g (wrapperWrites (d .wrapper)) ≡ true → get g (storeDevice d r) ≡ get g r
   of-none g a b h c = of-first g a b ∙ behind-wrapper r long (d .wrapper) sixteen g h c
 
-  -- what creation wrote stays
+  -- What creation wrote stays.
   fixed-kept : fixedAt (storeDevice d r) ≡ fixedAt r
   unfolding fixedAt isApart
   fixed-kept = rw (of-none field.packetSize refl refl (leb-true 1 36 refl) refl, of-none field.maxLun refl refl (leb-true 2 36 refl) refl, of-none field.size refl refl (leb-true 8 36 refl) refl)
@@ -199,7 +199,7 @@ module _ (d : Device) (r : List ℕ) (long : length r ≡ field.recordSize) (six
       let block = bytes-first field.block refl refl ∙ block-there r long w sixteen in
       sym (reads-wrapper (storeDevice d r) (sym direction-read) (sym (direction-back (w .direction))) (sym block) (sym tag) (sym declared) (sym lun) (sym blocklength))
 
--- what was stored is read
+-- What was stored is read.
 pub back : (d : Device) (r : List ℕ) → Storable d → RecordOf d r → deviceAt (storeDevice d r) ≡ d
 unfolding isApart
 back d r s o =
@@ -213,7 +213,7 @@ back d r s o =
     (sym (status-read d r (o .long) (s .block) (s .residue)))
     (sym (left-read d r (o .long) (s .block) (s .left))))
 
--- and the bytes are a record: without a status its byte stays, so that it must have been one
+-- The bytes are still a record. If there is no status, the status byte stays, so it must have been known before.
 pub back-known : (d : Device) (r : List ℕ) → length r ≡ field.recordSize → length (d .wrapper .block) ≡ 16 → (d .status ≡ Absent → get field.status r ≤ 2) → isKnown (storeDevice d r) ≡ true
 unfolding isApart
 back-known d r long sixteen h =
@@ -248,7 +248,7 @@ module _ (f : Fixed) where
   new-length : length (newRecord f) ≡ field.recordSize
   new-length = rw new-writes (length-all 52 (newWrites f) zeros refl refl)
 
-  -- a field apart from the three has its zeros
+  -- A field apart from the three has its zeros.
   new-bytes : (g : Field) → areApart g (newWrites f) ≡ true → bytesAt g (newRecord f) ≡ bytesAt g zeros
   new-bytes g a = rw new-writes (bytes-elsewhere 52 g (newWrites f) zeros refl refl a)
 

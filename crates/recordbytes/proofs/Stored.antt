@@ -1,8 +1,8 @@
--- Many numbers stored, one after the other: what that leaves of every field. Assumes nothing.
+-- Many numbers are stored, one after the other: what that leaves of every field. Assumes nothing.
 --     storeAll                    a list of fields and numbers, stored in its order
 --     length-all, bytes-elsewhere, get-elsewhere, get-there    the length; a field apart from all of them; the field of one of them
---     is-known, known-is                                       what the test of a record tells, and what passes it
---     state-kept, .., wrapper-kept                             a part of the device that stands there already changes nothing
+--     is-known, known-is                                       what follows if the bytes pass the test of a record, and what passes it
+--     state-kept, .., wrapper-kept                             a part of the device that the bytes hold already changes nothing
 use mathlib.Core.Path.{_≡_, refl, sym, _∙_}
 use mathlib.Core.Bool.{Bool, true, _&&_}
 use mathlib.Core.List.{List, [], _∷_, _++_}
@@ -35,7 +35,7 @@ abbrev pub storeAll : List Write → List ℕ → List ℕ
 storeAll [] r = r
 storeAll (w ∷ ws) r = storeAll ws (store (w .at) (w .number) r)
 
--- whether all of them stand within n bytes, and apart from a field
+-- All of these stand within the first `n` bytes; in `areApart`, apart from the field `g`.
 abbrev pub areWithin : ℕ → List Write → Bool
 areWithin n [] = true
 areWithin n (w ∷ ws) = leb (w .at .start + w .at .width) n && areWithin n ws
@@ -67,7 +67,7 @@ module _ (n : ℕ) where
   unfolding get
   get-elsewhere g ws r e h a = rw (bytes-elsewhere g ws r e h a)
 
-  -- the field of one of them, where none behind it stands there too
+  -- This is the field of one of them, if none that is stored later stands there too.
   pub get-there : (before : List Write) (f : Field) (x : ℕ) (after : List Write) (r : List ℕ) → length r ≡ n → areWithin n (before ++ (write f x ∷ after)) ≡ true
       → areApart f after ≡ true → x < 256 ^ f .width → get f (storeAll (before ++ (write f x ∷ after)) r) ≡ x
   get-there [] f x after r e h a b =
@@ -78,7 +78,7 @@ module _ (n : ℕ) where
 
 -- ---- whether bytes are a record
 
--- what the test of a record tells
+-- These follow if the bytes pass the test of a record.
 pub record Known (r : List ℕ) : Type 0 where
   pub long : length r ≡ field.recordSize
   pub state : get field.state r ≤ 8
@@ -109,7 +109,7 @@ pub known-is : (r : List ℕ) → Known r → isKnown r ≡ true
 unfolding isKnown
 known-is r k = rw (eq-eqb _ _ (k .long), le-leb _ _ (k .state), le-leb _ _ (k .flag), le-leb _ _ (k .status), le-leb _ _ (k .direction))
 
--- ---- a part that stands there already
+-- ---- a part that the bytes hold already
 
 pub state-kept : (r : List ℕ) → get field.state r ≤ 8 → storeState (stateOfNumber (get field.state r)) r ≡ r
 unfolding storeState

@@ -1,7 +1,7 @@
 -- Laws of storing.
 --     length-store, get-stored, bytes-apart    the length stays; the number stored is read; a field apart from it keeps its bytes
---     store-same                               a number that stands there already changes nothing
---     ways                                     what each way through a function owes
+--     store-same                               a number that the field holds already changes nothing
+--     ways                                     what has to be shown for each way through a function
 -- Assumes nothing.
 use mathlib.Core.Path.{_≡_, refl, sym, _∙_}
 use mathlib.Core.Bool.{Bool, true, false, _||_}
@@ -35,7 +35,7 @@ use Rattle.recordbytes.specs.Inner.Storable.{Fixable}
 
 -- ---- one field
 
--- whether one of two fields stands behind the other
+-- One of the two fields stands wholly before the other.
 unfoldable pub isApart : Field → Field → Bool
 isApart f g = leb (g .start + g .width) (f .start) || leb (f .start + f .width) (g .start)
 
@@ -69,7 +69,7 @@ module _ (f : Field) (n : ℕ) (r : List ℕ) where
     unfolding store
     bytes-apart g h = of-picked (λ (l : List ℕ). bytesAt g l ≡ bytesAt g r) (eqb (get f r) n) (λ _. refl) (λ _. put-apart f n r fits g h)
 
--- what a function that stores a number owes
+-- This has to be shown for a function that stores a number.
 module _ (r : List ℕ) (at n : ℕ) where
   pub leaves-byte : {x : ℕ} → at < length r → n < 256 → x ≡ get (oneByte at) r → (x ≡ n → ⊥) → set r at n ≡ store (oneByte at) n r
   leaves-byte h k e q = byte-stored r at n k h ∙ sym (stored-new (oneByte at) n r (λ p. q (e ∙ p)))
@@ -109,7 +109,7 @@ module _ (r : List ℕ) where
   unfolding storeWrapper
   leaves-wrapper h block en ha hb hc hd he hl = rw (he, hd, hc, hb, ha, en) at hl
 
--- zeros hide all that was there
+-- Zeros cover all that was there.
 pub leaves-new : (r : List ℕ) (f : Fixed) → Fixable f → {a b c l : List ℕ} {k : ℕ} → length r ≡ field.recordSize → a ≡ overlay r 0 (replicate 52 0) → b ≡ store field.packetSize (f .packetsize % 256) a
     → c ≡ store field.maxLun (f .maxlun) b → k ≡ f .size → l ≡ store field.size k c → l ≡ newRecord f
 unfolding newRecord

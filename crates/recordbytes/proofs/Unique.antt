@@ -1,6 +1,6 @@
--- No second answer satisfies a promise: what the `ensures` of a public function says is true of one answer alone, and of one content
--- of the record at exit. `Post` is the contract itself, as the check reads it. First the functions that read, then those of `store`.
--- Assumes nothing.
+-- No second answer satisfies a promise: only one answer makes the `ensures` of a public function true, and only one content of the record
+-- at exit. `Post` is the contract itself, as the check reads it. The functions that read come first, then those of `store`. Assumes
+-- nothing.
 use mathlib.Core.Path.{refl, sym, _∙_}
 use denote.Ref.{now}
 use Rattle.fields.proofs.Only.{Only}

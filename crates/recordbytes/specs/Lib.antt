@@ -1,4 +1,4 @@
--- What a reader of the record as bytes must believe.
+-- What a reader must believe about the record as bytes.
 --     Layout    where each field of the record stands
 --     Record    what bytes hold, whether they are a record at all, and what storing a device leaves of them
 --     Cases     cases of layout, reading and storing

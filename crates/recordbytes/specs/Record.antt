@@ -1,4 +1,5 @@
--- What bytes hold, and what storing a device leaves of them. Assumes nothing: these are definitions.
+-- What bytes hold, and what storing a device leaves of them. In all of them `r` is the bytes, and crates/recordbytes/specs/Layout.antt
+-- has the fields. Assumes nothing: these are definitions.
 use Prim.Native.Nat.{ℕ}
 use mathlib.Core.Bool.{Bool, cond, _&&_}
 use mathlib.Core.List.{List}
@@ -22,8 +23,8 @@ use Rattle.recordbytes.specs.Layout as field
 
 -- ---- reading
 
--- whether bytes are a record: 52 of them, and none of them "a number for no state, status or flag"; our own number of the direction is
--- held to the same rule. 01's other rules on broken records are tested on what the bytes hold.
+-- The bytes are a record: there are 52, and none of them is "a number for no state, status or flag". The direction, a number of our own,
+-- must be known too. 01's other rules on broken records are tested on what the bytes hold.
 unfoldable pub isKnown : List ℕ → Bool
 isKnown r =
     eqb (length r) field.recordSize
@@ -32,16 +33,19 @@ isKnown r =
     && (leb (get field.status r) 2
     && leb (get field.direction r) 2)))
 
--- the status: none where the flag is 0
+-- This status is stored as a `flag`, a status `byte` and a `residue`. If the flag is 0 there is none.
 unfoldable pub statusBy : ℕ → ℕ → ℕ → Status
 statusBy flag byte residue = cond (eqb flag 0) Absent (Present (statusOfNumber byte) (record { 0 = residue }))
 
+-- This is the status that the bytes hold.
 unfoldable pub statusAt : List ℕ → Status
 statusAt r = statusBy (get field.present r) (get field.status r) (get field.residue r)
 
+-- These are the marks that the bytes hold.
 unfoldable pub marksAt : List ℕ → Marks
 marksAt r = at (get field.readMark r) (get field.writeMark r)
 
+-- This is the wrapper that the bytes hold.
 unfoldable pub wrapperAt : List ℕ → Wrapper
 wrapperAt r = record {
   tag = get field.tag r;
@@ -52,9 +56,11 @@ wrapperAt r = record {
   block = bytesAt field.block r;
 }
 
+-- These are the numbers that creation fixed: packet size, max LUN, and the length of the IO buffer.
 unfoldable pub fixedAt : List ℕ → Fixed
 fixedAt r = record { packetsize = get field.packetSize r; maxlun = get field.maxLun r; size = get field.size r }
 
+-- This is the device that the bytes hold.
 unfoldable pub deviceAt : List ℕ → Device
 deviceAt r = record {
   fixed = fixedAt r;
@@ -67,24 +73,28 @@ deviceAt r = record {
 
 -- ---- storing
 
--- the number n in a field: where it stands there already the bytes stay
+-- The number `n` is stored in the field `f`. If the field holds it already, no byte is written.
 unfoldable pub store : Field → ℕ → List ℕ → List ℕ
 store f n r = cond (eqb (get f r) n) r (put f n r)
 
+-- The state `s` is stored by 01's number.
 unfoldable pub storeState : State → List ℕ → List ℕ
 storeState s r = store field.state (stateNumber s) r
 
+-- The marks `m` are stored.
 unfoldable pub storeMarks : Marks → List ℕ → List ℕ
 storeMarks m r = store field.writeMark (m .write) (store field.readMark (m .read) r)
 
+-- The count left, `l`, is stored.
 unfoldable pub storeLeft : Left → List ℕ → List ℕ
 storeLeft l r = store field.left (l .0) r
 
--- without a status the flag alone says so: residue and status byte keep what they had
+-- A status is stored. If there is none, only the flag is written: residue and status byte keep what they had.
 abbrev pub storeStatus : Status → List ℕ → List ℕ
 storeStatus Absent r = store field.present 0 r
 storeStatus (Present byte residue) r = store field.status (statusNumber byte) (store field.residue (residue .0) (store field.present 1 r))
 
+-- The wrapper `w` is stored; its command block is written whether it changed or not.
 unfoldable pub storeWrapper : Wrapper → List ℕ → List ℕ
 storeWrapper w r =
     overlay
@@ -95,10 +105,10 @@ storeWrapper w r =
     (store field.direction (directionNumber (w .direction)) r)))))
     (field.block .start) (w .block)
 
--- what a call that leaves this device leaves of the record's bytes; what creation fixed never changes
+-- A call that leaves the device `d` leaves these bytes of the record. What creation fixed is never written again.
 unfoldable pub storeDevice : Device → List ℕ → List ℕ
 storeDevice d r = storeLeft (d .left) (storeMarks (d .marks) (storeState (d .state) (storeStatus (d .status) (storeWrapper (d .wrapper) r))))
 
--- the bytes of a new device: 0 but for P, max LUN and the buffer's length
+-- These are the bytes of a new device: all are 0 except those of what creation fixed, `f`.
 unfoldable pub newRecord : Fixed → List ℕ
 newRecord f = store field.size (f .size) (store field.maxLun (f .maxlun) (store field.packetSize (f .packetsize) (replicate field.recordSize 0)))

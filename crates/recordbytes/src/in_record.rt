@@ -1,4 +1,4 @@
-// Where the fields of a record stand, and how many bytes it has. The table is `table` in specs/Layout.antt.
+// These constants say where the fields of a record stand, and how many bytes it has. The table is `table` in specs/Layout.antt.
 ghost use mathlib.Core.Path.{_≡_};
 ghost use Rattle.fields.specs.Inner.Field.{places};
 ghost use Rattle.recordbytes.specs.Layout.{table};
@@ -37,7 +37,7 @@ pub const BLOCK: usize = 36;
 
 pub const SIZE: usize = 52;
 
-// Nothing calls this: its contract ties each constant to its row of the table, in the table's order.
+// Nothing calls this function. Its contract ties each constant to its row of the table, in the table's order.
 fn places() -> [usize; 17]
     ensures { λ r. ⌜ r ≡ places table ⌝ }
 {

@@ -1,8 +1,9 @@
-// The device record as C and Rust keep it: 52 bytes, each field at a fixed place; specs/Layout.antt has the table.
+// The device record as C and Rust keep it: 52 bytes, with each field at a fixed place. specs/Layout.antt has the table.
 //     in_record                where each field stands
 //     known                    whether bytes are a record at all
 //     numbers_at, device_at    what they hold
 //     store                    a device's parts written back: only the fields that changed
+// In every function `r` is the bytes of the record.
 pub mod in_record;
 pub mod store;
 
@@ -27,7 +28,7 @@ ghost use Rattle.device.specs.Device.{numbersOf};
 ghost use Rattle.recordbytes.specs.Layout as field;
 ghost use Rattle.recordbytes.specs.Record.{isKnown, statusBy, statusAt, marksAt, wrapperAt, fixedAt, deviceAt};
 
-// Whether bytes are a record: 52 of them, and a number of a state, a flag, a status and a direction where one is due.
+// Bytes are a record if there are 52 and the numbers of state, flag, status and direction are among those that exist.
 pub fn known(r: &[u8]) -> bool
     ensures { λ x. ⌜ x ≡ isKnown (now (r .entry)) ⌝ }
 {
@@ -46,6 +47,7 @@ pub fn known(r: &[u8]) -> bool
     byte(r, in_record::DIRECTION) <= 2
 }
 
+// A `flag` of 0 says that there is no status; `number` and `residue` do not count then.
 fn status_by(flag: u8, number: u8, residue: u32) -> Status
     ensures { λ x. ⌜ x ≡ statusBy flag number residue ⌝ }
 {
@@ -56,6 +58,7 @@ fn status_by(flag: u8, number: u8, residue: u32) -> Status
     Status::Present(status, Residue(residue))
 }
 
+// This is the status that the record holds.
 fn status_at(r: &[u8]) -> Status
     requires { ⌜ length (now r) ≡ field.recordSize ⌝ }
     ensures { λ x. ⌜ x ≡ statusAt (now (r .entry)) ⌝ }
@@ -67,6 +70,7 @@ fn status_at(r: &[u8]) -> Status
     )
 }
 
+// These are the marks that the record holds.
 fn marks_at(r: &[u8]) -> Marks
     requires { ⌜ length (now r) ≡ field.recordSize ⌝ }
     ensures { λ x. ⌜ x ≡ marksAt (now (r .entry)) ⌝ }
@@ -77,6 +81,7 @@ fn marks_at(r: &[u8]) -> Marks
     }
 }
 
+// These are the 16 bytes of the command block.
 fn block_at(r: &[u8]) -> [u8; 16]
     requires { ⌜ length (now r) ≡ field.recordSize ⌝ }
     ensures { λ x. ⌜ x ≡ bytesAt field.block (now (r .entry)) ⌝ }
@@ -101,6 +106,7 @@ fn block_at(r: &[u8]) -> [u8; 16]
     ]
 }
 
+// This is the wrapper that the record holds.
 fn wrapper_at(r: &[u8]) -> Wrapper
     requires { ⌜ length (now r) ≡ field.recordSize ⌝ }
     ensures { λ x. ⌜ x ≡ wrapperAt (now (r .entry)) ⌝ }
@@ -117,6 +123,7 @@ fn wrapper_at(r: &[u8]) -> Wrapper
     }
 }
 
+// These are the numbers that creation fixed.
 fn fixed_at(r: &[u8]) -> Fixed
     requires { ⌜ length (now r) ≡ field.recordSize ⌝ }
     ensures { λ x. ⌜ x ≡ fixedAt (now (r .entry)) ⌝ }
@@ -128,7 +135,7 @@ fn fixed_at(r: &[u8]) -> Fixed
     }
 }
 
-// The device that a record holds.
+// This is the device that the record holds.
 pub fn device_at(r: &[u8]) -> Device
     requires { ⌜ length (now r) ≡ field.recordSize ⌝ }
     ensures { λ x. ⌜ x ≡ deviceAt (now (r .entry)) ⌝ }
@@ -148,7 +155,7 @@ pub fn device_at(r: &[u8]) -> Device
     }
 }
 
-// Of that device what decides about a poll.
+// These are the numbers of that device which decide about a poll.
 pub fn numbers_at(r: &[u8]) -> Numbers
     requires { ⌜ length (now r) ≡ field.recordSize ⌝ }
     ensures { λ x. ⌜ x ≡ numbersOf (deviceAt (now (r .entry))) ⌝ }

@@ -1,4 +1,4 @@
-// A device's parts into the bytes of a record. Where a number stands in its field already, nothing is written.
+// A device's parts are stored in the bytes `r` of a record. If a field holds its number already, nothing is written to it.
 use crate::in_record;
 use buffer::Marks;
 use buffer::span::put;
@@ -22,6 +22,7 @@ ghost use Rattle.recordbytes.specs.Record.{store, storeState, storeMarks
 ghost use Rattle.recordbytes.specs.Inner.Record.{joined};
 ghost use Rattle.recordbytes.specs.Inner.Storable.{Fixable};
 
+// The byte `n` is stored at the place `at`, if another stands there.
 fn store8(r: &mut [u8], at: usize, n: u8)
     requires { ⌜ at < length (now r) ⌝ }
     ensures { λ _. ⌜ now (r .exit) ≡ store (oneByte at) n (now (r .entry)) ⌝ }
@@ -31,6 +32,7 @@ fn store8(r: &mut [u8], at: usize, n: u8)
     }
 }
 
+// The number `n` is stored in the four bytes from `at` on, if another stands there.
 fn store32(r: &mut [u8], at: usize, n: u32)
     requires { ⌜ at + 4 ≤ length (now r) ⌝ }
     ensures { λ _. ⌜ now (r .exit) ≡ store (littleEndian at 4) n (now (r .entry)) ⌝ }
@@ -40,7 +42,7 @@ fn store32(r: &mut [u8], at: usize, n: u32)
     }
 }
 
-// A number of 32 bits.
+// `n` is below 2^32 and becomes a number of 32 bits; the remainder is `n` itself.
 pub fn narrow(n: usize) -> u32
     requires { ⌜ n < 2 ^ 32 ⌝ }
     ensures { λ x. ⌜ x ≡ n ⌝ }
@@ -48,7 +50,7 @@ pub fn narrow(n: usize) -> u32
     (n % 4294967296) as u32
 }
 
-// A new device's record: all bytes are written, whatever they were.
+// This is the record of a new device. All bytes are written, whatever they were.
 pub fn new(r: &mut [u8], fixed: Fixed)
     requires { ⌜ (length (now r) ≡ field.recordSize) × Fixable fixed ⌝ }
     ensures { λ _. ⌜ now (r .exit) ≡ newRecord fixed ⌝ }
@@ -60,6 +62,7 @@ pub fn new(r: &mut [u8], fixed: Fixed)
     store32(r, in_record::IO_LENGTH, narrow(fixed.size));
 }
 
+// The state is stored by 01's number.
 pub fn state(r: &mut [u8], state: State)
     requires { ⌜ length (now r) ≡ field.recordSize ⌝ }
     ensures { λ _. ⌜ now (r .exit) ≡ storeState state (now (r .entry)) ⌝ }
@@ -67,6 +70,7 @@ pub fn state(r: &mut [u8], state: State)
     store8(r, in_record::STATE, state_number(state));
 }
 
+// Both marks are stored; each is below 2^32.
 pub fn marks(r: &mut [u8], marks: Marks)
     requires { ⌜ (length (now r) ≡ field.recordSize) × (marks .read < 2 ^ 32) × (marks .write < 2 ^ 32) ⌝ }
     ensures { λ _. ⌜ now (r .exit) ≡ storeMarks marks (now (r .entry)) ⌝ }
@@ -75,6 +79,7 @@ pub fn marks(r: &mut [u8], marks: Marks)
     store32(r, in_record::WRITE_MARK, narrow(marks.write));
 }
 
+// The count left is stored.
 pub fn left(r: &mut [u8], left: Left)
     requires { ⌜ length (now r) ≡ field.recordSize ⌝ }
     ensures { λ _. ⌜ now (r .exit) ≡ storeLeft left (now (r .entry)) ⌝ }
@@ -82,6 +87,7 @@ pub fn left(r: &mut [u8], left: Left)
     store32(r, in_record::LEFT, left.0);
 }
 
+// If there is no status, only the flag is written.
 pub fn status(r: &mut [u8], status: Status)
     requires { ⌜ length (now r) ≡ field.recordSize ⌝ }
     ensures { λ _. ⌜ now (r .exit) ≡ storeStatus status (now (r .entry)) ⌝ }
@@ -96,7 +102,7 @@ pub fn status(r: &mut [u8], status: Status)
     }
 }
 
-// The wrapper of this head and this command block.
+// The wrapper with this `head` and this command `block` is stored.
 pub fn wrapper(r: &mut [u8], head: Head, block: &[u8])
     requires { ⌜ (length (now r) ≡ field.recordSize) × (length (now block) ≡ 16) ⌝ }
     ensures { λ _. ⌜ now (r .exit) ≡ storeWrapper (joined head (now (block .entry))) (now (r .entry)) ⌝ }

@@ -1,6 +1,6 @@
 -- Laws of the ring.
---     ways     what each way through a handler owes
---     calls    that the number of chained handlers falls, and suffices
+--     ways     what has to be shown for each way through a handler
+--     calls    the number of chained handlers falls with each call, and suffices
 -- Assumes nothing.
 use mathlib.Core.Path.{_≡_}
 use mathlib.Core.Bool.{Bool, true, false}
@@ -67,7 +67,7 @@ module _ (empty entered : Bool) (found : Found) (direction : DataDirection) (len
   unfolding statusTransferAct
   status-next p q = rw (p, q)
 
--- 3 is entered from 5, 6 and 8, with what the wrapper was of no account
+-- 5, 6 and 8 enter 3; what the wrapper was does not count then.
 pub enters : (found : Found) (direction : DataDirection) (length : ℕ) {r : Act} → r ≡ statusTransferAct false true found direction length → r ≡ Enter
 unfolding statusTransferAct
 enters found direction length k = k
@@ -134,7 +134,7 @@ starts s t left present empty found direction length p k = rw p k
 
 -- ---- the number
 
--- a handler that goes on since a status is present may, and the number falls
+-- A handler that goes on because a status is present may still call one, and the number falls.
 module _ (present : Bool) {n : ℕ} (h : extra present ≤ n) (p : present ≡ true) where
   two : 2 ≤ n
   two = rw p at h
@@ -151,7 +151,7 @@ module _ (present : Bool) {n : ℕ} (h : extra present ≤ n) (p : present ≡ t
 pub present-two : (present : Bool) {n : ℕ} → 1 + extra present ≤ n → present ≡ true → 2 ≤ n - 1
 present-two present h p = let k = rw p at h in omega arith
 
--- and one that goes on since nothing is unread
+-- The same is true of a handler that goes on because nothing is unread.
 module _ (empty : Bool) {n : ℕ} (h : whole empty ≤ n) (p : empty ≡ true) where
   empty-four : 4 ≤ n
   empty-four = rw p at h
@@ -169,7 +169,7 @@ extra-most : (present : Bool) → extra present ≤ 2
 extra-most true = omega arith
 extra-most false = omega arith
 
--- the number of a poll suffices from any state
+-- The number at the start of a poll suffices from any state.
 pub present-enough : (k : ℕ) (present : Bool) → k ≤ 2 → k + extra present ≤ 4
 present-enough k present h = omega (arith, extra-most present)
 

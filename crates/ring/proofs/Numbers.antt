@@ -1,7 +1,7 @@
 -- A state and its number.
 --     state-back, state-number    there and back, both ways
 --     state-small                 a state's number is at most 8
---     the-last-state              what the last way through `state_of_number` owes
+--     the-last-state              what has to be shown for the last arm of `state_of_number`
 -- Assumes nothing.
 use mathlib.Core.Path.{_≡_, refl}
 use mathlib.Core.Bool.{true}
@@ -40,7 +40,7 @@ state-small DataTransferToHostEnding = refl
 state-small DataTransferFromHost = refl
 state-small DataTransferFromHostEnding = refl
 
--- none of the numbers before the last
+-- `n` is none of the numbers before the last.
 pub the-last-state : (n : ℕ) → ((((((((Unit {0} × (n ≡ 0 → ⊥)) × (n ≡ 1 → ⊥)) × (n ≡ 2 → ⊥)) × (n ≡ 3 → ⊥)) × (n ≡ 4 → ⊥)) × (n ≡ 5 → ⊥)) × (n ≡ 6 → ⊥)) × (n ≡ 7 → ⊥)) → DataTransferFromHostEnding ≡ stateOfNumber n
 unfolding stateOfNumber
 the-last-state n m =

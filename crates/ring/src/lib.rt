@@ -1,5 +1,6 @@
-// The handlers of a poll, after bbb.rs: "the handlers call each other in a ring". They decide on numbers and small enums to
-// what act a poll comes; the act is done elsewhere, in one place. Each call lowers the number of chained handlers.
+// The handlers of a poll, as in bbb.rs: "the handlers call each other in a ring". From numbers and small enums they decide to which act a
+// poll comes; the act itself is done in one place elsewhere (`act` in crates/bbb/src/act.rt). Every call from handler to handler lowers
+// `n`, the number of handlers that may still be called, so the chain ends.
 use wrapper::DataDirection;
 ghost use mathlib.Core.Path.{_≡_};
 ghost use Prim.Native.Nat.{_+_, _≤_};
@@ -7,7 +8,7 @@ ghost use Rattle.ring.specs.declared.Act.the-variants.{Enter};
 ghost use Rattle.ring.specs.States.{stateNumber, stateOfNumber};
 ghost use Rattle.ring.specs.Inner.Ring.{rowOf, extra, whole, readCbwAct, startAct, noDataAct, statusTransferAct, toHostAct, statusAwaitAct, toHostEndingAct, fromHostAct, fromHostEndingAct, settled};
 
-// Document 01's states, in its order.
+// These are document 01's states, in its order.
 pub enum State {
     CommandTransfer,
     CommandTransferInvalid,
@@ -20,14 +21,15 @@ pub enum State {
     DataTransferFromHostEnding,
 }
 
-// What a poll that waits for a wrapper has found: no whole one, an invalid one, a valid one.
+// A poll that waits for a wrapper finds no whole one, an invalid one, or a valid one.
 pub enum Found {
     Nothing,
     Invalid,
     Valid,
 }
 
-// What a poll comes to.
+// A poll comes to one of these acts: it stays in 0, stalls both in 1, sends the next packet of the status in 3, enters 3, sends data in
+// 4, waits in 5, fills up and sends in 6, takes a packet in 7, or drops what is unread and takes one in 8.
 pub enum Act {
     Stay,
     Stall,
@@ -40,7 +42,7 @@ pub enum Act {
     Drop,
 }
 
-// What crosses the wire: nothing, nothing with both endpoints stalled, a packet read, a packet sent.
+// An act moves this across the wire: nothing; nothing, but it stalls both endpoints; a packet that it reads; a packet that it sends.
 pub enum Kind {
     Rest,
     Stall,
@@ -48,7 +50,8 @@ pub enum Kind {
     Send,
 }
 
-// What is done to the buffer before: nothing, but a whole packet may be due; fill it up; write the status; empty it.
+// Before the packet, an act does this to the buffer: nothing; nothing, but it answers 4 if a whole packet is due and not there; it fills
+// it up; it writes the status into it; it empties it.
 pub enum Before {
     Nothing,
     Whole,
@@ -57,13 +60,14 @@ pub enum Before {
     Empty,
 }
 
-// An act: the state in which it is done, what crosses the wire, what comes before, whether left falls by it.
+// The row of an act has the state in which the act is done, what crosses the wire, what is done to the buffer first, and whether left
+// falls.
 pub struct Row(pub State, pub Kind, pub Before, pub bool);
 
-// How many handlers the longest chain calls on: 3, 0, the start, 2, 5.
+// In the longest chain, 3, 0, the start, 2 and 5, the first handler is followed by four more.
 const CHAIN: u8 = 4;
 
-// Document 01's number of a state.
+// This is document 01's number of the state `s`.
 pub fn state_number(s: State) -> u8
     ensures { λ r. ⌜ r ≡ stateNumber s ⌝ }
 {
@@ -80,7 +84,7 @@ pub fn state_number(s: State) -> u8
     }
 }
 
-// The state of a number; above 8 there is none, and the last is given.
+// This is the state with this `number`. No state has a number above 8; the last state is given then.
 pub fn state_of_number(number: u8) -> State
     ensures { λ r. ⌜ r ≡ stateOfNumber number ⌝ }
 {
@@ -97,6 +101,7 @@ pub fn state_of_number(number: u8) -> State
     }
 }
 
+// This is the row of the act `a`.
 pub fn row_of(a: Act) -> Row
     ensures { λ r. ⌜ r ≡ rowOf a ⌝ }
 {
@@ -138,7 +143,7 @@ pub fn row_of(a: Act) -> Row
     }
 }
 
-// 0: no status is present in it.
+// This is state 0. No status is present in it, so only `found` decides, and for a valid wrapper its `direction` and `length`.
 fn read_cbw(n: u8, found: Found, direction: DataDirection, length: u32) -> Act
     requires { ⌜ 3 ≤ n ⌝ }
     ensures { λ r. ⌜ r ≡ readCbwAct found direction length ⌝ }
@@ -150,7 +155,7 @@ fn read_cbw(n: u8, found: Found, direction: DataDirection, length: u32) -> Act
     }
 }
 
-// A valid wrapper goes on by its direction, with its length left.
+// A valid wrapper goes on by its `direction`, with its `length` left.
 fn start(n: u8, direction: DataDirection, length: u32) -> Act
     requires { ⌜ 2 ≤ n ⌝ }
     ensures { λ r. ⌜ r ≡ startAct direction length ⌝ }
@@ -162,7 +167,7 @@ fn start(n: u8, direction: DataDirection, length: u32) -> Act
     }
 }
 
-// 2
+// State 2 always goes on to 5.
 fn no_data(n: u8, present: bool) -> Act
     requires { ⌜ 1 + extra present ≤ n ⌝ }
     ensures { λ r. ⌜ r ≡ noDataAct present ⌝ }
@@ -170,7 +175,8 @@ fn no_data(n: u8, present: bool) -> Act
     status_await(n - 1, present)
 }
 
-// 3: `entered` by this poll, or before it.
+// This is state 3. `empty` says that nothing is unread, and `entered` that this poll has just entered 3 and still has to write the
+// status.
 fn status_transfer(
     n: u8,
     empty: bool,
@@ -191,7 +197,7 @@ fn status_transfer(
     Act::Next
 }
 
-// 3 from 5, 6 or 8, in the same poll: the status is then unread, so what the wrapper was is of no account.
+// 5, 6 and 8 enter 3 here, in the same poll. The status is unread then, so `found`, `direction` and `length` do not count.
 fn enter(n: u8) -> Act
     requires { ⌜ 1 ≤ n ⌝ }
     ensures { λ r. ⌜ r ≡ Enter ⌝ }
@@ -206,7 +212,7 @@ fn enter(n: u8) -> Act
     )
 }
 
-// 4
+// State 4 sends data until none is left or a status is present.
 fn to_host(n: u8, left: u32, present: bool) -> Act
     requires { ⌜ 1 + extra present ≤ n ⌝ }
     ensures { λ r. ⌜ r ≡ toHostAct left present ⌝ }
@@ -220,7 +226,7 @@ fn to_host(n: u8, left: u32, present: bool) -> Act
     Act::Send
 }
 
-// 5
+// State 5 waits for a status, and a status that is present is sent at once.
 fn status_await(n: u8, present: bool) -> Act
     requires { ⌜ extra present ≤ n ⌝ }
     ensures { λ r. ⌜ r ≡ statusAwaitAct present ⌝ }
@@ -231,7 +237,7 @@ fn status_await(n: u8, present: bool) -> Act
     Act::Wait
 }
 
-// 6
+// State 6 sends what is unread and then filler until nothing is left, because the host still expects data.
 fn to_host_ending(n: u8, left: u32) -> Act
     requires { ⌜ 2 ≤ n ⌝ }
     ensures { λ r. ⌜ r ≡ toHostEndingAct left ⌝ }
@@ -242,7 +248,7 @@ fn to_host_ending(n: u8, left: u32) -> Act
     Act::Fill
 }
 
-// 7
+// State 7 reads data until none is left or a status is present.
 fn from_host(n: u8, left: u32, present: bool) -> Act
     requires { ⌜ 1 + extra present ≤ n ⌝ }
     ensures { λ r. ⌜ r ≡ fromHostAct left present ⌝ }
@@ -256,7 +262,7 @@ fn from_host(n: u8, left: u32, present: bool) -> Act
     Act::Take
 }
 
-// 8
+// State 8 reads data and drops it until nothing is left, because the host still sends it.
 fn from_host_ending(n: u8, left: u32) -> Act
     requires { ⌜ 2 ≤ n ⌝ }
     ensures { λ r. ⌜ r ≡ fromHostEndingAct left ⌝ }
@@ -267,8 +273,8 @@ fn from_host_ending(n: u8, left: u32) -> Act
     Act::Drop
 }
 
-// To what a poll comes that starts in this state, with so many bytes left, a status present or not, nothing unread or
-// something; and what the wrapper was where the chain reaches one.
+// A poll that starts in the state `s` comes to this act. `left` is the count left, `present` says whether a status is present, and
+// `empty` whether nothing is unread. `found`, `direction` and `length` count only if the chain reaches the wrapper.
 pub fn settle(
     s: State,
     left: u32,

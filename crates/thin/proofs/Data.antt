@@ -1,8 +1,8 @@
 -- What a thin call asks of the plain types that it names. Assumes nothing.
 --     Data          a plain type: its row, its one MIR type, its one machine value, and the laws
 --     Pair D X      a struct of a D and then an X: its row, its name, its two fields, and the laws
---     Built D X O   what a function asks beside these that builds such a struct, as a lender does (`Lender.antt`)
---     struct-data, enum-data, struct-pair    from the modules that a check makes of a declared type
+--     Built D X O   what is asked in addition by a function that builds such a struct, as a lender does (`Lender.antt`)
+--     struct-data, enum-data, struct-pair    these, made from the modules that a check makes of a declared type
 use mathlib.Core.Path.{_≡_, ap, subst, _∙_}
 use mathlib.Core.List.{[], _∷_, List}
 use lib.Dec.{T as Holds}
@@ -24,7 +24,7 @@ use denote.Enum.Enum.{Plainss, Few}
 use denote.Enum.Declared as E
 use denote.Enum.Laws as EL
 
--- a machine value is one of the MIR type
+-- The machine value is one of the MIR type.
 abbrev pub Fits : Ty → Val → Type 0
 Fits τ v = Holds (hasTy τ v) × WT v
 
@@ -37,7 +37,7 @@ pub record Data : Type 2 where
   pub typed : {M : Type 1} (𝓤 : URA M) (H : Heap 𝓤) (A : Atoms 𝓤) → Given 𝓤 H A → (y : row .Denot) → Is row y (val y ∷ []) → Fits ty (val y)
   pub makes : {M : Type 1} (𝓤 : URA M) (H : Heap 𝓤) (A : Atoms 𝓤) → Given 𝓤 H A → Makes 𝓤 H A row (Is row)
 
--- the MIR type of a struct of a D and then an X
+-- This is the MIR type of a struct of a D and then an X.
 abbrev pub pair-ty : Sym → Data → Data → Ty
 pair-ty name D X = tyStruct name (tcons (D .ty) (tcons (X .ty) tnil))
 
@@ -51,7 +51,7 @@ pub record Pair (D X : Data) : Type 2 where
   pub fst-is : (r : row .Denot) (w : Val) → Is row r (w ∷ []) → Is (D .row) (fst r) (D .val (fst r) ∷ [])
   pub snd-is : (r : row .Denot) (w : Val) → Is row r (w ∷ []) → Is (X .row) (snd r) (X .val (snd r) ∷ [])
 
--- such a struct can be built of its two fields; and what is said of a D at a function's exit is had for nothing
+-- Such a struct can be built from its two fields, and what is said of a D at a function's exit holds without more.
 pub record Built (D X : Data) (O : Pair D X) : Type 2 where
   pub build : D .row .Denot → X .row .Denot → O .row .Denot
   pub fst-of : (d : D .row .Denot) (x : X .row .Denot) → O .fst (build d x) ≡ d
@@ -62,7 +62,7 @@ pub record Built (D X : Data) (O : Pair D X) : Type 2 where
   pub last : (d : D .row .Denot) → Last (D .row .exit yes) d
   pub had : {M : Type 1} (𝓤 : URA M) (H : Heap 𝓤) (A : Atoms 𝓤) (d : D .row .Denot) → ent 𝓤 (emp 𝓤) (sem 𝓤 H A (left (D .row .exit yes) d (last d)))
 
--- ---- of declared types. What the arguments that are equations say, `refl` shows of any type that is written out.
+-- ---- declared types: for any type that is written out, `refl` proves the arguments that are equations
 
 abbrev pub struct-data : (T : S.Declared) (L : SL.Laws T) → Plains (S.fields T) → (τ : Ty) → S.row T .mir ≡ τ ∷ [] → Data
 struct-data T L plain τ mir-is = record {
@@ -87,7 +87,7 @@ enum-data T L few plain τ mir-is = record {
 }
 
 module _ (D X : Data) (T : S.Declared) (L : SL.Laws T) where
-  -- each field's relation
+  -- This is the relation of each field.
   abbrev Parts : T .D → Type 0
   Parts r = AreAll (S.fields T) (T .to r) (valss (S.fields T) (SL.spells (T .parts) L) (T .to r))
 

@@ -1,11 +1,11 @@
--- Rules of `Types/Kit.antt`'s calculus for a list of locals, of any types and any number: together they are one item of the context. A walk
--- of code that has such a list of locals can then name the places of its other locals. Assumes nothing.
+-- Rules of the calculus of `Types/Kit.antt` for a list of locals, of any types and any number: together they are one item of the context.
+-- A walk through code that has such a list of locals can then name the places of its other locals. Assumes nothing.
 --     Addresses τs, Values τs    an address, and a value that fits, for each type
---     locals, env                the locals of a function, and its environment, with these in front of others
+--     locals, env                the locals of a function, and its environment, with these before others
 --     rooms, cells               room for each, or its cell with its value; and with each the right to free it
 --     allots, passes-all, frees-all    they are allocated, given their arguments, and freed
 --     at-local                   a place begins at a local whose spot is known by an equation
---     opds-as                    operands are read in a context written another way
+--     opds-as                    operands are read in a context that is written another way
 use Prim.Native.Nat.{ℕ, zero}
 use mathlib.Core.Path.{_≡_, refl, sym, subst}
 use mathlib.Core.List.{[], _∷_, List}
@@ -38,7 +38,7 @@ abbrev pub locals : List Ty → List Local → List Local
 locals [] ls = ls
 locals (τ ∷ τs) ls = local τ valueLocal ∷ locals τs ls
 
--- a local's room; its cell, with a value; the right to free it
+-- These are a local's room, its cell with a value, and the right to free it.
 abbrev pub room : {M : Type 1} (𝓤 : URA M) → Ty → ℕ → Item 𝓤
 room 𝓤 τ b = ‵ (froom τ b zero)
 

@@ -1,10 +1,10 @@
--- The law of a thin call (`Thin.antt`), over any list of parameters behind the record: each a `&mut [u8]`, a `&[u8]` or a plain value.
--- The thin call has one lifetime more than the core, the record's, and it comes first. Assumes nothing.
+-- The law of a thin call (`Thin.antt`), over any list of parameters after the record: each is a `&mut [u8]`, a `&[u8]` or a plain value.
+-- The thin call has one lifetime more than the core: the record's, which comes first. Assumes nothing.
 --     Kind          a parameter.        slots     the core's slots for them.        passed up    what the machine sees of them
---     all-values, all-tell, all-held    their machine values, that these tell them, and what is held of them at entry
+--     all-values, all-tell, all-held    their machine values; there are no others; what is held of them at entry
 --     Promise       a relation that core and thin call both promise, of the record and such parameters at entry and at exit
 --     TheCore       the core's contract.        the-thin k     the MIR of a thin call of the core k
---     Thin          the thin call's contract: where the parameters are written out, what `tripleOf` computes to at its own signature
+--     Thin          the thin call's contract: with the parameters written out, what `tripleOf` computes to at its own signature
 --     thin-meets    the thin call meets it, if the core meets its own.        thin-spec     the same, as a function's proof file needs it
 use Prim.Native.Nat.{ℕ, suc}
 use mathlib.Core.Path.{_≡_, refl, ap, subst}
@@ -39,7 +39,7 @@ use Rattle.thin.proofs.Frame.{values}
 use Rattle.thin.proofs.Passed.{Passed, lends, copies, Helds, tys, helds}
 use Rattle.thin.proofs.Thin.{Core, thin, Exit, thin-runs}
 
--- a slice's number is that of its lifetime among the core's
+-- The number of a slice is that of its lifetime among the core's lifetimes.
 pub data Kind (n : ℕ) : Type 2 where
   mutable : (i : ℕ) → Within n i → Kind n
   shared : (i : ℕ) → Within n i → Kind n
@@ -52,7 +52,7 @@ module _ {n : ℕ} where
   slots (shared i ok ∷ ks) = shrSliceOf (i ∷ []) ok (plain (λ _. u8)) ∷ slots ks
   slots (given P ∷ ks) = plain (λ _. P .row) ∷ slots ks
 
-  -- where the core's i-th lifetime is the function's own (up i)-th
+  -- The core's i-th lifetime is the function's own (up i)-th.
   abbrev pub passed : (ℕ → ℕ) → List (Kind n) → List Passed
   passed up [] = []
   passed up (mutable i ok ∷ ks) = lends (named (up i)) ∷ passed up ks
@@ -72,7 +72,7 @@ module _ {n : ℕ} where
     all-tell (shared i ok ∷ ks) = (shr-slice-tells (named i) (lftAt n i ok κs) u8, all-tell ks)
     all-tell (given P ∷ ks) = (P .tells, all-tell ks)
 
-    -- the arguments' relations, at their machine values
+    -- These are the relations of the arguments at their machine values.
     abbrev Told : (ks : List (Kind n)) → Denots (typesAt (slots ks) κs) → Type 0
     Told ks a = Are (typesAt (slots ks) κs) (Ises (typesAt (slots ks) κs)) a (valss (typesAt (slots ks) κs) (all-values ks) a)
 
@@ -98,14 +98,14 @@ module _ (D X : Data) (O : Pair D X) {n : ℕ} (ks : List (Kind n)) where
   abbrev kept : Kepts ss
   kept = all yes ss
 
-  -- the arguments behind the record, and their machine values
+  -- These are the arguments after the record, and their machine values.
   abbrev Args : Lfts n → Type 0
   Args κs = Denots (typesAt ss κs)
 
   abbrev Vals : Lfts n → Type 0
   Vals κs = Valss (typesAt ss κs)
 
-  -- of the record and the arguments at entry, and of the record, the X and the arguments at exit
+  -- A promise speaks of the record and the arguments at entry, and of the record, the X and the arguments at exit.
   abbrev pub Promise : Type 1
   Promise = (κs : Lfts n) → D .row .Denot → Args κs → D .row .Denot → X .row .Denot → Outs κs ss kept → Type 0
 
@@ -117,7 +117,8 @@ module _ (D X : Data) (O : Pair D X) {n : ℕ} (ks : List (Kind n)) where
     the-thin k = thin D X O n ss kept Rel (passed suc ks) k
 
     module _ {M : Type 1} (𝓤 : URA M) (H : Heap 𝓤) (A : Atoms 𝓤) where
-      -- what a caller chooses: the lifetimes and shares, the record's first; the arguments, the reference first; and their machine values
+      -- A caller chooses these: the lifetimes and shares, the record's first; the arguments, the reference first; and their machine
+      -- values.
       abbrev Chosen : Type 0
       Chosen = ((κs : Lfts (suc n)) × (qs : Shares (suc n)) × (Unit {0}) × (RefT (D .row .Denot) × Args (κs .1)) × (List Val × Vals (κs .1))) × (Unit {0})
 
@@ -140,7 +141,7 @@ module _ (D X : Data) (O : Pair D X) {n : ℕ} (ks : List (Kind n)) where
         abbrev a : Args κs
         a = y .0 .3 .1
 
-        -- at machine values: what the parameters own, the values in a row, and what there is at entry
+        -- At machine values, these are what the parameters own, the values in a row, and what there is at entry.
         abbrev own : List Val × Vals κs → SProp 𝓤
         own vss = sem 𝓤 H A (fsep (MutRef (named 0) κ (D .row) .own x (vss .0)) (owns (typesAt ss κs) a (vss .1)))
 
@@ -163,7 +164,7 @@ module _ (D X : Data) (O : Pair D X) {n : ℕ} (ks : List (Kind n)) where
 
       module _ (W : Given 𝓤 H A) (C : Calls 𝓤 H) (Λ : Loops 𝓤 H) (k : Name) (fm : FmC 𝓤 H (W .laws) C) (known : Triple 𝓤 (C k) (TheCore 𝓤 H A)) where
         module _ (y : Chosen) where
-          -- the machine values that tell the arguments
+          -- These are the machine values of the arguments.
           abbrev spelt : Vals (κs y)
           spelt = valss (typesAt ss (κs y)) (all-values (κs y) ks) (a y)
 
@@ -180,7 +181,8 @@ module _ (D X : Data) (O : Pair D X) {n : ℕ} (ks : List (Kind n)) where
               (thin-runs D X O n ss kept Rel (passed suc ks) 𝓤 H A (κ y) (κs y) (y .0 .1 .0) (y .0 .1 .1) (ptr (x y) .0) (ptr (x y) .1) (name (x y)) (now (x y)) (a y) W
               spelt (all-held (κs y) 𝓤 H A W suc ks (a y) are) same C Λ k fm known)
 
-          -- to `said`, which learns what the machine values are: the other tokens, and the parameters, with the record's lifetime held fixed
+          -- `said` is used at this signature, to learn what the machine values are: it has the core's lifetimes and all parameters, with
+          -- the record's lifetime held fixed.
           abbrev S : Signature
           S = record { lifetimes = n; outlives = []; params = plain (λ _. MutRef (named 0) (κ y) (D .row)) ∷ ss; result = plain (λ _. X .row) }
 
@@ -197,7 +199,8 @@ module _ (D X : Data) (O : Pair D X) {n : ℕ} (ks : List (Kind n)) where
             (via 𝓤 (sep 𝓤 (token y) (sep 𝓤 (tokens y) (own y vss))) (assoc∗ 𝓤 (token y) (tokens y) (own y vss))
             (via 𝓤 (sep 𝓤 (token y) (wand 𝓤 (token y) (runs y vss))) (monoR 𝓤 (token y) (spells y)) (apply∗ 𝓤 (token y) (runs y vss))))
 
-    -- the same of a function f whose code is thin, in the environment γ of that code, where the core means a routine that is proved
+    -- The same holds of a function `f` whose code is thin, in the environment γ of that code, in which the core means a routine that is
+    -- proved.
     module _ {M : Type 1} (𝓤 : URA M) (H : Heap 𝓤) (𝓜 : Model 𝓤 H) (𝓖 : GhostRules 𝓤 H) (𝓡 : Running 𝓤 H 𝓜) (γ : Env) (f core : Name) (body : Routine) where
       abbrev 𝓣 : MachineTables 𝓤 H 𝓜
       𝓣 = tables 𝓤 H 𝓜 𝓡 γ

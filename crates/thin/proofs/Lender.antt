@@ -1,13 +1,14 @@
 -- The other way: a record that is held by value is lent to a thin call, and taken back.
 --     fn g(mut v: D, ..) -> O { let x = f(&mut v, ..); let w = v; O { w, x } }
--- for any plain D and X, any struct O of a D and an X, any parameters behind the record, any thin call f, and any relation Rel. What f
--- promises of the record that the reference holds at entry and at exit, g promises of the one that it is passed and of the one that it
--- returns; so does the core of `Thin.antt`. It says nothing of a device. In the machine's code what is lent is a copy of v, below d. Assumes
--- nothing.
+-- This holds for any plain D and X, any struct O of a D and an X, any parameters after the record, any thin call f, and any relation Rel.
+-- What f promises about the record in the reference at entry and at exit, g promises about the record that it is passed and the one that
+-- it returns; the core of `Thin.antt` promises the same. No device is named. In the machine's code a copy of v is lent, called d below.
+-- Assumes nothing.
 --     lends-cell, cell-back    a local's cell is lent for a lifetime, and comes back with what the reference held last
 --     lender k                 the MIR of such a function, over the thin call named k
 --     lender-runs              from what g has at entry the code runs to what it owes, if the thin call meets its contract
---     lender-meets             g meets the core's contract, if the thin call meets its own.        lender-spec     the same, as a function's proof file needs it
+--     lender-meets             g meets the core's contract, if the thin call meets its own
+--     lender-spec              the same, as a function's proof file needs it
 use Prim.Native.Nat.{ℕ, zero, suc}
 use mathlib.Core.Path.{_≡_, refl, sym, ap, subst}
 use mathlib.Core.List.{[], _∷_, List}
@@ -89,7 +90,7 @@ module _ (D X : Data) (O : Pair D X) (B : Built D X O) {n : ℕ} (ks : List (Kin
   abbrev kept : Kepts ss
   kept = all yes ss
 
-  -- ---- the code: local 0 is its result, 1 the record, then come the parameters, then d, x, w and the reference r, then what is borrowed anew
+  -- ---- the code: local 0 is its result, 1 the record, then come the parameters, then d, x, w and the reference r, then what is reborrowed
 
   abbrev ps : List Passed
   ps = passed (λ i. i) ks
@@ -138,7 +139,7 @@ module _ (D X : Data) (O : Pair D X) (B : Built D X O) {n : ℕ} (ks : List (Kin
     body = seq (assign (place d []) (rvOpd (copy (place 1 [])))) (seq (assign (place r []) (addrOf (place d []))) (borrowing ps 2 t (calls-thin k)));
   }
 
-  -- where the locals stand, once they have their addresses
+  -- The locals stand at these addresses.
   module _ {M : Type 1} (𝓤 : URA M) (H : Heap 𝓤) (lo lv ld lx lw lr : ℕ) (bs : Addresses (tys ps)) (cs : Addresses (anew ps)) where
     abbrev own-env : Env 𝓤 H
     own-env = (D .ty, ld) ∷ (X .ty, lx) ∷ (D .ty, lw) ∷ (ref-ty, lr) ∷ []
@@ -160,7 +161,7 @@ module _ (D X : Data) (O : Pair D X) (B : Built D X O) {n : ℕ} (ks : List (Kin
     abbrev tokens : SProp 𝓤
     tokens = toks 𝓤 A n κs qs
 
-    -- the record is now h′, and the thin call has returned y, as it promised, with the others' last values zs
+    -- The record is now h′, and the thin call has returned y, as it promised, with the last values zs of the others.
     abbrev Related : D .row .Denot → X .row .Denot → Fins κs ss kept a → Type 0
     Related h′ y zs = Rel κs h a h′ y (outs κs ss kept a zs)
 
@@ -209,7 +210,7 @@ module _ (D X : Data) (O : Pair D X) (B : Built D X O) {n : ℕ} (ks : List (Kin
       goes : ent 𝓤 (⋆ 𝓤 H A ((the-token ⊛ raw tokens) ∷ thin-owns ∷ [])) (Thin D X O ks Rel 𝓤 H A .pre to-thin)
       goes = qed W ((the-token ⊛ raw tokens) ∷ thin-owns ∷ []) ∵ join ! $ nothing ! $ move ! (1 ∷ 0 ∷ []) $ join ! $ done !
 
-      -- what it leaves: its answer y; and of it, the last values, with the promise
+      -- It leaves its answer y, and with it the last values and the promise.
       abbrev thin-says : X .row .Denot → D .row .Denot × Fins κs ss kept a → Item 𝓤
       thin-says y zs = ‵ (fsep (fres γ (D .row .coded .code (zs .0))) (lastsOf κs ss kept a (zs .1))) ⊛ raw (fact 𝓤 (Related (zs .0) y (zs .1)))
 
@@ -227,16 +228,16 @@ module _ (D X : Data) (O : Pair D X) (B : Built D X O) {n : ℕ} (ks : List (Kin
           enter ! C Λ (lender k) (D .val h ∷ values (tys ps) (helds ps hs)) _ $
           alloc1 ! (λ lo. alloc1 ! (λ lv. allots ! (tys ps) own-locals (λ bs. alloc1 ! (λ ld. alloc1 ! (λ lx. alloc1 ! (λ lw. alloc1 ! (λ lr. allots ! (anew ps) [] (λ cs. alloc0 ! $
           params1 ! $ pass1 ! (init ! 10 refl (D .typed 𝓤 H A W h is)) $ move ! (9 ∷ []) $ passes-all ! (tys ps) bs (helds ps hs) (last 𝓤 H lo lv ld lx lw lr bs cs) $
-          -- [the parameters; what is borrowed anew; r, w, x, d, v, the result, each with its right; what the others own; the tokens]
+          -- [the parameters; what is reborrowed; r, w, x, d, v, the result, each with its right; what the others own; the tokens]
           -- d is a copy of v
           assigns ! (of-opd ! (load ! (from ! (stop !)) (look ! 10 refl))) (at-local ! (at-own 𝓤 H lo lv ld lx lw lr bs cs 0) (stop !)) (init ! 8 refl (D .typed 𝓤 H A W h is)) $
-          -- let x = f(&mut d, ..): d is lent for a lifetime that is made here, slices are borrowed anew
+          -- let x = f(&mut d, ..): d is lent for a lifetime that is made here, slices are reborrowed
           assigns ! (addr ! (at-local ! (at-own 𝓤 H lo lv ld lx lw lr bs cs 0) (stop !))) (at-local ! (at-own 𝓤 H lo lv ld lx lw lr bs cs 3) (stop !)) (init ! 2 refl (tt, tt)) $
           borrows ! (calls-thin k) ps hs 2 t bs cs (ps-found 𝓤 H lo lv ld lx lw lr bs cs) $
           move ! (8 ∷ []) $ lft-new ! tt (λ α. move ! (1 ∷ []) $
           use1 W (later (some (λ (γ : GName). ‵ (the-reference α γ ld) ⊛ the-loan α γ ld))) (lends-cell D 𝓤 H A W (α ∷ []) ld h is) $ await ! tt $ pick ! (λ γ. split ! $
           move ! (0 ∷ 16 ∷ 2 ∷ 17 ∷ []) $ fjoin ! $ move ! (1 ∷ 2 ∷ []) $ join ! $ use2 W (raw (Thin D X O ks Rel 𝓤 H A .pre (to-thin α γ ld))) (goes α γ ld) $ move ! (0 ∷ 2 ∷ 3 ∷ []) $
-          -- [what f asks; the parameters; what is borrowed anew; the loan; r, w, x; the right to d; v, the result]
+          -- [what f asks; the parameters; what is reborrowed; the loan; r, w, x; the right to d; v, the result]
           calls-at ! fm (Thin D X O ks Rel 𝓤 H A) known (to-thin α γ ld)
           (and-then ! (load ! (at-local ! (at-own 𝓤 H lo lv ld lx lw lr bs cs 3) (stop !)) (look ! 4 refl))
           (subst (Opds Go W _ _ (operands ps 2 t)) same
@@ -246,13 +247,14 @@ module _ (D X : Data) (O : Pair D X) (B : Built D X O) {n : ℕ} (ks : List (Kin
           peeks ! (X .row) (Is (X .row)) (shows 𝓤 H A (X .row)) y (u ∷ []) (λ is₁. drop ! $
           let told : u ∷ [] ≡ X .val y ∷ [] = X .tells y (u ∷ []) is₁ in
           let is-y : Is (X .row) y (X .val y ∷ []) = subst (Is (X .row) y) told is₁ in
-          -- [f's token; the other tokens; the record's last value; the others'; the parameters; ..; the loan; r, w, x; the right to d; v, the result]
+          -- [f's token; the other tokens; the record's last value; the others'; the parameters; ..; the loan; r, w, x; the right to d;
+          -- v, the result]
           land ! (at-local ! (at-own 𝓤 H lo lv ld lx lw lr bs cs 1) (stop !)) (init ! 11 refl (subst (Fits (X .ty)) (sym (ap only told)) (X .typed 𝓤 H A W y is-y))) $
           rewrite ! 11 (λ (c : Val). ‵ (fat fullShare (X .ty) lx 0 c)) (ap only told) refl $
           -- the lifetime is ended, and d comes back
           lft-end ! tt $ move ! (0 ∷ 6 ∷ 2 ∷ []) $
           use3 W (later (given (Is (D .row) (zs .0) (D .val (zs .0) ∷ [])) (value-at D 𝓤 H A W (α ∷ []) ld (zs .0)))) (cell-back D 𝓤 H A W (α ∷ []) ld γ (zs .0)) $ await ! tt $ learn ! (λ is-h.
-          -- [d; the tokens; the others' last values; the parameters; what was borrowed anew; r, w, x; the right to d; v, the result]
+          -- [d; the tokens; the others' last values; the parameters; what was reborrowed; r, w, x; the right to d; v, the result]
           -- let w = d
           assigns ! (of-opd ! (load ! (at-local ! (at-own 𝓤 H lo lv ld lx lw lr bs cs 0) (stop !)) (look ! 0 refl)))
           (at-local ! (at-own 𝓤 H lo lv ld lx lw lr bs cs 2) (stop !)) (init ! 7 refl (D .typed 𝓤 H A W (zs .0) is-h)) $
@@ -260,7 +262,7 @@ module _ (D X : Data) (O : Pair D X) (B : Built D X O) {n : ℕ} (ks : List (Kin
           assigns ! (agg ! (and-then ! (load ! (at-local ! (at-own 𝓤 H lo lv ld lx lw lr bs cs 2) (stop !)) (look ! 7 refl))
           (and-then ! (load ! (at-local ! (at-own 𝓤 H lo lv ld lx lw lr bs cs 1) (stop !)) (look ! 9 refl)) (no-more !))))
           (from ! (stop !)) (init ! 14 refl (O .typed 𝓤 H A W (B .build (zs .0) y) _ (B .built-is (zs .0) y is-h is-y))) $
-          -- the locals are freed: the result, v, the parameters, d, x, w, r, what was borrowed anew
+          -- the locals are freed: the result, v, the parameters, d, x, w, r, what was reborrowed
           returns ! (look ! 14 refl) $ forget ! 14 refl $ move ! (14 ∷ 15 ∷ []) $ free1 ! $ forget ! 12 refl $ move ! (12 ∷ 13 ∷ []) $ free1 ! $
           move ! (3 ∷ []) $ frees-all ! (tys ps) bs (helds ps hs) (last 𝓤 H lo lv ld lx lw lr bs cs) $
           forget ! 0 refl $ move ! (0 ∷ 10 ∷ []) $ free1 ! $ forget ! 7 refl $ move ! (7 ∷ 8 ∷ []) $ free1 ! $ forget ! 5 refl $ move ! (5 ∷ 6 ∷ []) $ free1 ! $
@@ -289,7 +291,8 @@ module _ (D X : Data) (O : Pair D X) (B : Built D X O) {n : ℕ} (ks : List (Kin
         subst (λ (us : List Val). ent 𝓤 (onEntry 𝓤 H A S κs qs (h, a) (D .val h ∷ [], spelled)) (WpFn 𝓤 H C Λ (lender k) (D .val h ∷ us) (TheCore D X O ks Rel 𝓤 H A .post y))) same
         (lender-runs 𝓤 H A W κs qs h a spelled (are .0) (all-held κs 𝓤 H A W (λ i. i) ks a (are .1)) same C Λ k fm known)))
 
-  -- the same of a function f whose code is that of a lender, in the environment γ of that code, where the thin call means a routine that is proved
+  -- The same holds of a function `f` whose code is that of a lender, in the environment γ of that code, in which the thin call means a
+  -- routine that is proved.
   module _ {M : Type 1} (𝓤 : URA M) (H : Heap 𝓤) (𝓜 : Model 𝓤 H) (𝓖 : GhostRules 𝓤 H) (𝓡 : Running 𝓤 H 𝓜) (γ : Routines) (f thin : Name) (body : Routine) where
     abbrev 𝓣 : MachineTables 𝓤 H 𝓜
     𝓣 = tables 𝓤 H 𝓜 𝓡 γ

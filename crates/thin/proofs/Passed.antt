@@ -1,10 +1,10 @@
--- The parameters that a thin call passes on, of any number and order. The machine sees two kinds: a `&mut [u8]`, which is borrowed anew for
--- the call, and what is copied, as a `&[u8]` or a plain value is. Assumes nothing.
+-- The parameters that a thin call passes on, of any number and order. The machine sees two kinds: a `&mut [u8]`, which is reborrowed for
+-- the call, and a `&[u8]` or a plain value, which is copied. Assumes nothing.
 --     Passed             the kinds.        Held k     what is held of such a parameter
---     tys, anew          the MIR types of the parameters, and of the locals in which slices are borrowed anew
---     borrowing ps p t b    the statements that borrow anew and go on as b, where the parameters' locals are p and on, the others t and on
+--     tys, anew          the MIR types of the parameters, and of the locals in which slices are reborrowed
+--     borrowing ps p t b    the statements that reborrow and go on as b, if the parameters' locals are p and on, the others t and on
 --     operands ps p t       what the call is passed
---     borrows, passed-on    the code runs so, and the operands have the values that the parameters had
+--     borrows, passed-on    the code runs like this, and the operands have the values that the parameters had
 --     found              where the locals stand in an environment
 use Prim.Native.Nat.{ℕ, zero, suc}
 use mathlib.Core.Path.{_≡_, refl, ap, _∙_}
@@ -26,7 +26,7 @@ pub data Passed : Type 0 where
   lends : Lifetime → Passed
   copies : Ty → Passed
 
--- a slice's place and length; any value that fits
+-- These are the place and length of a slice, or any value that fits.
 abbrev pub Held : Passed → Type 0
 Held (lends ℓ) = (ℕ × ℕ) × ((n : ℕ) × WT (vint w64 n))
 Held (copies τ) = (v : Val) × Fits τ v
@@ -35,7 +35,7 @@ abbrev pub Helds : List Passed → Type 0
 Helds [] = Unit {0}
 Helds (k ∷ ps) = Held k × Helds ps
 
--- a pointer to a byte, and a slice of bytes, that are borrowed anew
+-- These are the types of a pointer to a byte and of a slice of bytes that are reborrowed.
 abbrev byte-ref : Ty
 byte-ref = tyRef erased mut (tyInt w8)
 
@@ -86,12 +86,12 @@ operands (copies τ ∷ ps) p t = copy (place p []) ∷ operands ps (suc p) t
 
 -- ---- where the locals stand
 
--- the place behind as many locals as there are parameters
+-- This is the place after as many locals as there are parameters.
 abbrev pub behind : List Passed → ℕ → ℕ
 behind [] n = n
 behind (k ∷ ps) n = suc (behind ps n)
 
--- the j-th from p on
+-- This is the j-th place from p on.
 abbrev on : ℕ → ℕ → ℕ
 on zero p = p
 on (suc j) p = on j (suc p)
@@ -138,7 +138,8 @@ module _ {M : Type 1} (𝓤 : URA M) (H : Heap 𝓤) where
   skips-these [] E j = ap (local-at E) (on-zero j)
   skips-these (g ∷ gs) E j = skips g (gs ++ E) j (length gs) ∙ skips-these gs E j
 
-  -- the environment of a call: its result, its first parameter, the parameters that are passed on, locals of its own, those borrowed anew
+  -- The environment of a call has its result, its first parameter, the parameters that are passed on, its own locals, and those for
+  -- slices that are reborrowed.
   module _ (e f : Ty × ℕ) (gs : Env 𝓤 H) (ps : List Passed) (bs : Addresses (tys ps)) (cs : Addresses (anew ps)) where
     abbrev pub last-env : Env 𝓤 H
     last-env = gs ++ env 𝓤 H (anew ps) cs []
@@ -146,7 +147,7 @@ module _ {M : Type 1} (𝓤 : URA M) (H : Heap 𝓤) where
     abbrev pub whole-env : Env 𝓤 H
     whole-env = e ∷ f ∷ env 𝓤 H (tys ps) bs last-env
 
-    -- the i-th local of its own
+    -- The i-th of its own locals stands here.
     pub own-found : (i : ℕ) → spotOf 𝓤 H whole-env (suc (suc (behind ps i))) ≡ spotOf 𝓤 H last-env i
     own-found i = ap spot (skips-all ps bs last-env 0 i)
 
@@ -159,14 +160,14 @@ module _ {M : Type 1} (𝓤 : URA M) (H : Heap 𝓤) where
 -- ---- the rules
 
 module _ {M : Type 1} {𝓤 : URA M} {H : Heap 𝓤} {A : Atoms 𝓤} {K : Type 0} {W : Given 𝓤 H A} {Γ : List (Item 𝓤)} {G : Goal 𝓤 H} where
-  -- the first parameter is taken out of those that stand as one item, and put back: one that is copied ..
+  -- The first parameter is taken out of those that stand as one item, and put back: here one that is copied,
   takes-1 : K → {c d ps ts : Item 𝓤} → Step K W (ps ∷ ts ∷ c ∷ d ∷ Γ) G (((c ⊛ d) ⊛ ps) ∷ ts ∷ Γ) G
   takes-1 k = step (λ s. split k $ split k $ move k (2 ∷ 3 ∷ []) $ s)
 
   puts-1 : K → {c d ps ts : Item 𝓤} → Step K W (((c ⊛ d) ⊛ ps) ∷ ts ∷ Γ) G (ps ∷ ts ∷ c ∷ d ∷ Γ) G
   puts-1 k = step (λ s. move k (2 ∷ 3 ∷ 0 ∷ []) $ join k $ join k $ s)
 
-  -- .. and one that is lent, with the pointer and the slice that are borrowed anew
+  -- and here one that is lent, with the pointer and the slice that are reborrowed.
   takes-3 : K → {c d c₁ d₁ c₂ d₂ ps ts : Item 𝓤} → Step K W (ps ∷ ts ∷ c ∷ d ∷ c₁ ∷ d₁ ∷ c₂ ∷ d₂ ∷ Γ) G (((c ⊛ d) ⊛ ps) ∷ ((c₁ ⊛ d₁) ⊛ ((c₂ ⊛ d₂) ⊛ ts)) ∷ Γ) G
   takes-3 k = step (λ s. split k $ split k $ move k (3 ∷ []) $ split k $ split k $ move k (2 ∷ []) $ split k $ split k $ move k (7 ∷ 2 ∷ 5 ∷ 6 ∷ 3 ∷ 4 ∷ []) $ s)
 

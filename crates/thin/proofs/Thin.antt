@@ -1,8 +1,8 @@
--- A thin call over a lent record, walked once for every such call:
+-- A thin call over a lent record, walked through once for every such call:
 --     fn f(d: &mut D, ..) -> X { let v = *d; let r = core(v, ..); *d = r.0; r.1 }
--- for any plain D and X, any struct of a D and an X that the core returns, any parameters behind the record, any core, and any relation Rel.
--- What the core promises of the record passed in, and of the record and the X that come back, the thin call promises of the record that the
--- reference holds at entry, of the one that it holds at exit, and of the X that it returns. It says nothing of a device. Assumes nothing.
+-- This holds for any plain D and X, any struct of a D and an X that the core returns, any parameters after the record, any core, and any
+-- relation Rel. What the core promises about the record passed in, and about the record and the X that come back, the thin call promises
+-- about the record in the reference at entry, the record in it at exit, and the X that it returns. No device is named. Assumes nothing.
 --     Core         the core's contract.        thin k     the MIR of a thin call of the core named k
 --     Entry        what the thin call has at entry: the tokens, the reference, and what its other parameters own
 --     Exit         what it owes at exit: the tokens, the X, and last values of the record and of the others for which Rel holds
@@ -66,11 +66,11 @@ module _ (D X : Data) (O : Pair D X) (n : ℕ) (ss : List (Slot n)) (kept : Kept
   abbrev pub Core : {M : Type 1} (𝓤 : URA M) (H : Heap 𝓤) (A : Atoms 𝓤) → Contract 𝓤
   Core 𝓤 H A = tripleOf 𝓤 H A (core-ended .signature) (closing 𝓤 H A core-ended (core-clauses 𝓤))
 
-  -- the type of what the core returns
+  -- This is the type of what the core returns.
   abbrev τ : Ty
   τ = pair-ty (O .name) D X
 
-  -- ---- the thin call: local 0 is its result, 1 the reference, then come the parameters, then v and r, then what is borrowed anew
+  -- ---- the thin call: local 0 is its result, 1 the reference, then come the parameters, then v and r, then what is reborrowed
   module _ (ps : List Passed) where
     abbrev v : ℕ
     v = suc (suc (behind ps 0))
@@ -104,7 +104,7 @@ module _ (D X : Data) (O : Pair D X) (n : ℕ) (ss : List (Slot n)) (kept : Kept
       body = seq (assign (place v []) (rvOpd (copy (place 1 (deref (D .ty) ∷ []))))) (borrowing ps 2 t (calls-core k));
     }
 
-    -- where v, r and the parameters stand, once the locals have their addresses
+    -- v, r and the parameters stand here, once the locals have their addresses.
     module _ {M : Type 1} (𝓤 : URA M) (H : Heap 𝓤) (lx ld lv lr : ℕ) (bs : Addresses (tys ps)) (cs : Addresses (anew ps)) where
       abbrev own-env : Env 𝓤 H
       own-env = (D .ty, lv) ∷ (τ, lr) ∷ []
@@ -124,7 +124,8 @@ module _ (D X : Data) (O : Pair D X) (n : ℕ) (ss : List (Slot n)) (kept : Kept
       ps-found : Found 𝓤 H E ps 2 t bs cs
       ps-found = found 𝓤 H (X .ty, lx) (ref-ty, ld) own-env ps bs cs
 
-    -- the reference is to (b, o), under the name γ, and the record is h; the others are a. κ and q are the record's lifetime and its share.
+    -- The reference is to (b, o), under the name γ, the record is h, and the others are a. κ and q are the record's lifetime and its
+    -- share.
     module _ {M : Type 1} (𝓤 : URA M) (H : Heap 𝓤) (A : Atoms 𝓤) (κ : Lft) (κs : Lfts n) (q : Share) (qs : Shares n)
         (b o : ℕ) (γ : GName) (h : D .row .Denot) (a : Denots (typesAt ss κs)) where
       abbrev lent : RefT (D .row .Denot)
@@ -136,7 +137,7 @@ module _ (D X : Data) (O : Pair D X) (n : ℕ) (ss : List (Slot n)) (kept : Kept
       abbrev pub Entry : Valss (typesAt ss κs) → SProp 𝓤
       Entry vss = sep 𝓤 (sep 𝓤 (A .lft κ q) tokens) (sem 𝓤 H A (fsep (MutRef (named 0) κ (D .row) .own lent (vptr b o ∷ [])) (owns (typesAt ss κs) a vss)))
 
-      -- at last values ws
+      -- This is what is owed at the last values ws.
       abbrev Lasting : X .row .Denot → D .row .Denot × Fins κs ss kept a → SProp 𝓤
       Lasting x ws =
           sep 𝓤 (sem 𝓤 H A (fsep (fres γ (D .row .coded .code (ws .0))) (lastsOf κs ss kept a (ws .1))))
@@ -148,12 +149,12 @@ module _ (D X : Data) (O : Pair D X) (n : ℕ) (ss : List (Slot n)) (kept : Kept
       abbrev pub Exit : Val → SProp 𝓤
       Exit w = H .⇛ (ex 𝓤 (Returned w))
 
-      -- the core's answer x is as it promised, with the others' last values zs
+      -- The core's answer x is as it promised, with the last values zs of the others.
       abbrev Related : O .row .Denot → Fins κs ss kept a → Type 0
       Related x zs = Rel κs h a (O .fst x) (O .snd x) (outs κs ss kept a zs)
 
       module _ (W : Given 𝓤 H A) where
-        -- what is left once the record's borrow is closed and the locals are freed
+        -- This remains once the record's borrow is closed and the locals are freed.
         abbrev at-end : O .row .Denot → Fins κs ss kept a → List (Item 𝓤)
         at-end x zs =
             ‵ (fobs γ (D .row .coded .code (O .fst x))) ∷ ‵ (fbor κ (Behind (mem (D .row)) b o γ)) ∷ ‵ (flft κ q)
@@ -169,7 +170,7 @@ module _ (D X : Data) (O : Pair D X) (n : ℕ) (ss : List (Slot n)) (kept : Kept
             move ! (1 ∷ 0 ∷ []) $ join ! $ frame ! $ show ! (Lasting (O .snd x)) (O .fst x, zs) $ says ! e $ keep ! (0 ∷ 2 ∷ []) $ fjoin ! $ done !
 
         module _ (vss : Valss (typesAt ss κs)) where
-          -- what the core's triple binds outside: the record out of the reference, and the others as they were passed
+          -- The core's triple binds these outside: the record out of the reference, and the others as they were passed.
           abbrev to-core : Core 𝓤 H A .Ghost
           to-core = ((κs, qs, tt, (h, a), (D .val h ∷ [], vss)), tt)
 
@@ -179,7 +180,7 @@ module _ (D X : Data) (O : Pair D X) (n : ℕ) (ss : List (Slot n)) (kept : Kept
           goes : ent 𝓤 (⋆ 𝓤 H A (raw tokens ∷ core-owns ∷ [])) (Core 𝓤 H A .pre to-core)
           goes = qed W (raw tokens ∷ core-owns ∷ []) ∵ join ! $ nothing ! $ move ! (1 ∷ 0 ∷ []) $ join ! $ done !
 
-          -- what the core leaves: its answer; and of it, the others' last values, with the promise
+          -- The core leaves its answer, and with it the last values of the others and the promise.
           abbrev core-left : Val → O .row .Denot → Item 𝓤
           core-left w x = (raw tokens ⊛ ‵ (O .row .own x (w ∷ []))) ⊛ raw (ensured 𝓤 H A core-ended (core-clauses 𝓤) κs (h, a) tt x)
 
@@ -194,17 +195,18 @@ module _ (D X : Data) (O : Pair D X) (n : ℕ) (ss : List (Slot n)) (kept : Kept
                 enter ! C Λ (thin k) (vptr b o ∷ values (tys ps) (helds ps hs)) _ $
                 alloc1 ! (λ lx. alloc1 ! (λ ld. allots ! (tys ps) own-locals (λ bs. alloc1 ! (λ lv. alloc1 ! (λ lr. allots ! (anew ps) [] (λ cs. alloc0 ! $
                 params1 ! $ pass1 ! (init ! 6 refl (tt, tt)) $ move ! (5 ∷ []) $ passes-all ! (tys ps) bs (helds ps hs) (last 𝓤 H lx ld lv lr bs cs) $
-                -- [the parameters; what is borrowed anew; r, v, d, x, each with its right; the tokens; what is owned]
+                -- [the parameters; what is reborrowed; r, v, d, x, each with its right; the tokens; what is owned]
                 move ! (11 ∷ []) $ fsplit ! $ fsplit3 ! $ drop ! $ move ! (13 ∷ []) $ split ! $ move ! (2 ∷ 3 ∷ 0 ∷ []) $
                 -- let v = *d: the record's borrow is opened
                 opens ! tt (D .row) {h = h} b o (λ vs.
                 spelt ! (D .row) (Is (D .row)) (shows 𝓤 H A (D .row)) (λ y. D .val y ∷ []) (D .tells) fullShare h vs b o $ move ! (1 ∷ []) $
                 peeks ! (D .row) (Is (D .row)) (shows 𝓤 H A (D .row)) h (D .val h ∷ []) (λ is. drop ! $
                 rewrite ! 0 (λ (τs : List Ty). ‵ (cellAt fullShare τs (D .val h ∷ []) b o)) (D .mir-is) refl $
-                -- [the record's cell, its open borrow, its name twice; the other tokens; what the others own; the parameters; ..; r, v, d, x]
+                -- [the record's cell, its open borrow, its name twice; the other tokens; what the others own; the parameters; ..;
+                -- r, v, d, x]
                 assigns ! (of-opd ! (load ! (from ! (hop ! (look ! 12 refl) (stop !))) (look-raw ! 0 refl)))
                 (at-local ! (v-found 𝓤 H lx ld lv lr bs cs) (stop !)) (init ! 10 refl (D .typed 𝓤 H A W h is)) $
-                -- let r = core(v, ..): slices are borrowed anew, and the core gets v and what the others own
+                -- let r = core(v, ..): slices are reborrowed, and the core gets v and what the others own
                 move ! (6 ∷ 7 ∷ []) $ borrows ! (calls-core k) ps hs 2 t bs cs (ps-found 𝓤 H lx ld lv lr bs cs) $
                 owned ! (D .row) (Is (D .row)) (D .makes 𝓤 H A W) h (D .val h ∷ []) is $ move ! (0 ∷ 8 ∷ []) $ fjoin ! $ move ! (7 ∷ 0 ∷ []) $
                 use2 W (raw (Core 𝓤 H A .pre to-core)) goes $
@@ -215,7 +217,8 @@ module _ (D X : Data) (O : Pair D X) (n : ℕ) (ss : List (Slot n)) (kept : Kept
                 use1 W (later (some (core-left w))) (id⊢ 𝓤 _) $ await ! tt $ pick ! (λ x. split ! $ move ! (1 ∷ []) $
                 use1 W (some (core-says x)) (id⊢ 𝓤 _) $ pick ! (λ zs. split ! $ move ! (1 ∷ []) $ heard ! (Related x (zs .1)) (λ e. fsplit ! $ drop ! $
                 move ! (1 ∷ []) $ split ! $ move ! (1 ∷ []) $ peeks ! (O .row) (Is (O .row)) (shows 𝓤 H A (O .row)) x (w ∷ []) (λ is′.
-                -- [the answer; the other tokens; the others' last values; the parameters; ..; the record's cell, borrow and name; r, v, d, x]
+                -- [the answer; the other tokens; the others' last values; the parameters; ..; the record's cell, borrow and name;
+                -- r, v, d, x]
                 land ! (at-local ! (r-found 𝓤 H lx ld lv lr bs cs) (stop !)) (init ! 9 refl (O .typed 𝓤 H A W x w is′)) $
                 rewrite ! 9 (λ (u : Val). ‵ (fat fullShare τ lr 0 u)) (O .told x w is′) refl $
                 -- *d = r.0
@@ -228,7 +231,7 @@ module _ (D X : Data) (O : Pair D X) (n : ℕ) (ss : List (Slot n)) (kept : Kept
                 rewrite ! 5 (λ (τs : List Ty). ‵ (cellAt fullShare τs (D .val (O .fst x) ∷ []) b o)) (sym (D .mir-is)) refl $ drop ! $
                 owned ! (D .row) (Is (D .row)) (D .makes 𝓤 H A W) (O .fst x) _ (O .fst-is x w is′) $ move ! (5 ∷ 0 ∷ 6 ∷ 7 ∷ 8 ∷ []) $
                 closes ! tt (D .row) (O .fst x) (D .val (O .fst x) ∷ []) b o $
-                -- the locals are freed: x, d, the parameters, v, r, what was borrowed anew
+                -- the locals are freed: x, d, the parameters, v, r, what was reborrowed
                 returns ! (look ! 13 refl) $ forget ! 13 refl $ move ! (13 ∷ 14 ∷ []) $ free1 ! $ forget ! 11 refl $ move ! (11 ∷ 12 ∷ []) $ free1 ! $
                 move ! (5 ∷ []) $ frees-all ! (tys ps) bs (helds ps hs) (last 𝓤 H lx ld lv lr bs cs) $
                 forget ! 8 refl $ move ! (8 ∷ 9 ∷ []) $ free1 ! $ forget ! 6 refl $ move ! (6 ∷ 7 ∷ []) $ free1 ! $

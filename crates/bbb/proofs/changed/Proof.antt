@@ -1,4 +1,4 @@
--- `bbb::changed` meets its contract: the parts that changed. Assumes nothing.
+-- `bbb::changed` meets its contract, part by part. Assumes nothing.
 use borrow.Author.Needs.{needs}
 use Rattle.bbb.proofs.Polling.{ways}
 use Rattle.bbb.proofs.changed.Statement.{statement}

@@ -1,4 +1,4 @@
--- `bbb::fits` meets its contract: the three lengths in turn. Assumes nothing.
+-- `bbb::fits` meets its contract: it tests the three lengths in turn. Assumes nothing.
 use Rattle.bbb.proofs.Polling.{ways}
 use Rattle.bbb.proofs.fits.Statement.{statement}
 use Rattle.bbb.proofs.fits.Tie as tie

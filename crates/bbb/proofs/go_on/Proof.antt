@@ -1,4 +1,4 @@
--- `bbb::go_on` meets its contract: the row that the ring comes to, then its act. Assumes nothing.
+-- `bbb::go_on` meets its contract: the ring gives a row, and then its act is done. Assumes nothing.
 use borrow.Author.Needs.{needs}
 use Rattle.bbb.proofs.Polling.{ways}
 use Rattle.bbb.proofs.go_on.Statement.{statement}

@@ -1,4 +1,5 @@
--- `bbb::poll` meets its contract: 10, 11, or open, decide and act, which `Same` shows to be 01's rule. Assumes nothing.
+-- `bbb::poll` meets its contract: it answers 10 or 11, or it opens, decides and acts, which `Same` shows to be 01's rule. Assumes
+-- nothing.
 use borrow.Author.Needs.{needs}
 use Rattle.device.proofs.Wholly.{tested}
 use Rattle.bbb.proofs.Polling.{first-fits, is-fitting, broken-10, refused-11, polls}
@@ -22,7 +23,7 @@ go-on-requires c κs =
       is-fitting _ _ _ _ (test .before .fits2 .ensures) (test .if2 .taken),
     )
 
--- that the buffer was as long behind opening lies too far back to be found
+-- Opening leaves the buffer as long as it was. That fact lies too far back for the search, so it is named here.
 same-length : tie.Need-same-length
 same-length c = search (c .before .before .before .before .before .before .before .before .before .before .before .before .io, needs)
 

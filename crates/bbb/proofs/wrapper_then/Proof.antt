@@ -1,4 +1,4 @@
--- `bbb::wrapper_then` meets its contract: the 31 bytes in front of the read mark, or the wrapper before. Assumes nothing.
+-- `bbb::wrapper_then` meets its contract: it reads the 31 bytes just before the read mark, or keeps the old wrapper. Assumes nothing.
 use borrow.Author.Needs.{needs}
 use Rattle.bbb.proofs.Polling.{ways}
 use Rattle.bbb.proofs.wrapper_then.Statement.{statement}

@@ -1,4 +1,4 @@
--- A poll as the code goes about it: open, decide, act. Only the contracts of inner functions cite these definitions; proofs/Same.antt shows
+-- A poll as the code does it: open, decide, act. Only the contracts of inner functions cite these definitions; proofs/Same.antt shows
 -- that together they are document 01's rules. Assumes nothing: these are definitions.
 use mathlib.Core.Path.{_≡_}
 use mathlib.Core.Bool.{Bool, true, false, cond, _&&_}
@@ -44,13 +44,14 @@ use Rattle.bbb.specs.Poll.{Given, leftThen, messageAt, fallsShort, offer
 
 -- ---- check
 
--- A refusal leaves "all as before".
+-- A refusal with the answer `a` leaves "all as before": the record is still `d`.
 abbrev pub refusedBy : Device → Answer → Polled
 refusedBy d a = record { device = d; report = record { answer = a; taken = 0; sent = 0; stalls = Kept } }
 
 -- ---- open
 
--- What opening leaves, with the answer by its number.
+-- Opening leaves these: what it `found`, the marks, left, the direction of a valid wrapper, the answer by its number, the number of
+-- packets `taken`, and whether it `cleared` the status because 0 was entered.
 pub record Open : Type 0 where
   pub found : Found
   pub marks : Marks
@@ -63,19 +64,22 @@ pub record Open : Type 0 where
 abbrev pub opening : Found → Marks → Left → DataDirection → Answering → ℕ → Bool → Open
 opening f m l d t taken cleared = record { found = f; marks = m; left = l; direction = d; answer = t; taken = taken; cleared = cleared }
 
+-- This reads what the code returned, `o`, as such a record.
 abbrev pub openOf : Opened → Open
 openOf o = opening (o .found) (o .marks) (o .left) (o .direction) (answerOf (o .answer)) (o .taken) (o .cleared)
 
+-- This is true if a valid wrapper was found.
 abbrev pub isValidFound : Found → Bool
 isValidFound found.Nothing = false
 isValidFound found.Invalid = false
 isValidFound found.Valid = true
 
--- A wrapper that was found valid stands in front of the read mark.
+-- If a valid wrapper was found, the read mark of `r` is at least 31: the bytes of the wrapper stand just before it.
 abbrev pub InFront : Opened → Type 0
 InFront r = isValidFound (r .found) ≡ true → 31 ≤ r .marks .read
 
--- What a function that opens promises: x, and the IO buffer's bytes; sound marks; at most one packet; where the wrapper stands.
+-- A function that opens promises this: it returns `r`, which is `x`; the IO buffer is then `io′`, which is `io`; the marks are sound; at
+-- most one packet was taken; and `InFront` is true.
 pub record Opens (x : Open) (io : List ℕ) (r : Opened) (io′ : List ℕ) : Type 0 where
   pub leaves : openOf r ≡ x
   pub bytes : io′ ≡ io
@@ -83,64 +87,80 @@ pub record Opens (x : Open) (io : List ℕ) (r : Opened) (io′ : List ℕ) : Ty
   pub once : r .taken ≤ 1
   pub front : InFront r
 
+-- These are the marks `m` after 31 bytes were read.
 abbrev pub behind : Marks → Marks
 behind m = at (m .read + 31) (m .write)
 
+-- The first 31 unread bytes of the buffer `s` are parsed. With a valid wrapper, its length is left and its direction counts; with an
+-- invalid one, `left` stays. Either way one packet was taken, and `cleared` is passed on.
 unfoldable pub parsedOpen : Buffer → Left → Bool → Open
 parsedOpen s left cleared =
     cond (isValid (messageAt s))
     (opening found.Valid (behind (s .marks)) (record { 0 = wrapperOf (messageAt s) .length }) (wrapperOf (messageAt s) .direction) (answer 0) 1 cleared)
     (opening found.Invalid (behind (s .marks)) left NotExpected (answer 0) 1 cleared)
 
+-- One packet was taken if `took` is true, and none otherwise.
 abbrev pub countOf : Bool → ℕ
 countOf took = cond took 1 0
 
+-- A read gave the buffer `t`: `took` says whether it took a packet, and `said` is its answer. If it took one and 31 or more bytes are
+-- unread, they are parsed; otherwise no wrapper was found.
 unfoldable pub openAfter : Buffer → Bool → Answering → Left → Bool → Open
 openAfter t took said left cleared = cond (took && leb 31 (unread t)) (parsedOpen t left cleared) (opening found.Nothing (t .marks) left NotExpected said (countOf took) cleared)
 
+-- The offer `one` is read into the buffer `s`: `p` is the packet size, and `e` is what the OUT endpoint does. What follows is
+-- `openAfter`.
 unfoldable pub readOpen : ℕ → Endpoint → List ℕ → Left → Bool → Buffer → Open
 readOpen p e one left cleared s = openAfter (received p e one s) (takesOne p e s) (readAnswer p e s) left cleared
 
+-- These are the bytes of the IO buffer after that read.
 abbrev pub readIo : ℕ → Endpoint → List ℕ → Buffer → List ℕ
 readIo p e one s = received p e one s .bytes
 
--- in 0, and in 3 with nothing unread
+-- A poll reads for a wrapper in state 0, and in state 3 if nothing is unread (`empty`).
 unfoldable pub opens : ℕ → Bool → Bool
 opens state empty = cond (eqb state 0) true (cond (eqb state 3) empty false)
 
+-- `left` becomes 0 if 0 is entered.
 abbrev pub leftWhen : Bool → Left → Left
 leftWhen true left = record { 0 = 0 }
 leftWhen false left = left
 
--- whether the chain that starts in this record reaches the wrapper
+-- This says whether a poll that starts with the numbers `n` reads for a wrapper.
 unfoldable pub isOpening : Numbers → Bool
 isOpening n = opens (stateNumber (n .state)) (eqb (n .marks .write - n .marks .read) 0)
 
+-- This says whether such a poll enters 0 and so clears status and left: it does if it starts in 3.
 abbrev pub clears : Numbers → Bool
 clears n = eqb (stateNumber (n .state)) 3
 
+-- A poll that starts with the numbers `n` opens like this: if `isOpening` says so, the offer `one` is read into the IO buffer `io`;
+-- otherwise nothing happens. `e` is what the OUT endpoint does.
 unfoldable pub opened : Numbers → List ℕ → List ℕ → Endpoint → Open
 opened n io one e =
     cond (isOpening n)
     (readOpen (n .fixed .packetsize) e one (leftWhen (clears n) (n .left)) (clears n) (buffer io (n .marks)))
     (opening found.Nothing (n .marks) (n .left) NotExpected (answer 0) 0 false)
 
+-- These are the bytes of the IO buffer after opening.
 unfoldable pub openedIo : Numbers → List ℕ → List ℕ → Endpoint → List ℕ
 openedIo n io one e = cond (isOpening n) (readIo (n .fixed .packetsize) e one (buffer io (n .marks))) io
 
 -- ---- the wrapper that the record has then
 
--- the 31 bytes in front of the read mark
+-- These are the 31 bytes of `io` just before the read mark of `m`.
 unfoldable pub justRead : List ℕ → Marks → List ℕ
 justRead io m = take 31 (drop (m .read - 31) io)
 
--- The one that was found valid, or the one before. Acting may overwrite its bytes.
+-- The record then has the wrapper that opening found valid, which stands in `io`, or else keeps the wrapper `w`. `o` is what opening
+-- gave. The wrapper is read before the act, because acting may overwrite its bytes.
 unfoldable pub wrapperThen : Open → List ℕ → Wrapper → Wrapper
 wrapperThen o io w = cond (isValidFound (o .found)) (wrapperOf (justRead io (o .marks))) w
 
 -- ---- act
 
--- What an act leaves, with the answer by its number, and the IO buffer's bytes.
+-- An act leaves these: the marks, left, the number of bytes `sent`, the answer by its number, the number of packets `taken` in the whole
+-- poll, whether both endpoints are `stalled`, and the bytes of the IO buffer.
 pub record Done : Type 0 where
   pub marks : Marks
   pub left : Left
@@ -153,20 +173,25 @@ pub record Done : Type 0 where
 abbrev pub done : Marks → Left → ℕ → Answering → ℕ → Bool → List ℕ → Done
 done m l sent t taken stalled io = record { marks = m; left = l; sent = sent; answer = t; taken = taken; stalled = stalled; io = io }
 
+-- This reads what the code returned, `r`, and the IO buffer `io` after it, as such a record.
 abbrev pub doneOf : Did → List ℕ → Done
 doneOf r io = done (r .marks) (r .left) (r .sent) (answerOf (r .answer)) (r .taken) (r .stalled) io
 
--- What a function that acts promises: x, and the packet buffer.
+-- A function that acts promises this: it returns `r` and leaves `io′`, which together are `x`; the packet buffer is then `packet′`, which
+-- is `packet`.
 pub record Acts (x : Done) (packet : List ℕ) (r : Did) (io′ packet′ : List ℕ) : Type 0 where
   pub leaves : doneOf r io′ ≡ x
   pub into : packet′ ≡ packet
 
+-- Nothing crosses the wire after opening gave `o`. This is what the code returns.
 abbrev pub restDid : Opened → Bool → Did
 restDid o stalled = record { marks = o .marks; left = o .left; sent = 0; answer = o .answer; taken = o .taken; stalled = stalled }
 
+-- This is the same by 01's numbers, with the IO buffer `io`.
 abbrev pub rested : Open → Bool → List ℕ → Done
 rested o stalled io = done (o .marks) (o .left) 0 (o .answer) (o .taken) stalled io
 
+-- The marks `m` become 0 if the act says that the buffer is emptied first.
 abbrev pub emptiedMarks : Before → Marks → Marks
 emptiedMarks before.Nothing m = m
 emptiedMarks before.Whole m = m
@@ -174,15 +199,21 @@ emptiedMarks before.Fill m = m
 emptiedMarks before.Status m = m
 emptiedMarks before.Empty m = at 0 0
 
+-- One more packet was taken if `more` is true.
 abbrev pub oneMore : ℕ → Bool → ℕ
 oneMore taken more = cond more (taken + 1) taken
 
+-- The offered `packet` is read into the buffer `s`, and left falls by its bytes: `p` is the packet size, and `e` is what the OUT endpoint
+-- does. Opening gave `o`.
 unfoldable pub tookFrom : ℕ → Endpoint → List ℕ → Buffer → Open → Done
 tookFrom p e packet s o = done (received p e packet s .marks) (fallen (o .left) (brought p e packet s)) 0 (readAnswer p e s) (oneMore (o .taken) (takesOne p e s)) false (received p e packet s .bytes)
 
+-- A packet of data is read into the IO buffer `io` from the offers `one` and `two`, with the OUT answers of `turn`: `b` says what is done
+-- to the buffer first, and `p` is the packet size. Opening gave `o`.
 unfoldable pub took : Before → ℕ → Open → List ℕ → List ℕ → List ℕ → Turn → Done
 took b p o io one two turn = tookFrom p (offeredBy (o .taken) turn) (offers (o .taken) one two) (buffer io (emptiedMarks b (o .marks))) o
 
+-- A packet is refused with 4 only if a whole one is due: `left` is at least `p`, and `n`, the number of unread bytes, is below `p`.
 abbrev pub refuses : Before → ℕ → Left → ℕ → Bool
 refuses before.Nothing p left n = false
 refuses before.Whole p left n = fallsShort p left n
@@ -190,6 +221,7 @@ refuses before.Fill p left n = false
 refuses before.Status p left n = false
 refuses before.Empty p left n = false
 
+-- This is the buffer from which the packet is sent: `s` itself, `s` filled up, or `s` with the status of `n` in it.
 abbrev pub readied : Before → ℕ → Buffer → Left → Numbers → Buffer
 readied before.Nothing p s left n = s
 readied before.Whole p s left n = s
@@ -197,27 +229,35 @@ readied before.Fill p s left n = filledUp p left s
 readied before.Status p s left n = statusPut (n .tag) (n .status) s
 readied before.Empty p s left n = s
 
+-- One packet is sent from the buffer `s`: `p` is the packet size, and `e` is what the IN endpoint does. Opening gave `o`. If `counts` is
+-- true, left falls by the bytes sent.
 unfoldable pub sentFrom : Bool → ℕ → Endpoint → Buffer → Open → Done
 sentFrom counts p e s o = done (sentOff p e s .marks) (leftThen counts (o .left) (sentCount p e s)) (sentCount p e s) (sendAnswer e (unread s)) (o .taken) false (sentOff p e s .bytes)
 
+-- This is the same with a check before it, in a poll that starts with the numbers `n`: if `refuses` is true, nothing is sent, and the
+-- answer is 4. Otherwise the buffer is readied as `b` says, and a packet is sent. Opening gave `o` and the IO buffer `io`.
 unfoldable pub sentBy : Before → Bool → Numbers → Open → List ℕ → Endpoint → Done
 sentBy b counts n o io e =
     cond (refuses b (n .fixed .packetsize) (o .left) (o .marks .write - o .marks .read))
     (done (o .marks) (o .left) 0 (answer 4) (o .taken) false io)
     (sentFrom counts (n .fixed .packetsize) e (readied b (n .fixed .packetsize) (buffer io (o .marks)) (o .left) n) o)
 
+-- This is the packet buffer after that; it was `packet`.
 unfoldable pub sentPacket : Before → Numbers → Open → List ℕ → Endpoint → List ℕ → List ℕ
 sentPacket b n o io e packet =
     cond (refuses b (n .fixed .packetsize) (o .left) (o .marks .write - o .marks .read))
     packet
     (sentInto (n .fixed .packetsize) e (readied b (n .fixed .packetsize) (buffer io (o .marks)) (o .left) n) packet)
 
+-- One of four is picked by what crosses the wire: `a` if nothing does, `b` if nothing does and both endpoints are stalled, `c` if a
+-- packet is read, `d` if one is sent.
 abbrev pub byKind : {A : Type 0} → Kind → A → A → A → A → A
 byKind kind.Rest a b c d = a
 byKind kind.Stall a b c d = b
 byKind kind.Read a b c d = c
 byKind kind.Send a b c d = d
 
+-- An act does what its `row` says, in a poll that starts with the numbers `n` and was given `g`. Opening gave `o` and the IO buffer `io`.
 unfoldable pub acted : Row → Numbers → Open → List ℕ → Given → Done
 acted row n o io g =
     byKind (row .1)
@@ -226,11 +266,14 @@ acted row n o io g =
     (took (row .2) (n .fixed .packetsize) o io (g .one) (g .two) (g .turn))
     (sentBy (row .2) (row .3) n o io (endpointOf (g .turn .write)))
 
+-- This is the packet buffer after that act.
 unfoldable pub actedPacket : Row → Numbers → Open → List ℕ → Given → List ℕ
 actedPacket row n o io g = byKind (row .1) (g .packet) (g .packet) (g .packet) (sentPacket (row .2) n o io (endpointOf (g .turn .write)) (g .packet))
 
 -- ---- what a poll changes
 
+-- A poll changes these, apart from the wrapper, and reports them: `cleared` says whether the status is cleared, and `io` and `packet` are
+-- the two buffers at the end.
 pub record Ended : Type 0 where
   pub state : State
   pub marks : Marks
@@ -243,18 +286,22 @@ pub record Ended : Type 0 where
   pub io : List ℕ
   pub packet : List ℕ
 
+-- This reads what the code returned, `c`, with the buffers `io` and `packet` after it, as such a record.
 abbrev pub endedOf : Change → List ℕ → List ℕ → Ended
 endedOf c io packet = record { state = c .state; marks = c .marks; left = c .left; cleared = c .cleared; answer = answerOf (c .report .answer); taken = c .report .taken; sent = c .report .sent; stalls = c .report .stalls; io = io; packet = packet }
 
+-- The poll ends in the state `s`, after opening gave `o` and the act gave `x`, with the packet buffer `packet`.
 abbrev pub endedBy : State → Open → Done → List ℕ → Ended
 endedBy s o x packet = record { state = s; marks = x .marks; left = x .left; cleared = o .cleared; answer = x .answer; taken = x .taken; sent = x .sent; stalls = stallsOf (o .cleared) (x .stalled); io = x .io; packet = packet }
 
+-- The poll ends with the act of this `row`.
 unfoldable pub endsWith : Row → Numbers → Open → List ℕ → Given → Ended
 endsWith row n o io g = endedBy (row .0) o (acted row n o io g) (actedPacket row n o io g)
 
+-- After opening gave `o`, the handlers decide on the act, and the poll ends with it.
 unfoldable pub goneOn : Numbers → Open → List ℕ → Given → Ended
 goneOn n o io g = endsWith (rowOf (settled (n .state) (n .left .0) (isPresent (n .status)) (eqb (n .marks .write - n .marks .read) 0) (o .found) (o .direction) (o .left .0))) n o io g
 
--- The record with what changed, and its wrapper then.
+-- This is the record `d` with the changes `c` and the wrapper `w`.
 abbrev pub changedBy : Device → Change → Wrapper → Device
 changedBy d c w = rebuilt d (c .state) (c .marks) w (cond (c .cleared) Absent (d .status)) (c .left)

@@ -1,4 +1,4 @@
--- `calls::accept` meets its contract: a byte that is known stands for its own status. Assumes nothing.
+-- `calls::accept` meets its contract: a known byte stands for its status. Assumes nothing.
 use borrow.Author.Needs.{needs}
 use Rattle.calls.proofs.Laws.{ways}
 use Rattle.calls.proofs.accept.Statement.{statement}

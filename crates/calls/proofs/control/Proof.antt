@@ -1,4 +1,4 @@
--- `calls::control` meets its contract: one law for each way, by the request type. Assumes nothing.
+-- `calls::control` meets its contract: the request type decides, and each way has one law. Assumes nothing.
 use borrow.Author.Needs.{needs}
 use Rattle.calls.proofs.Laws.{ways}
 use Rattle.calls.proofs.control.Statement.{statement}

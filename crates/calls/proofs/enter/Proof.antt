@@ -1,4 +1,4 @@
--- `calls::enter` meets its contract: the record rebuilt. Assumes nothing.
+-- `calls::enter` meets its contract: it rebuilds the record. Assumes nothing.
 use borrow.Author.Needs.{needs}
 use Rattle.calls.proofs.Laws.{ways}
 use Rattle.calls.proofs.enter.Statement.{statement}

@@ -1,4 +1,4 @@
--- `calls::is_in` meets its contract: a comparison of state numbers. Assumes nothing.
+-- `calls::is_in` meets its contract: it compares the numbers of states. Assumes nothing.
 use borrow.Author.Needs.{needs}
 use Rattle.calls.proofs.Laws.{ways}
 use Rattle.calls.proofs.is_in.Statement.{statement}

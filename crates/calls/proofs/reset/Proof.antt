@@ -1,4 +1,4 @@
--- `calls::reset` meets its contract: one law for each way. Assumes nothing.
+-- `calls::reset` meets its contract: each way has one law. Assumes nothing.
 use borrow.Author.Needs.{needs}
 use Rattle.calls.proofs.Laws.{ways}
 use Rattle.calls.proofs.reset.Statement.{statement}

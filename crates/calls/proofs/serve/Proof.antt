@@ -1,4 +1,4 @@
--- `calls::serve` meets its contract: one law for each request. Assumes nothing.
+-- `calls::serve` meets its contract: each request has one law. Assumes nothing.
 use borrow.Author.Needs.{needs}
 use Rattle.calls.proofs.Laws.{ways}
 use Rattle.calls.proofs.serve.Statement.{statement}

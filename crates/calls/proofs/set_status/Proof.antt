@@ -1,4 +1,4 @@
--- `calls::set_status` meets its contract: one law for each way, by the state. Assumes nothing.
+-- `calls::set_status` meets its contract: the state decides, and each way has one law. Assumes nothing.
 use borrow.Author.Needs.{needs}
 use Rattle.calls.proofs.Laws.{ways}
 use Rattle.calls.proofs.set_status.Statement.{statement}

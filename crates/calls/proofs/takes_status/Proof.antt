@@ -1,4 +1,4 @@
--- `calls::takes_status` meets its contract: four comparisons, in order. Assumes nothing.
+-- `calls::takes_status` meets its contract: it makes four comparisons, in order. Assumes nothing.
 use Rattle.calls.proofs.Laws.{ways}
 use Rattle.calls.proofs.takes_status.Statement.{statement}
 use Rattle.calls.proofs.takes_status.Tie as tie

@@ -1,4 +1,4 @@
--- `calls::try_write_data_all` meets its contract: sound marks, and all of the source was taken or nothing. Assumes nothing.
+-- `calls::try_write_data_all` meets its contract: the marks are sound, and all of the source was taken or nothing. Assumes nothing.
 use borrow.Author.Needs.{needs}
 use Rattle.calls.proofs.Laws.{ways}
 use Rattle.calls.proofs.try_write_data_all.Statement.{statement}

@@ -1,4 +1,4 @@
--- `calls::write_data` meets its contract: a source cut to min(left, its length) is cut to left. Assumes nothing.
+-- `calls::write_data` meets its contract: to cut a source to min(left, its length) is to cut it to left. Assumes nothing.
 use mathlib.Core.Path.{sym}
 use borrow.Author.Needs.{needs}
 use Rattle.calls.proofs.Laws.{length-cut, data-done, writes, ways}
@@ -8,7 +8,7 @@ use Rattle.calls.proofs.write_data.Tie as tie
 slice-aggregate-write : tie.Need-slice-aggregate-write
 slice-aggregate-write c = sym (length-cut _ _ (c .before .before .least .ensures))
 
--- the tests lie too far back to be found
+-- The tests lie too far back for the search, so they are named here.
 returns-2 : tie.Need-returns-2
 returns-2 c =
     let put = c .before .before .before .before in

@@ -1,4 +1,5 @@
--- What the code of a call returns, case by case. Assumes nothing: these are definitions.
+-- What the code of a call returns, case by case. In all of them `d` is the record, and `answer` is the answer. Assumes nothing: these are
+-- definitions.
 use Prim.Native.Nat.{ℕ}
 use mathlib.Core.Bool.{false}
 use lib.ListN.{replicate}
@@ -17,26 +18,30 @@ use Rattle.calls.specs.declared.command.Shown.{Shown}
 use Rattle.calls.specs.declared.command.Offer.the-variants as offer
 use Rattle.calls.specs.declared.command.Step.{Step}
 
--- what a call returns that took no status
+-- `set_status` returns this if it took no status.
 abbrev pub refuses : Device → Answer → Stated
 refuses d answer = record { device = d; answer = answer }
 
--- what a call returns that moved nothing, and one that left these marks
+-- A read or write returns this if it moved nothing.
 abbrev pub unmoved : Device → Answer → Moved
 unmoved d answer = record { device = d; report = record { answer = answer; count = 0 } }
 
+-- A read or write returns this if it left the marks `m` and moved `count` bytes.
 abbrev pub movesTo : Device → Marks → Answer → ℕ → Moved
 movesTo d m answer count = record { device = withMarks m d; report = record { answer = answer; count = count } }
 
--- what a call returns that changes nothing, and one that enters 0
+-- A reset or a control request returns this if it changes nothing; `reply` goes back to the host.
 abbrev pub keeps : Device → Answer → Reply → Handled
 keeps d answer reply = record { device = d; report = record { answer = answer; stalls = Kept; reply = reply } }
 
+-- A reset or a control request returns this if it enters 0.
 abbrev pub enters0 : Device → Handled
 enters0 d = record { device = entering0 d; report = record { answer = Done; stalls = Unstalled; reply = reply.Nothing } }
 
+-- The call that shows the command returns this if it shows none.
 abbrev pub hides : Answer → Shown
 hides answer = record { answer = answer; shown = false; lun = 0; blocklength = 0; block = replicate 16 0 }
 
+-- The command step returns this if it offers nothing.
 abbrev pub offersNone : Answer → Step
 offersNone answer = record { answer = answer; offer = offer.Nothing }

@@ -1,4 +1,4 @@
--- `device::command_fits` meets its contract: block length, then LUN. Assumes nothing.
+-- `device::command_fits` meets its contract: the block length is tested, then the LUN. Assumes nothing.
 use Rattle.device.proofs.Laws.{ways}
 use Rattle.device.proofs.command_fits.Statement.{statement}
 use Rattle.device.proofs.command_fits.Tie as tie

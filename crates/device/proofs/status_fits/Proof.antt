@@ -1,4 +1,4 @@
--- `device::status_fits` meets its contract: with a status, and without. Assumes nothing.
+-- `device::status_fits` meets its contract, with a status and without one. Assumes nothing.
 use borrow.Author.Needs.{needs}
 use Rattle.device.proofs.Laws.{ways}
 use Rattle.device.proofs.status_fits.Statement.{statement}

@@ -1,4 +1,4 @@
--- `device::whole` meets its contract: rule by rule. Assumes nothing.
+-- `device::whole` meets its contract, rule by rule. Assumes nothing.
 use borrow.Author.Needs.{needs}
 use Rattle.device.proofs.Laws.{ways}
 use Rattle.device.proofs.whole.Statement.{statement}

@@ -1,4 +1,4 @@
--- `packets::fill` meets its contract: by as many as `min(left, p)` lacks, or by none. Assumes nothing.
+-- `packets::fill` meets its contract: it adds as many bytes as are missing to `min(left, p)`, or none. Assumes nothing.
 use borrow.Author.Needs.{needs}
 use Rattle.packets.proofs.Laws.{ways}
 use Rattle.packets.proofs.fill.Statement.{statement}

@@ -1,4 +1,4 @@
--- `packets::put_status` meets its contract: the emptied buffer, then the status's 13 bytes. Assumes nothing.
+-- `packets::put_status` meets its contract: the 13 bytes of the status are written into the emptied buffer. Assumes nothing.
 use borrow.Author.Needs.{needs}
 use Rattle.packets.proofs.Laws.{ways}
 use Rattle.packets.proofs.put_status.Statement.{statement}

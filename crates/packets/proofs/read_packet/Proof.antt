@@ -1,4 +1,5 @@
--- `packets::read_packet` meets its contract: room first, then what the endpoint hands over, the packet or nothing. Assumes nothing.
+-- `packets::read_packet` meets its contract: room comes first, and then what the endpoint hands over, the packet or nothing. Assumes
+-- nothing.
 use borrow.Author.Needs.{needs}
 use Rattle.packets.proofs.Laws.{ways}
 use Rattle.packets.proofs.read_packet.Statement.{statement}

@@ -1,4 +1,4 @@
--- `packets::reported` meets its contract: by whether there was room. Assumes nothing.
+-- `packets::reported` meets its contract: there was room, or there was not. Assumes nothing.
 use borrow.Author.Needs.{needs}
 use Rattle.packets.proofs.Laws.{ways}
 use Rattle.packets.proofs.reported.Statement.{statement}

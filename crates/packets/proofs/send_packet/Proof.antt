@@ -1,4 +1,5 @@
--- `packets::send_packet` meets its contract: the first unread bytes where the endpoint does its part, otherwise none. Assumes nothing.
+-- `packets::send_packet` meets its contract: if the endpoint does its part, the first unread bytes are sent, and otherwise none. Assumes
+-- nothing.
 use borrow.Author.Needs.{needs}
 use Rattle.packets.proofs.Laws.{ways}
 use Rattle.packets.proofs.send_packet.Statement.{statement}

@@ -1,4 +1,4 @@
--- What the functions for one packet promise, with sound marks again. Assumes nothing: these are definitions.
+-- What the functions for one packet promise; the marks that they leave are sound again. Assumes nothing: these are definitions.
 use mathlib.Core.Path.{_≡_}
 use mathlib.Core.Bool.{false, cond}
 use mathlib.Core.List.{List}
@@ -12,21 +12,24 @@ use Rattle.packets.specs.declared.Received.{Received}
 use Rattle.packets.specs.declared.Sent.{Sent}
 use Rattle.packets.specs.Packets.{readAnswer, takesOne, brought, received, sendAnswer, sentCount, sentOff, sentInto}
 
--- What is reported of it, by whether there was room, with n bytes put in.
+-- A read reports `r`: room was asked for, and `t` is what came of that; `e` is what the OUT endpoint does, and `n` bytes were put in if
+-- there was room.
 pub record Reports (t : Put) (e : Endpoint) (n : ℕ) (r : Received) : Type 0 where
   pub answer : answerOf (r .answer) ≡ cond (t .done) (answeredBy e) (answer 1)
   pub taken : r .taken ≡ cond (t .done) (serves e) false
   pub count : r .count ≡ cond (t .done) n 0
   pub marks : r .marks ≡ t .marks
 
--- What a read promises.
+-- A read promises this. It asks OUT, which does `e` and offers `packet`, for one packet of at most `p` bytes; before it the buffer is
+-- `s`, and after it the IO buffer is `io`. It returns `r`.
 pub record Reads (p : ℕ) (e : Endpoint) (packet : List ℕ) (s : Buffer) (r : Received) (io : List ℕ) : Type 0 where
   pub answer : answerOf (r .answer) ≡ readAnswer p e s
   pub taken : r .taken ≡ takesOne p e s
   pub count : r .count ≡ brought p e packet s
   pub leaves : Leaves (buffer io (r .marks)) (received p e packet s)
 
--- What a send promises.
+-- A send promises this. It offers IN, which does `e`, at most `p` bytes of the buffer `s`; the packet buffer is `packet` before it and
+-- `packet′` after it. It returns `r`.
 pub record Sends (p : ℕ) (e : Endpoint) (s : Buffer) (packet : List ℕ) (r : Sent) (packet′ : List ℕ) : Type 0 where
   pub answer : answerOf (r .answer) ≡ sendAnswer e (unread s)
   pub count : r .count ≡ sentCount p e s

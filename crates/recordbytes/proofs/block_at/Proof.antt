@@ -1,4 +1,4 @@
--- `recordbytes::block_at` meets its contract: the 16 bytes one by one. Assumes nothing.
+-- `recordbytes::block_at` meets its contract: it reads the 16 bytes one by one. Assumes nothing.
 use borrow.Author.Needs.{needs}
 use Rattle.recordbytes.proofs.Reading.{ways}
 use Rattle.recordbytes.proofs.block_at.Statement.{statement}

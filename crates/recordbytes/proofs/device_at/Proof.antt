@@ -1,4 +1,4 @@
--- `recordbytes::device_at` meets its contract: two fields and the four parts. Assumes nothing.
+-- `recordbytes::device_at` meets its contract: it reads two fields and the four parts. Assumes nothing.
 use borrow.Author.Needs.{needs}
 use Rattle.recordbytes.proofs.Reading.{ways}
 use Rattle.recordbytes.proofs.device_at.Statement.{statement}

@@ -1,4 +1,4 @@
--- `recordbytes::fixed_at` meets its contract: three numbers. Assumes nothing.
+-- `recordbytes::fixed_at` meets its contract: it reads three numbers. Assumes nothing.
 use borrow.Author.Needs.{needs}
 use Rattle.recordbytes.proofs.Reading.{ways}
 use Rattle.recordbytes.proofs.fixed_at.Statement.{statement}

@@ -1,4 +1,4 @@
--- `recordbytes::known` meets its contract: the length, then the four numbers in turn. Assumes nothing.
+-- `recordbytes::known` meets its contract: it tests the length, then the four numbers in turn. Assumes nothing.
 use borrow.Author.Needs.{needs}
 use Rattle.recordbytes.proofs.Reading.{ways}
 use Rattle.recordbytes.proofs.known.Statement.{statement}

@@ -1,4 +1,4 @@
--- `recordbytes::marks_at` meets its contract: two fields. Assumes nothing.
+-- `recordbytes::marks_at` meets its contract: it reads two fields. Assumes nothing.
 use borrow.Author.Needs.{needs}
 use Rattle.recordbytes.proofs.Reading.{ways}
 use Rattle.recordbytes.proofs.marks_at.Statement.{statement}

@@ -1,4 +1,4 @@
--- `recordbytes::numbers_at` meets its contract: the numbers of the device that was read. Assumes nothing.
+-- `recordbytes::numbers_at` meets its contract: it gives the numbers of the device that was read. Assumes nothing.
 use borrow.Author.Needs.{needs}
 use Rattle.recordbytes.proofs.Reading.{ways}
 use Rattle.recordbytes.proofs.numbers_at.Statement.{statement}

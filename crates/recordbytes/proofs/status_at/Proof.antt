@@ -1,4 +1,4 @@
--- `recordbytes::status_at` meets its contract: three fields. Assumes nothing.
+-- `recordbytes::status_at` meets its contract: it reads three fields. Assumes nothing.
 use borrow.Author.Needs.{needs}
 use Rattle.recordbytes.proofs.Reading.{ways}
 use Rattle.recordbytes.proofs.status_at.Statement.{statement}

@@ -1,4 +1,4 @@
--- `recordbytes::status_by` meets its contract: none where the flag is 0. Assumes nothing.
+-- `recordbytes::status_by` meets its contract: there is no status if the flag is 0. Assumes nothing.
 use borrow.Author.Needs.{needs}
 use Rattle.recordbytes.proofs.Reading.{ways}
 use Rattle.recordbytes.proofs.status_by.Statement.{statement}

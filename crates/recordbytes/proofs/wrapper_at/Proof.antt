@@ -1,4 +1,4 @@
--- `recordbytes::wrapper_at` meets its contract: five fields and the block. Assumes nothing.
+-- `recordbytes::wrapper_at` meets its contract: it reads five fields and the block. Assumes nothing.
 use borrow.Author.Needs.{needs}
 use Rattle.recordbytes.proofs.Reading.{ways}
 use Rattle.recordbytes.proofs.wrapper_at.Statement.{statement}

@@ -5,6 +5,6 @@ use lib.ListN.{length}
 use Rattle.wrapper.specs.declared.Head.{Head}
 use Rattle.wrapper.specs.declared.Wrapper.{Wrapper}
 
--- a wrapper's head and its block
+-- This is the wrapper with the head `h` and the command block `block`.
 abbrev pub joined : Head → List ℕ → Wrapper
 joined h block = record { tag = h .tag; length = h .length; direction = h .direction; lun = h .lun; blocklength = h .blocklength; block = block }

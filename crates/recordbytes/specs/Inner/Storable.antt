@@ -1,4 +1,4 @@
--- Which devices have a place in a record, and which records are a device's. Assumes nothing: these are definitions.
+-- Which devices fit into a record, and which records belong to a device. Assumes nothing: these are definitions.
 use mathlib.Core.Path.{_≡_}
 use mathlib.Core.List.{List}
 use Prim.Native.Nat.{ℕ, _<_, _^_}
@@ -11,7 +11,7 @@ use Rattle.device.specs.declared.Status.the-variants.{Present}
 use Rattle.recordbytes.specs.Layout as field
 use Rattle.recordbytes.specs.Record.{fixedAt}
 
--- each number that storing writes fits into its field: one byte, or four; and the block has its 16 bytes
+-- Each number of the device `d` that storing writes fits into its field of one byte or four, and the command block has its 16 bytes.
 pub record Storable (d : Device) : Type 0 where
   pub read : d .marks .read < 2 ^ 32
   pub write : d .marks .write < 2 ^ 32
@@ -23,12 +23,12 @@ pub record Storable (d : Device) : Type 0 where
   pub blocklength : d .wrapper .blocklength < 256
   pub block : length (d .wrapper .block) ≡ 16
 
--- 52 bytes with what creation fixed in its fields: it wrote them, and nothing else does
+-- The bytes `r` are 52, and hold in their fields what creation fixed for the device `d`: only creation writes those fields.
 pub record RecordOf (d : Device) (r : List ℕ) : Type 0 where
   pub long : length r ≡ field.recordSize
   pub fixed : fixedAt r ≡ d .fixed
 
--- what creation fixes fits into its fields
+-- What creation fixes, `f`, fits into its fields.
 pub record Fixable (f : Fixed) : Type 0 where
   pub packetsize : f .packetsize < 256
   pub maxlun : f .maxlun < 256

@@ -1,5 +1,5 @@
--- The nine handlers and `enter`, which call each other in a ring, meet their contracts: the first parameter falls at each call, and each handler has
--- one law for each way through it. Assumes nothing.
+-- The nine handlers and `enter`, which call each other in a ring, meet their contracts: the first parameter falls at each call, and there
+-- is one law for each way through a handler. Assumes nothing.
 use Rattle.ring.proofs.Laws.{ways, calls}
 use borrow.Author.Needs.{needs}
 use Prim.Native.Nat.{ℕ, _<_}

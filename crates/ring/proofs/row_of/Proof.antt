@@ -1,4 +1,4 @@
--- `ring::row_of` meets its contract: row by row. Assumes nothing.
+-- `ring::row_of` meets its contract, row by row. Assumes nothing.
 use borrow.Author.Needs.{needs}
 use Rattle.ring.proofs.Laws.{rows}
 use Rattle.ring.proofs.row_of.Statement.{statement}

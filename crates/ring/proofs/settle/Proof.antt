@@ -1,4 +1,4 @@
--- `ring::settle` meets its contract: each state's handler, and the number of a poll suffices. Assumes nothing.
+-- `ring::settle` meets its contract: each state calls its handler, and the number of chained handlers suffices. Assumes nothing.
 use borrow.Author.Needs.{needs}
 use Rattle.ring.proofs.Laws.{starts, enough}
 use Rattle.ring.proofs.settle.Statement.{statement}

@@ -1,4 +1,4 @@
--- `ring::state_of_number` meets its contract: one number for each arm, and the last for the rest. Assumes nothing.
+-- `ring::state_of_number` meets its contract: each arm has one number, and the last arm has all others. Assumes nothing.
 use Rattle.ring.specs.States.{stateOfNumber}
 use Rattle.ring.proofs.Numbers.{the-last-state}
 use Rattle.ring.proofs.state_of_number.Statement.{statement}

@@ -1,4 +1,4 @@
--- `bbb::act::act` meets its contract: by the kind that the row says. Assumes nothing.
+-- `bbb::act::act` meets its contract, for each kind that the row can have. Assumes nothing.
 use borrow.Author.Needs.{needs}
 use Rattle.bbb.proofs.Acting.{ways}
 use Rattle.bbb.proofs.act.act.Statement.{statement}

@@ -1,4 +1,4 @@
--- `bbb::act::falls_short` meets its contract: left at least p, then unread below p. Assumes nothing.
+-- `bbb::act::falls_short` meets its contract: left is tested against p, then unread. Assumes nothing.
 use borrow.Author.Needs.{needs}
 use Rattle.bbb.proofs.Acting.{ways}
 use Rattle.bbb.proofs.act.falls_short.Statement.{statement}

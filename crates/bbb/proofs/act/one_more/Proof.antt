@@ -1,4 +1,4 @@
--- `bbb::act::one_more` meets its contract: by whether a packet was taken. Assumes nothing.
+-- `bbb::act::one_more` meets its contract: a packet was taken, or none was. Assumes nothing.
 use borrow.Author.Needs.{needs}
 use Rattle.bbb.proofs.Acting.{ways}
 use Rattle.bbb.proofs.act.one_more.Statement.{statement}

@@ -1,4 +1,4 @@
--- `bbb::act::put_status` meets its contract: the status that is present, or none. Assumes nothing.
+-- `bbb::act::put_status` meets its contract, with a status and without one. Assumes nothing.
 use borrow.Author.Needs.{needs}
 use Rattle.bbb.proofs.Acting.{ways}
 use Rattle.bbb.proofs.act.put_status.Statement.{statement}

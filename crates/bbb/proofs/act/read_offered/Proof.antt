@@ -1,4 +1,4 @@
--- `bbb::act::read_offered` meets its contract: the first offer, or the second. Assumes nothing.
+-- `bbb::act::read_offered` meets its contract, for the first offer and for the second. Assumes nothing.
 use borrow.Author.Needs.{needs}
 use Rattle.bbb.proofs.Acting.{ways}
 use Rattle.bbb.proofs.act.read_offered.Statement.{statement}

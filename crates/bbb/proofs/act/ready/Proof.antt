@@ -1,4 +1,4 @@
--- `bbb::act::ready` meets its contract: by what the row says comes before. Assumes nothing.
+-- `bbb::act::ready` meets its contract, for each thing that the row can say comes before. Assumes nothing.
 use borrow.Author.Needs.{needs}
 use Rattle.bbb.proofs.Acting.{ways}
 use Rattle.bbb.proofs.act.ready.Statement.{statement}

@@ -1,4 +1,4 @@
--- `bbb::act::refused` meets its contract: only where a whole packet may be due. Assumes nothing.
+-- `bbb::act::refused` meets its contract: it refuses only if a whole packet may be due. Assumes nothing.
 use borrow.Author.Needs.{needs}
 use Rattle.bbb.proofs.Acting.{ways}
 use Rattle.bbb.proofs.act.refused.Statement.{statement}

@@ -1,4 +1,4 @@
--- `bbb::act::send` meets its contract: refused with 4, or sent. Assumes nothing.
+-- `bbb::act::send` meets its contract: the packet is refused with 4, or sent. Assumes nothing.
 use borrow.Author.Needs.{needs}
 use Rattle.bbb.proofs.Acting.{ways}
 use Rattle.bbb.proofs.act.send.Statement.{statement}

@@ -1,4 +1,4 @@
--- `bbb::act::take` meets its contract: from the marks that the row says. Assumes nothing.
+-- `bbb::act::take` meets its contract: it reads from the marks that the row gives. Assumes nothing.
 use borrow.Author.Needs.{needs}
 use Rattle.bbb.proofs.Acting.{ways}
 use Rattle.bbb.proofs.act.take.Statement.{statement}

@@ -1,4 +1,4 @@
--- `bbb::open::left_when` meets its contract: 0 where 0 is entered. Assumes nothing.
+-- `bbb::open::left_when` meets its contract: left becomes 0 if 0 is entered. Assumes nothing.
 use borrow.Author.Needs.{needs}
 use Rattle.bbb.proofs.Opening.{ways}
 use Rattle.bbb.proofs.open.left_when.Statement.{statement}

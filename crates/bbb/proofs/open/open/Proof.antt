@@ -1,4 +1,4 @@
--- `bbb::open::open` meets its contract: where the wrapper is reached, and where not. Assumes nothing.
+-- `bbb::open::open` meets its contract: the wrapper is reached, or it is not. Assumes nothing.
 use borrow.Author.Needs.{needs}
 use Rattle.bbb.proofs.Opening.{ways}
 use Rattle.bbb.proofs.open.open.Statement.{statement}

@@ -1,4 +1,4 @@
--- `bbb::open::parse` meets its contract: the 31 bytes are those behind the read mark. Assumes nothing.
+-- `bbb::open::parse` meets its contract: the 31 bytes are those from the read mark on. Assumes nothing.
 use borrow.Author.Needs.{needs}
 use Rattle.bbb.proofs.Opening.{ways}
 use Rattle.bbb.proofs.open.parse.Statement.{statement}

@@ -1,4 +1,4 @@
--- `bbb::open::read_wrapper` meets its contract: the packet, then the 31 bytes. Assumes nothing.
+-- `bbb::open::read_wrapper` meets its contract: the packet is read, then the 31 bytes are parsed. Assumes nothing.
 use borrow.Author.Needs.{needs}
 use Rattle.bbb.proofs.Opening.{ways}
 use Rattle.bbb.proofs.open.read_wrapper.Statement.{statement}

@@ -1,4 +1,4 @@
--- `border::word::word` meets its contract: a sum whose parts fit into 64 bits. Assumes nothing.
+-- `border::word::word` meets its contract: the parts of the sum fit into 64 bits. Assumes nothing.
 use Rattle.border.specs.Word.{word}
 use borrow.Author.Needs.{needs}
 use Rattle.border.proofs.word.word.Statement.{statement}

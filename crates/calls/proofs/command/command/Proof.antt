@@ -1,4 +1,4 @@
--- `calls::command::command` meets its contract: one law for each way. Assumes nothing.
+-- `calls::command::command` meets its contract: each way has one law. Assumes nothing.
 use borrow.Author.Needs.{needs}
 use Rattle.calls.proofs.Laws.{ways}
 use Rattle.calls.proofs.command.command.Statement.{statement}

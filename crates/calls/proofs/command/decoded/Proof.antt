@@ -1,4 +1,4 @@
--- `calls::command::decoded` meets its contract: by what the decoder says of that many bytes. Assumes nothing.
+-- `calls::command::decoded` meets its contract: the decoder decides, given the block's own bytes. Assumes nothing.
 use mathlib.Core.Path.{sym}
 use native.Mathlib.Omega.{arith}
 use lib.Seq.{length-take-le}

@@ -1,4 +1,4 @@
--- `calls::command::offers` meets its contract: by the state, then by the status. Assumes nothing.
+-- `calls::command::offers` meets its contract: the state decides, then the status. Assumes nothing.
 use borrow.Author.Needs.{needs}
 use Rattle.calls.proofs.Laws.{ways}
 use Rattle.calls.proofs.command.offers.Statement.{statement}

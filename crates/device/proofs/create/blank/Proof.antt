@@ -1,4 +1,4 @@
--- `device::create::blank` meets its contract: no wrapper yet. Assumes nothing.
+-- `device::create::blank` meets its contract: there is no wrapper yet. Assumes nothing.
 use borrow.Author.Needs.{needs}
 use Rattle.device.proofs.Laws.{ways}
 use Rattle.device.proofs.create.blank.Statement.{statement}

@@ -1,4 +1,4 @@
--- `device::create::creatable` meets its contract: by the answer of creation. Assumes nothing.
+-- `device::create::creatable` meets its contract: the answer of creation decides. Assumes nothing.
 use borrow.Author.Needs.{needs}
 use Rattle.device.proofs.Laws.{ways}
 use Rattle.device.proofs.create.creatable.Statement.{statement}

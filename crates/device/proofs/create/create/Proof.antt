@@ -1,4 +1,4 @@
--- `device::create::create` meets its contract: a device, or none. Assumes nothing.
+-- `device::create::create` meets its contract: it gives a device, or none. Assumes nothing.
 use borrow.Author.Needs.{needs}
 use Rattle.device.proofs.Laws.{ways}
 use Rattle.device.proofs.create.create.Statement.{statement}

@@ -1,4 +1,4 @@
--- `device::create::is_packet_size` meets its contract: the four sizes. Assumes nothing.
+-- `device::create::is_packet_size` meets its contract, for each of the four sizes. Assumes nothing.
 use borrow.Author.Needs.{needs}
 use Rattle.device.proofs.Laws.{ways}
 use Rattle.device.proofs.create.is_packet_size.Statement.{statement}

@@ -1,4 +1,4 @@
--- `recordbytes::store::marks` meets its contract: two numbers, each narrowed. Assumes nothing.
+-- `recordbytes::store::marks` meets its contract: it narrows and stores two numbers. Assumes nothing.
 use borrow.Author.Needs.{needs}
 use Rattle.recordbytes.proofs.Storing.{ways}
 use Rattle.recordbytes.proofs.store.marks.Statement.{statement}

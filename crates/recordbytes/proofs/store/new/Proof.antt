@@ -1,4 +1,4 @@
--- `recordbytes::store::new` meets its contract: zeros hide all that was there; then three numbers. Assumes nothing.
+-- `recordbytes::store::new` meets its contract: zeros cover all that was there, and then three numbers are stored. Assumes nothing.
 use borrow.Author.Needs.{needs}
 use Rattle.recordbytes.proofs.Storing.{ways}
 use Rattle.recordbytes.proofs.store.new.Statement.{statement}

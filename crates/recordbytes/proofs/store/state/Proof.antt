@@ -1,4 +1,4 @@
--- `recordbytes::store::state` meets its contract: one number, that of the state. Assumes nothing.
+-- `recordbytes::store::state` meets its contract: it stores one number, that of the state. Assumes nothing.
 use borrow.Author.Needs.{needs}
 use Rattle.recordbytes.proofs.Storing.{ways}
 use Rattle.recordbytes.proofs.store.state.Statement.{statement}

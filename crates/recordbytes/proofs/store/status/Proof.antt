@@ -1,4 +1,4 @@
--- `recordbytes::store::status` meets its contract: the flag alone, or the flag and two numbers. Assumes nothing.
+-- `recordbytes::store::status` meets its contract: it stores only the flag, or the flag and two numbers. Assumes nothing.
 use borrow.Author.Needs.{needs}
 use Rattle.recordbytes.proofs.Storing.{ways}
 use Rattle.recordbytes.proofs.store.status.Statement.{statement}

@@ -1,4 +1,4 @@
--- `recordbytes::store::store32` meets its contract: the number stands there, or four bytes are written. Assumes nothing.
+-- `recordbytes::store::store32` meets its contract: the number stands there already, or four bytes are written. Assumes nothing.
 use borrow.Author.Needs.{needs}
 use Rattle.recordbytes.proofs.Storing.{ways}
 use Rattle.recordbytes.proofs.store.store32.Statement.{statement}

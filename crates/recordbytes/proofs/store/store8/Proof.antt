@@ -1,4 +1,4 @@
--- `recordbytes::store::store8` meets its contract: the number stands there, or one store writes it. Assumes nothing.
+-- `recordbytes::store::store8` meets its contract: the number stands there already, or one store writes it. Assumes nothing.
 use borrow.Author.Needs.{needs}
 use Rattle.recordbytes.proofs.Storing.{ways}
 use Rattle.recordbytes.proofs.store.store8.Statement.{statement}

@@ -1,4 +1,4 @@
--- `recordbytes::store::wrapper` meets its contract: five numbers, and the block laid over behind them. Assumes nothing.
+-- `recordbytes::store::wrapper` meets its contract: it stores five numbers, and then the block. Assumes nothing.
 use borrow.Author.Needs.{needs}
 use Rattle.recordbytes.proofs.Storing.{ways}
 use Rattle.recordbytes.proofs.store.wrapper.Statement.{statement}
