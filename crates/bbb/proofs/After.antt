@@ -25,7 +25,7 @@ use Rattle.fields.specs.Overlay.{overlay}
 use Rattle.fields.proofs.Bools.{of-picked}
 use Rattle.fields.proofs.Seq.{drop-take}
 use Rattle.fields.proofs.Overlay.{part-inside}
-use Rattle.buffer.specs.Buffer.{Buffer, buffer, at, unread, unreadBytes, emptied, fitting, lacksRoom, ready, given}
+use Rattle.buffer.specs.Buffer.{Buffer, buffer, at, unread, unreadBytes, emptied, fitting, lacksRoom, ready, readyBytes}
 use Rattle.buffer.specs.Inner.Buffer.{Sound}
 use Rattle.buffer.proofs.Kept.{length-unread, ready-most, sound-emptied}
 use Rattle.buffer.proofs.Room.{fitting-by-unread}
@@ -41,11 +41,11 @@ use Rattle.wrapper.specs.Counters.{fallen}
 use Rattle.wrapper.specs.Status.{statusNumber, statusBytes}
 use Rattle.wrapper.specs.Wrapper.{isValid, wrapperOf}
 use Rattle.wrapper.proofs.Csw.{length-status}
-use Rattle.packets.specs.Packets.{handed, readAnswer, takesOne, brought, received, accepted, sendAnswer, sentCount, sentOff, sentInto, filledUp, withStatus}
+use Rattle.packets.specs.Packets.{handed, readAnswer, takesOne, brought, received, accepted, sendAnswer, sentCount, sentOff, sentInto, filledUp, statusWritten}
 use Rattle.packets.proofs.Laws.{handed-most, answers-0, answer-served, sent-unserved, off-nothing, into-nothing}
 use Rattle.device.specs.declared.Status.the-variants.{Present}
 use Rattle.device.specs.Device.{isPresent, inState, withMarks, withLeft}
-use Rattle.bbb.specs.Poll.{Given, Polling, Point, bufferAt, reaching, leaving, leftThen, counting, ending, ends, sendBy, send, sendStatus, sendData, offers, offeredBy, takeBy, takeData, statusPut, enterStatus, statusAwaitRule, noDataRule, toHostEndingRule, fallsShort, toHostRule, fromHostEndingRule, fromHostRule, ordered, startRule, messageAt, behind31, parseRule, readBy, readOneBy, readCbwRule}
+use Rattle.bbb.specs.Poll.{Given, Polling, Point, bufferOfPoint, reaching, leaving, leftThen, counting, ending, ends, sendBy, send, sendStatus, sendData, offeredPacket, offeredBy, takeBy, takeData, statusPut, enterStatus, statusAwaitRule, noDataRule, toHostEndingRule, fallsShort, toHostRule, fromHostEndingRule, fromHostRule, starting, startRule, messageAt, past31, parseRule, readBy, readOneBy, readCbwRule}
 use Rattle.bbb.proofs.Keeping.{follows-received, follows-filled, follows-status, by-direction}
 
 -- This is the buffer that a poll leaves.
@@ -62,15 +62,15 @@ inFor g = endpointOf (g .turn .write)
 abbrev pub outFor : Given → Point → Endpoint
 outFor g x = offeredBy (x .taken) (g .turn)
 
-abbrev pub offered : Given → Point → List ℕ
-offered g x = offers (x .taken) (g .one) (g .two)
+abbrev pub offeredAt : Given → Point → List ℕ
+offeredAt g x = offeredPacket (x .taken) (g .one) (g .two)
 
 abbrev pub firstFor : Given → Endpoint
 firstFor g = endpointOf (g .turn .first)
 
 -- Nothing crosses the wire: at most the unread bytes were moved, and of the record only the marks changed.
 pub record Idle (g : Given) (x : Point) (o : Polling) : Type 0 where
-  pub unread : unreadBytes (bufferAfter o) ≡ unreadBytes (bufferAt x)
+  pub unread : unreadBytes (bufferAfter o) ≡ unreadBytes (bufferOfPoint x)
   pub device : withMarks (x .device .marks) (o .device) ≡ x .device
   pub taken : o .taken ≡ x .taken
   pub sent : o .sent ≡ 0
@@ -81,7 +81,7 @@ pub record Idle (g : Given) (x : Point) (o : Polling) : Type 0 where
 module _ (p : ℕ) (e : Endpoint) (s : Buffer) where
   -- What is sent and what stays unread are together what was unread.
   sent-split : (packet : List ℕ) → Sound s → take (sentCount p e s) (sentInto p e s packet) ++ unreadBytes (sentOff p e s) ≡ unreadBytes s
-  unfolding sentCount sentInto sentOff given
+  unfolding sentCount sentInto sentOff readyBytes
   sent-split packet h =
       let k : ℕ = ready (accepted e p) s in
       let ys : List ℕ = take k (unreadBytes s) in
@@ -118,9 +118,9 @@ left-kept false l = refl
 -- The packet is data if `counts` is true, and the status otherwise.
 module _ (counts : Bool) (g : Given) (x : Point) where
   -- The bytes sent, and then those still unread, are those that were unread.
-  pub send-unread : Sound (bufferAt x) → take (send counts g x .sent) (send counts g x .packet) ++ unreadBytes (bufferAfter (send counts g x)) ≡ unreadBytes (bufferAt x)
+  pub send-unread : Sound (bufferOfPoint x) → take (send counts g x .sent) (send counts g x .packet) ++ unreadBytes (bufferAfter (send counts g x)) ≡ unreadBytes (bufferOfPoint x)
   unfolding send sendBy
-  send-unread h = sent-split (P x) (inFor g) (bufferAt x) (g .packet) h
+  send-unread h = sent-split (P x) (inFor g) (bufferOfPoint x) (g .packet) h
 
   -- Of the record only marks and left change: with the old ones put back, it is the old record.
   pub send-keeps : withLeft (x .device .left) (withMarks (x .device .marks) (send counts g x .device)) ≡ x .device
@@ -128,26 +128,26 @@ module _ (counts : Bool) (g : Given) (x : Point) where
   send-keeps = refl
 
   -- "send min(P, unread)" is done if IN does its part,
-  pub send-sent : serves (inFor g) ≡ true → send counts g x .sent ≡ min (P x) (unread (bufferAt x))
+  pub send-sent : serves (inFor g) ≡ true → send counts g x .sent ≡ min (P x) (unread (bufferOfPoint x))
   unfolding send sendBy
-  send-sent serving = sent-all (P x) (inFor g) (bufferAt x) serving
+  send-sent serving = sent-all (P x) (inFor g) (bufferOfPoint x) serving
 
   -- and the answer is then 0.
   pub send-answer : serves (inFor g) ≡ true → send counts g x .answer ≡ answer 0
   unfolding send sendBy
-  send-answer serving = answer-served (inFor g) (unread (bufferAt x)) serving
+  send-answer serving = answer-served (inFor g) (unread (bufferOfPoint x)) serving
 
-  send-ends : sentCount (P x) (inFor g) (bufferAt x) ≡ 0 → send counts g x ≡ ends g x (sendAnswer (inFor g) (unread (bufferAt x)))
+  send-ends : sentCount (P x) (inFor g) (bufferOfPoint x) ≡ 0 → send counts g x ≡ ends g x (sendAnswer (inFor g) (unread (bufferOfPoint x)))
   unfolding send sendBy
-  send-ends k = rw (off-nothing (P x) (inFor g) (bufferAt x) k, into-nothing (P x) (inFor g) (bufferAt x) k (g .packet), k, left-kept counts (x .device .left))
+  send-ends k = rw (off-nothing (P x) (inFor g) (bufferOfPoint x) k, into-nothing (P x) (inFor g) (bufferOfPoint x) k (g .packet), k, left-kept counts (x .device .left))
 
   -- "nothing unread sends nothing, answer 0": whatever IN says, nothing changes
-  pub send-nothing : unread (bufferAt x) ≡ 0 → send counts g x ≡ ends g x (answer 0)
-  send-nothing none = send-ends (sent-nothing (P x) (inFor g) (bufferAt x) none) ∙ ap (ends g x) (answer-nothing (inFor g) (unread (bufferAt x)) none)
+  pub send-nothing : unread (bufferOfPoint x) ≡ 0 → send counts g x ≡ ends g x (answer 0)
+  send-nothing none = send-ends (sent-nothing (P x) (inFor g) (bufferOfPoint x) none) ∙ ap (ends g x) (answer-nothing (inFor g) (unread (bufferOfPoint x)) none)
 
   -- 6 and 7: nothing changes if IN is asked and does not do its part.
-  pub send-unserved : serves (inFor g) ≡ false → (unread (bufferAt x) ≡ 0 → ⊥) → send counts g x ≡ ends g x (answeredBy (inFor g))
-  send-unserved idle some = send-ends (sent-unserved (P x) (inFor g) (bufferAt x) idle) ∙ ap (ends g x) (answer-something (inFor g) (unread (bufferAt x)) some)
+  pub send-unserved : serves (inFor g) ≡ false → (unread (bufferOfPoint x) ≡ 0 → ⊥) → send counts g x ≡ ends g x (answeredBy (inFor g))
+  send-unserved idle some = send-ends (sent-unserved (P x) (inFor g) (bufferOfPoint x) idle) ∙ ap (ends g x) (answer-something (inFor g) (unread (bufferOfPoint x)) some)
 
 -- "Left falls by bytes moved, never below 0": it falls by bytes of data, and not by those of the status.
 pub data-left : (g : Given) (x : Point) → sendData g x .device .left .0 ≡ x .device .left .0 - sendData g x .sent
@@ -184,7 +184,7 @@ module _ (p : ℕ) (left : Left) (s : Buffer) (h : Sound s) where
 
 -- At this point 6 sends.
 abbrev pub topped : Point → Point
-topped x = reaching DataTransferToHostEnding (leaving (filledUp (P x) (x .device .left) (bufferAt x)) x)
+topped x = reaching DataTransferToHostEnding (leaving (filledUp (P x) (x .device .left) (bufferOfPoint x)) x)
 
 module _ (g : Given) (x : Point) (some : x .device .left .0 ≡ 0 → ⊥) where
   -- "6: left 0 goes to 3. Otherwise .. send"
@@ -193,18 +193,18 @@ module _ (g : Given) (x : Point) (some : x .device .left .0 ≡ 0 → ⊥) where
   fill-sends = rw (ne-eqb _ _ some)
 
   -- The bytes sent, and then those still unread, are those that were unread with the 0xFF after them.
-  pub ending-unread : Sound (bufferAt x) → P x ≤ length (x .io) → take (toHostEndingRule g x .sent) (toHostEndingRule g x .packet) ++ unreadBytes (bufferAfter (toHostEndingRule g x))
-      ≡ unreadBytes (bufferAt x) ++ replicate (min (x .device .left .0) (P x) - unread (bufferAt x)) 0xFF
-  ending-unread h wide = rw fill-sends (send-unread true g (topped x) (follows-filled (P x) (x .device .left) (bufferAt x) h .sound) ∙ fill-exact (P x) (x .device .left) (bufferAt x) h wide)
+  pub ending-unread : Sound (bufferOfPoint x) → P x ≤ length (x .io) → take (toHostEndingRule g x .sent) (toHostEndingRule g x .packet) ++ unreadBytes (bufferAfter (toHostEndingRule g x))
+      ≡ unreadBytes (bufferOfPoint x) ++ replicate (min (x .device .left .0) (P x) - unread (bufferOfPoint x)) 0xFF
+  ending-unread h wide = rw fill-sends (send-unread true g (topped x) (follows-filled (P x) (x .device .left) (bufferOfPoint x) h .sound) ∙ fill-exact (P x) (x .device .left) (bufferOfPoint x) h wide)
 
   -- 6 sends this many bytes if IN does its part.
-  pub ending-sent : Sound (bufferAt x) → P x ≤ length (x .io) → serves (inFor g) ≡ true → toHostEndingRule g x .sent ≡ min (P x) (max (min (x .device .left .0) (P x)) (unread (bufferAt x)))
-  ending-sent h wide serving = rw fill-sends (send-sent true g (topped x) serving ∙ ap (min (P x)) (fill-count (P x) (x .device .left) (bufferAt x) h wide))
+  pub ending-sent : Sound (bufferOfPoint x) → P x ≤ length (x .io) → serves (inFor g) ≡ true → toHostEndingRule g x .sent ≡ min (P x) (max (min (x .device .left .0) (P x)) (unread (bufferOfPoint x)))
+  ending-sent h wide serving = rw fill-sends (send-sent true g (topped x) serving ∙ ap (min (P x)) (fill-count (P x) (x .device .left) (bufferOfPoint x) h wide))
 
 -- ---- the status
 
 status-put : (tag : ℕ) (status : CommandStatus) (residue : Residue) (s : Buffer) → 13 ≤ length (s .bytes) → unreadBytes (statusPut tag (Present status residue) s) ≡ statusBytes tag residue (statusNumber status)
-unfolding statusPut withStatus emptied
+unfolding statusPut statusWritten emptied
 status-put tag status residue s wide =
     let ys : List ℕ = statusBytes tag residue (statusNumber status) in
     let long : length ys ≡ 13 = length-status tag residue (statusNumber status) in
@@ -213,11 +213,11 @@ status-put tag status residue s wide =
 
 -- At this point 3 sends, once it is entered.
 abbrev pub stated : Point → Point
-stated x = reaching StatusTransfer (leaving (statusPut (x .device .wrapper .tag) (x .device .status) (bufferAt x)) x)
+stated x = reaching StatusTransfer (leaving (statusPut (x .device .wrapper .tag) (x .device .status) (bufferOfPoint x)) x)
 
 -- The marks there are sound.
-pub stated-sound : (x : Point) → Sound (bufferAt (stated x))
-stated-sound x = follows-status (x .device .wrapper .tag) (x .device .status) (bufferAt x) .sound
+pub stated-sound : (x : Point) → Sound (bufferOfPoint (stated x))
+stated-sound x = follows-status (x .device .wrapper .tag) (x .device .status) (bufferOfPoint x) .sound
 
 -- Of the record only marks and state change.
 pub enter-keeps : (g : Given) (x : Point) → withMarks (x .device .marks) (enterStatus g x .device) ≡ inState StatusTransfer (x .device)
@@ -227,11 +227,11 @@ enter-keeps g x = refl
 -- A status is present, and the buffer is large enough for it.
 module _ (x : Point) (status : CommandStatus) (residue : Residue) (here : x .device .status ≡ Present status residue) (wide : 13 ≤ length (x .io)) where
   -- The 13 bytes of the status are unread before the send.
-  pub stated-unread : unreadBytes (bufferAt (stated x)) ≡ statusBytes (x .device .wrapper .tag) residue (statusNumber status)
-  stated-unread = rw here (status-put (x .device .wrapper .tag) status residue (bufferAt x) wide)
+  pub stated-unread : unreadBytes (bufferOfPoint (stated x)) ≡ statusBytes (x .device .wrapper .tag) residue (statusNumber status)
+  stated-unread = rw here (status-put (x .device .wrapper .tag) status residue (bufferOfPoint x) wide)
 
-  stated-count : unread (bufferAt (stated x)) ≡ 13
-  stated-count = sym (length-unread (bufferAt (stated x)) (stated-sound x)) ∙ ap length stated-unread ∙ length-status (x .device .wrapper .tag) residue (statusNumber status)
+  stated-count : unread (bufferOfPoint (stated x)) ≡ 13
+  stated-count = sym (length-unread (bufferOfPoint (stated x)) (stated-sound x)) ∙ ap length stated-unread ∙ length-status (x .device .wrapper .tag) residue (statusNumber status)
 
   module _ (g : Given) where
     -- The bytes sent, and then those still unread, are the 13 of the status.
@@ -247,7 +247,7 @@ module _ (x : Point) (status : CommandStatus) (residue : Residue) (here : x .dev
     -- 6 and 7: the bytes of the status stay unread, in 3.
     pub enter-unserved : serves (inFor g) ≡ false → enterStatus g x ≡ ends g (stated x) (answeredBy (inFor g))
     unfolding enterStatus
-    enter-unserved idle = send-unserved false g (stated x) idle (λ (none : unread (bufferAt (stated x)) ≡ 0). omega (arith, stated-count))
+    enter-unserved idle = send-unserved false g (stated x) idle (λ (none : unread (bufferOfPoint (stated x)) ≡ 0). omega (arith, stated-count))
 
 -- ---- a packet that is read
 
@@ -279,21 +279,21 @@ module _ (g : Given) (x : Point) where
   unfolding takeData takeBy
   take-sends = (refl, refl)
 
-  take-idle : takesOne (P x) (outFor g x) (bufferAt x) ≡ false → brought (P x) (outFor g x) (offered g x) (bufferAt x) ≡ 0
-      → unreadBytes (received (P x) (outFor g x) (offered g x) (bufferAt x)) ≡ unreadBytes (bufferAt x) → Idle g x (takeData g x)
+  take-idle : takesOne (P x) (outFor g x) (bufferOfPoint x) ≡ false → brought (P x) (outFor g x) (offeredAt g x) (bufferOfPoint x) ≡ 0
+      → unreadBytes (received (P x) (outFor g x) (offeredAt g x) (bufferOfPoint x)) ≡ unreadBytes (bufferOfPoint x) → Idle g x (takeData g x)
   unfolding takeData takeBy
   take-idle none k same = record { unread = same; device = rw (k, fallen-nothing (x .device .left)); taken = rw none; sent = refl; packet = refl }
 
-  module _ (h : Sound (bufferAt x)) (fits : length (offered g x) ≤ P x) where
+  module _ (h : Sound (bufferOfPoint x)) (fits : length (offeredAt g x) ≤ P x) where
     -- There is room, and OUT does its part.
-    module _ (room : lacksRoom (P x) (bufferAt x) ≡ false) (serving : serves (outFor g x) ≡ true) where
+    module _ (room : lacksRoom (P x) (bufferOfPoint x) ≡ false) (serving : serves (outFor g x) ≡ true) where
       -- The packet stands after the unread bytes.
-      pub take-unread : unreadBytes (bufferAfter (takeData g x)) ≡ unreadBytes (bufferAt x) ++ offered g x
+      pub take-unread : unreadBytes (bufferAfter (takeData g x)) ≡ unreadBytes (bufferOfPoint x) ++ offeredAt g x
       unfolding takeData takeBy
-      take-unread = received-all (P x) (outFor g x) (offered g x) (bufferAt x) h fits room serving
+      take-unread = received-all (P x) (outFor g x) (offeredAt g x) (bufferOfPoint x) h fits room serving
 
       -- Left falls by its length.
-      pub take-left : takeData g x .device .left .0 ≡ x .device .left .0 - length (offered g x)
+      pub take-left : takeData g x .device .left .0 ≡ x .device .left .0 - length (offeredAt g x)
       unfolding takeData takeBy fallen brought handed
       take-left = rw (room, serving)
 
@@ -308,59 +308,59 @@ module _ (g : Given) (x : Point) where
       take-answer = rw room (answers-0 (outFor g x) serving)
 
     -- 1: there is no room for P bytes.
-    pub take-full : lacksRoom (P x) (bufferAt x) ≡ true → (takeData g x .answer ≡ answer 1) × Idle g x (takeData g x)
+    pub take-full : lacksRoom (P x) (bufferOfPoint x) ≡ true → (takeData g x .answer ≡ answer 1) × Idle g x (takeData g x)
     unfolding takeData takeBy readAnswer takesOne brought
-    take-full full = (rw full, take-idle (rw full) (rw full) (received-full (P x) (outFor g x) (offered g x) (bufferAt x) h fits full))
+    take-full full = (rw full, take-idle (rw full) (rw full) (received-full (P x) (outFor g x) (offeredAt g x) (bufferOfPoint x) h fits full))
 
     -- 6 and 7: there is room, but OUT does not do its part.
-    pub take-unserved : lacksRoom (P x) (bufferAt x) ≡ false → serves (outFor g x) ≡ false → (takeData g x .answer ≡ answeredBy (outFor g x)) × Idle g x (takeData g x)
+    pub take-unserved : lacksRoom (P x) (bufferOfPoint x) ≡ false → serves (outFor g x) ≡ false → (takeData g x .answer ≡ answeredBy (outFor g x)) × Idle g x (takeData g x)
     unfolding takeData takeBy readAnswer takesOne brought handed
-    take-unserved room idle = (rw room, take-idle (rw (room, idle)) (rw (room, idle)) (received-unserved (P x) (outFor g x) (offered g x) (bufferAt x) h fits room idle))
+    take-unserved room idle = (rw room, take-idle (rw (room, idle)) (rw (room, idle)) (received-unserved (P x) (outFor g x) (offeredAt g x) (bufferOfPoint x) h fits room idle))
 
 -- ---- a packet that is read in 0, and the wrapper
 
 module _ (g : Given) (x : Point) where
   -- This is the point after the packet was taken.
   abbrev pub arrived : Point
-  arrived = counting true (leaving (received (P x) (firstFor g) (g .one) (bufferAt x)) x)
+  arrived = counting true (leaving (received (P x) (firstFor g) (g .one) (bufferOfPoint x)) x)
 
-  read-idle : takesOne (P x) (firstFor g) (bufferAt x) ≡ false → unreadBytes (received (P x) (firstFor g) (g .one) (bufferAt x)) ≡ unreadBytes (bufferAt x) → Idle g x (readCbwRule g x)
+  read-idle : takesOne (P x) (firstFor g) (bufferOfPoint x) ≡ false → unreadBytes (received (P x) (firstFor g) (g .one) (bufferOfPoint x)) ≡ unreadBytes (bufferOfPoint x) → Idle g x (readCbwRule g x)
   unfolding readCbwRule readOneBy readBy
   read-idle none same = record { unread = rw none same; device = rw none; taken = rw none; sent = rw none; packet = rw none }
 
-  module _ (h : Sound (bufferAt x)) (fits : length (g .one) ≤ P x) where
+  module _ (h : Sound (bufferOfPoint x)) (fits : length (g .one) ≤ P x) where
     -- There is room, and OUT does its part.
-    module _ (room : lacksRoom (P x) (bufferAt x) ≡ false) (serving : serves (firstFor g) ≡ true) where
+    module _ (room : lacksRoom (P x) (bufferOfPoint x) ≡ false) (serving : serves (firstFor g) ≡ true) where
       -- The packet stands after the unread bytes.
-      pub read-unread : unreadBytes (bufferAt arrived) ≡ unreadBytes (bufferAt x) ++ g .one
-      read-unread = received-all (P x) (firstFor g) (g .one) (bufferAt x) h fits room serving
+      pub read-unread : unreadBytes (bufferOfPoint arrived) ≡ unreadBytes (bufferOfPoint x) ++ g .one
+      read-unread = received-all (P x) (firstFor g) (g .one) (bufferOfPoint x) h fits room serving
 
-      read-count : unread (bufferAt arrived) ≡ unread (bufferAt x) + length (g .one)
+      read-count : unread (bufferOfPoint arrived) ≡ unread (bufferOfPoint x) + length (g .one)
       read-count =
-          sym (length-unread (bufferAt arrived) (follows-received (P x) (firstFor g) (g .one) (bufferAt x) h .sound))
+          sym (length-unread (bufferOfPoint arrived) (follows-received (P x) (firstFor g) (g .one) (bufferOfPoint x) h .sound))
           ∙ ap length read-unread
-          ∙ length-append (unreadBytes (bufferAt x)) (g .one)
-          ∙ ap (λ (n : ℕ). n + length (g .one)) (length-unread (bufferAt x) h)
+          ∙ length-append (unreadBytes (bufferOfPoint x)) (g .one)
+          ∙ ap (λ (n : ℕ). n + length (g .one)) (length-unread (bufferOfPoint x) h)
 
       -- With fewer than 31 bytes unread, the poll ends there, in the state in which it was.
-      pub read-short : unread (bufferAt x) + length (g .one) < 31 → readCbwRule g x ≡ ends g arrived (answer 0)
+      pub read-short : unread (bufferOfPoint x) + length (g .one) < 31 → readCbwRule g x ≡ ends g arrived (answer 0)
       unfolding readCbwRule readOneBy readBy takesOne readAnswer
-      read-short few = rw (room, serving, lt-leb 31 (unread (bufferAt arrived)) (omega (arith, read-count))) (ap (ends g arrived) (answers-0 (firstFor g) serving))
+      read-short few = rw (room, serving, lt-leb 31 (unread (bufferOfPoint arrived)) (omega (arith, read-count))) (ap (ends g arrived) (answers-0 (firstFor g) serving))
 
       -- "with 31 or more unread parse"
-      pub read-ripe : 31 ≤ unread (bufferAt x) + length (g .one) → readCbwRule g x ≡ parseRule g arrived
+      pub read-ripe : 31 ≤ unread (bufferOfPoint x) + length (g .one) → readCbwRule g x ≡ parseRule g arrived
       unfolding readCbwRule readOneBy readBy takesOne
-      read-ripe ripe = rw (room, serving, le-leb 31 (unread (bufferAt arrived)) (omega (arith, read-count)))
+      read-ripe ripe = rw (room, serving, le-leb 31 (unread (bufferOfPoint arrived)) (omega (arith, read-count)))
 
     -- 1: there is no room for P bytes.
-    pub read-full : lacksRoom (P x) (bufferAt x) ≡ true → (readCbwRule g x .answer ≡ answer 1) × Idle g x (readCbwRule g x)
+    pub read-full : lacksRoom (P x) (bufferOfPoint x) ≡ true → (readCbwRule g x .answer ≡ answer 1) × Idle g x (readCbwRule g x)
     unfolding readCbwRule readOneBy readBy takesOne readAnswer
-    read-full full = (rw full, read-idle (rw full) (received-full (P x) (firstFor g) (g .one) (bufferAt x) h fits full))
+    read-full full = (rw full, read-idle (rw full) (received-full (P x) (firstFor g) (g .one) (bufferOfPoint x) h fits full))
 
     -- 6 and 7: there is room, but OUT does not do its part.
-    pub read-unserved : lacksRoom (P x) (bufferAt x) ≡ false → serves (firstFor g) ≡ false → (readCbwRule g x .answer ≡ answeredBy (firstFor g)) × Idle g x (readCbwRule g x)
+    pub read-unserved : lacksRoom (P x) (bufferOfPoint x) ≡ false → serves (firstFor g) ≡ false → (readCbwRule g x .answer ≡ answeredBy (firstFor g)) × Idle g x (readCbwRule g x)
     unfolding readCbwRule readOneBy readBy takesOne readAnswer
-    read-unserved room idle = (rw (room, idle), read-idle (rw (room, idle)) (received-unserved (P x) (firstFor g) (g .one) (bufferAt x) h fits room idle))
+    read-unserved room idle = (rw (room, idle), read-idle (rw (room, idle)) (received-unserved (P x) (firstFor g) (g .one) (bufferOfPoint x) h fits room idle))
 
 module _ (s : Buffer) (ripe : 31 ≤ unread s) where
   -- The first 31 unread bytes are parsed,
@@ -369,29 +369,29 @@ module _ (s : Buffer) (ripe : 31 ≤ unread s) where
   parse-message = sym (take-take 31 (unread s) (drop (s .marks .read) (s .bytes)) ripe)
 
   -- and exactly those count as read.
-  pub parse-rest : Sound s → unreadBytes (behind31 s) ≡ drop 31 (unreadBytes s)
+  pub parse-rest : Sound s → unreadBytes (past31 s) ≡ drop 31 (unreadBytes s)
   unfolding unreadBytes
   parse-rest h =
       let r : ℕ = s .marks .read in
-      let fewer : unread (behind31 s) ≡ unread s - 31 = omega arith in
+      let fewer : unread (past31 s) ≡ unread s - 31 = omega arith in
       rw (fewer, ← drop-drop 31 r (s .bytes))
       (sym (drop-take 31 (unread s) (drop r (s .bytes)) ripe (omega (arith, length-drop r (s .bytes), h .order, h .within))))
 
 module _ (g : Given) (x : Point) where
   -- A valid wrapper starts its data phase.
-  pub parse-valid : isValid (messageAt (bufferAt x)) ≡ true → parseRule g x ≡ startRule (wrapperOf (messageAt (bufferAt x))) g (leaving (behind31 (bufferAt x)) x)
+  pub parse-valid : isValid (messageAt (bufferOfPoint x)) ≡ true → parseRule g x ≡ startRule (wrapperOf (messageAt (bufferOfPoint x))) g (leaving (past31 (bufferOfPoint x)) x)
   unfolding parseRule
   parse-valid v = rw v
 
   -- An invalid wrapper ends the poll in 1, with both endpoints stalled; of the record only marks and state change.
-  pub parse-invalid : isValid (messageAt (bufferAt x)) ≡ false → parseRule g x ≡ ending (reaching CommandTransferInvalid (leaving (behind31 (bufferAt x)) x)) (answer 0) 0 true (g .packet)
+  pub parse-invalid : isValid (messageAt (bufferOfPoint x)) ≡ false → parseRule g x ≡ ending (reaching CommandTransferInvalid (leaving (past31 (bufferOfPoint x)) x)) (answer 0) 0 true (g .packet)
   unfolding parseRule
   parse-invalid v = rw v
 
 -- ---- answer 4
 
 -- "no status, left at least P, unread below P": only the state that was reached changes.
-pub full-due : (g : Given) (x : Point) → isPresent (x .device .status) ≡ false → P x ≤ x .device .left .0 → unread (bufferAt x) < P x → toHostRule g x ≡ ends g (reaching DataTransferToHost x) (answer 4)
+pub full-due : (g : Given) (x : Point) → isPresent (x .device .status) ≡ false → P x ≤ x .device .left .0 → unread (bufferOfPoint x) < P x → toHostRule g x ≡ ends g (reaching DataTransferToHost x) (answer 4)
 unfolding toHostRule fallsShort
 full-due g x absent due few =
     let some : x .device .left .0 ≡ 0 → ⊥ = λ (none : x .device .left .0 ≡ 0). omega arith in
@@ -400,7 +400,7 @@ full-due g x absent due few =
 -- ---- if 4 is not answered
 
 -- "otherwise send one packet": a whole packet is unread.
-pub whole-sent : (g : Given) (x : Point) → (x .device .left .0 ≡ 0 → ⊥) → isPresent (x .device .status) ≡ false → P x ≤ unread (bufferAt x) → toHostRule g x ≡ sendData g (reaching DataTransferToHost x)
+pub whole-sent : (g : Given) (x : Point) → (x .device .left .0 ≡ 0 → ⊥) → isPresent (x .device .status) ≡ false → P x ≤ unread (bufferOfPoint x) → toHostRule g x ≡ sendData g (reaching DataTransferToHost x)
 unfolding toHostRule fallsShort
 whole-sent g x some absent whole =
     cases (leb (P x) (x .device .left .0))
@@ -434,7 +434,7 @@ module _ (g : Given) (n : ℕ) where
 
     take-counts : Counts (takeData g x)
     unfolding takeData takeBy
-    take-counts = of-picked (λ (k : ℕ). n ≤ k) (takesOne (P x) (outFor g x) (bufferAt x)) (λ _. omega arith) (λ _. h)
+    take-counts = of-picked (λ (k : ℕ). n ≤ k) (takesOne (P x) (outFor g x) (bufferOfPoint x)) (λ _. omega arith) (λ _. h)
 
   module _ (x : Point) (h : n ≤ x .taken) where
     to-counts : Counts (toHostRule g x)
@@ -443,7 +443,7 @@ module _ (g : Given) (n : ℕ) where
         of-picked Counts (eqb (x .device .left .0) 0) (λ _. await-counts x h)
         (λ _. of-picked Counts (isPresent (x .device .status))
         (λ _. of-picked Counts (eqb (x .device .left .0) 0) (λ _. enter-counts x h) (λ _. data-counts (topped x) h))
-        (λ _. of-picked Counts (fallsShort (P x) (x .device .left) (unread (bufferAt x))) (λ _. h) (λ _. data-counts (reaching DataTransferToHost x) h)))
+        (λ _. of-picked Counts (fallsShort (P x) (x .device .left) (unread (bufferOfPoint x))) (λ _. h) (λ _. data-counts (reaching DataTransferToHost x) h)))
 
     from-counts : Counts (fromHostRule g x)
     unfolding fromHostRule fromHostEndingRule
@@ -456,8 +456,8 @@ module _ (g : Given) (n : ℕ) where
   pub parse-taken : (x : Point) → n ≤ x .taken → Counts (parseRule g x)
   unfolding parseRule startRule noDataRule
   parse-taken x h =
-      let w : Wrapper = wrapperOf (messageAt (bufferAt x)) in
-      let y : Point = ordered w (leaving (behind31 (bufferAt x)) x) in
-      of-picked Counts (isValid (messageAt (bufferAt x)))
+      let w : Wrapper = wrapperOf (messageAt (bufferOfPoint x)) in
+      let y : Point = starting w (leaving (past31 (bufferOfPoint x)) x) in
+      of-picked Counts (isValid (messageAt (bufferOfPoint x)))
       (λ _. by-direction Counts (w .direction) (from-counts y h) (to-counts y h) (await-counts y h))
       (λ _. h)

@@ -19,7 +19,7 @@ use borrow.Author.Tests.{leb-true, le-leb}
 use Rattle.fields.specs.Field.{getBits}
 use Rattle.fields.proofs.Bools.{and-right, not-true, of-picked}
 use Rattle.fields.proofs.Overlay.{length-overlay}
-use Rattle.buffer.specs.Buffer.{Buffer, buffer, at, unread, unreadBytes, emptied, ready, given, readOff}
+use Rattle.buffer.specs.Buffer.{Buffer, buffer, at, unread, unreadBytes, emptied, ready, readyBytes, readOff}
 use Rattle.buffer.specs.Inner.Buffer.{Sound}
 use Rattle.buffer.proofs.Kept.{length-written, sound-written, length-filled, sound-filled, length-writtenAll, sound-writtenAll, sound-readOff, sound-emptied}
 use Rattle.answers.specs.declared.Endpoint.{Endpoint}
@@ -34,17 +34,17 @@ use Rattle.wrapper.specs.declared.counters.Left.{Left}
 use Rattle.wrapper.specs.Status.{statusNumber, statusBytes}
 use Rattle.wrapper.specs.Wrapper.{isValid, wrapperOf}
 use Rattle.wrapper.proofs.Cbw.{is-valid}
-use Rattle.packets.specs.Packets.{handed, readAnswer, takesOne, brought, received, accepted, sentCount, sentOff, sentInto, filledUp, withStatus}
+use Rattle.packets.specs.Packets.{handed, readAnswer, takesOne, brought, received, accepted, sentCount, sentOff, sentInto, filledUp, statusWritten}
 use Rattle.packets.proofs.Laws.{moves-most}
 use Rattle.device.specs.declared.Status.{Status}
 use Rattle.device.specs.declared.Status.the-variants.{Absent, Present}
 use Rattle.device.specs.declared.Fixed.{Fixed}
 use Rattle.device.specs.declared.Device.{Device}
 use Rattle.device.specs.Device.{isPresent, numbersOf, withMarks, withLeft, withWrapper, entering0}
-use Rattle.device.specs.Create.{creation}
+use Rattle.device.specs.Create.{creationChecks}
 use Rattle.device.specs.Broken.{statusFits, Whole}
 use Rattle.device.proofs.Wholly.{passes, either, whole-sound}
-use Rattle.bbb.specs.Poll.{Given, Polling, Point, point, bufferAt, reaching, leaving, leftThen, lowered, counting, ending, sendBy, send, offers, offeredBy, takeBy, takeData, statusPut, enterStatus, statusAwaitRule, noDataRule, toHostEndingRule, fallsShort, toHostRule, fromHostEndingRule, fromHostRule, startRule, messageAt, behind31, parseRule, readBy, readOneBy, readCbwRule, statusTransferRule, invalidRule, ruleIn, pollRule, Fits, isFitting, refusing, pollCall}
+use Rattle.bbb.specs.Poll.{Given, Polling, Point, point, bufferOfPoint, reaching, leaving, leftThen, lowered, counting, ending, sendBy, send, offeredPacket, offeredBy, takeBy, takeData, statusPut, enterStatus, statusAwaitRule, noDataRule, toHostEndingRule, fallsShort, toHostRule, fromHostEndingRule, fromHostRule, startRule, messageAt, past31, parseRule, readBy, readOneBy, readCbwRule, statusTransferRule, invalidRule, ruleIn, pollRule, Fits, isFitting, refusing, pollCall}
 use Rattle.bbb.proofs.Polling.{fits-all, is-fitting}
 
 -- ---- the buffer that a step leaves: its marks are sound, and it is as long as before
@@ -66,13 +66,13 @@ unfolding filledUp
 follows-filled p left s h = record { sound = sound-filled 0xFF _ s h; long = length-filled 0xFF _ s h }
 
 pub follows-status : (tag : ℕ) (status : Status) (s : Buffer) → Follows (statusPut tag status s) s
-unfolding statusPut withStatus emptied
+unfolding statusPut statusWritten emptied
 follows-status tag Absent s = record { sound = sound-emptied s; long = refl }
 follows-status tag (Present status residue) s =
     let ys : List ℕ = statusBytes tag residue (statusNumber status) in
     record { sound = sound-written ys (emptied s) (sound-emptied s); long = length-written ys (emptied s) (sound-emptied s) }
 
-pub follows-31 : (s : Buffer) → Sound s → 31 ≤ unread s → Follows (behind31 s) s
+pub follows-31 : (s : Buffer) → Sound s → 31 ≤ unread s → Follows (past31 s) s
 follows-31 s h k = record { sound = record { order = omega (arith, h .order); within = h .within }; long = refl }
 
 follows-clean : (s : Buffer) → Follows (buffer (s .bytes) (at 0 0)) s
@@ -85,9 +85,9 @@ unfolding sentCount ready
 sent-most p e s = omega (arith, min-le-right (unread s) (accepted e p), moves-most e p refl)
 
 sent-length : (p : ℕ) (e : Endpoint) (s : Buffer) (packet : List ℕ) → p ≤ length packet → length (sentInto p e s packet) ≡ length packet
-unfolding sentInto sentCount given
+unfolding sentInto sentCount readyBytes
 sent-length p e s packet h =
-    length-overlay packet 0 (given (accepted e p) s)
+    length-overlay packet 0 (readyBytes (accepted e p) s)
     (omega (arith, sent-most p e s, length-take (ready (accepted e p) s) (unreadBytes s), min-le-left (ready (accepted e p) s) (length (unreadBytes s))))
 
 -- ---- a wrapper that is valid
@@ -117,7 +117,7 @@ record Standing (d : Device) (len : ℕ) (f : Fixed) (s : Buffer) (unit blocklen
   block : blocklength ≤ 16
 
 abbrev Stands : Device → ℕ → Point → Type 0
-Stands d len x = Standing d len (x .device .fixed) (bufferAt x) (x .device .wrapper .lun) (x .device .wrapper .blocklength)
+Stands d len x = Standing d len (x .device .fixed) (bufferOfPoint x) (x .device .wrapper .lun) (x .device .wrapper .blocklength)
 
 -- If what creation fixed is the same, so is each part of it.
 pub packet-is : {f g : Fixed} → f ≡ g → f .packetsize ≡ g .packetsize
@@ -148,7 +148,7 @@ module _ (d : Device) (len : ℕ) (w : Whole (numbersOf d) len) (g : Given) wher
   abbrev Keeps : Polling → Type 0
   Keeps o = Kept d len (length (g .packet)) o
 
-  stands-left : (x : Point) (b : Buffer) → Stands d len x → Follows b (bufferAt x) → Stands d len (leaving b x)
+  stands-left : (x : Point) (b : Buffer) → Stands d len x → Follows b (bufferOfPoint x) → Stands d len (leaving b x)
   stands-left x b h f = record { fixed = h .fixed; long = f .long ∙ h .long; sound = f .sound; lun = h .lun; block = h .block }
 
   -- ---- the ends
@@ -159,7 +159,7 @@ module _ (d : Device) (len : ℕ) (w : Whole (numbersOf d) len) (g : Given) wher
   kept-end x h f taken t k sent stalled packet same = record {
     whole = record {
       lent = size-is (h .fixed) ∙ w .lent ∙ sym (h .long);
-      created = ap creation (h .fixed) ∙ w .created;
+      created = ap creationChecks (h .fixed) ∙ w .created;
       order = h .sound .order;
       within = omega (arith, h .sound .within, h .long, size-is (h .fixed), w .lent);
       block = h .block;
@@ -175,14 +175,14 @@ module _ (d : Device) (len : ℕ) (w : Whole (numbersOf d) len) (g : Given) wher
   module _ (x : Point) (h : Stands d len x) (f : Fitting x) (once : x .taken ≤ 1) where
     -- This is the point after a packet was sent, with `l` left.
     abbrev behind : Endpoint → Left → Point
-    behind e l = point (withLeft l (withMarks (sentOff (x .device .fixed .packetsize) e (bufferAt x) .marks) (x .device))) (sentOff (x .device .fixed .packetsize) e (bufferAt x) .bytes) (x .taken) (x .unstalled)
+    behind e l = point (withLeft l (withMarks (sentOff (x .device .fixed .packetsize) e (bufferOfPoint x) .marks) (x .device))) (sentOff (x .device .fixed .packetsize) e (bufferOfPoint x) .bytes) (x .taken) (x .unstalled)
 
-    sends : (e : Endpoint) (l : Left) (t : Answering) → Keeps (ending (behind e l) t (sentCount (x .device .fixed .packetsize) e (bufferAt x)) false (sentInto (x .device .fixed .packetsize) e (bufferAt x) (g .packet)))
+    sends : (e : Endpoint) (l : Left) (t : Answering) → Keeps (ending (behind e l) t (sentCount (x .device .fixed .packetsize) e (bufferOfPoint x)) false (sentInto (x .device .fixed .packetsize) e (bufferOfPoint x) (g .packet)))
     sends e l t =
         let p : ℕ = x .device .fixed .packetsize in
-        kept-end (behind e l) (stands-left x (sentOff p e (bufferAt x)) h (follows-sent p e (bufferAt x) (h .sound))) f (omega arith) t _
-        (rw (← packet-is (h .fixed)) (sent-most p e (bufferAt x))) false _
-        (rw (← packet-is (h .fixed)) (sent-length p e (bufferAt x) (g .packet)))
+        kept-end (behind e l) (stands-left x (sentOff p e (bufferOfPoint x)) h (follows-sent p e (bufferOfPoint x) (h .sound))) f (omega arith) t _
+        (rw (← packet-is (h .fixed)) (sent-most p e (bufferOfPoint x))) false _
+        (rw (← packet-is (h .fixed)) (sent-length p e (bufferOfPoint x) (g .packet)))
 
     kept-send : (counts : Bool) → Keeps (send counts g x)
     unfolding send sendBy
@@ -193,8 +193,8 @@ module _ (d : Device) (len : ℕ) (w : Whole (numbersOf d) len) (g : Given) wher
     kept-take =
         let p : ℕ = x .device .fixed .packetsize in
         let e : Endpoint = offeredBy (x .taken) (g .turn) in
-        let packet : List ℕ = offers (x .taken) (g .one) (g .two) in
-        let s : Buffer = bufferAt x in
+        let packet : List ℕ = offeredPacket (x .taken) (g .one) (g .two) in
+        let s : Buffer = bufferOfPoint x in
         kept-rest (counting (takesOne p e s) (lowered true (brought p e packet s) (leaving (received p e packet s) x)))
         (stands-left x _ h (follows-received p e packet s (h .sound))) f
         (of-picked (λ (n : ℕ). n ≤ 2) (takesOne p e s) (λ _. omega arith) (λ _. omega arith)) _ false
@@ -205,8 +205,8 @@ module _ (d : Device) (len : ℕ) (w : Whole (numbersOf d) len) (g : Given) wher
     kept-enter : isPresent (x .device .status) ≡ true → Keeps (enterStatus g x)
     unfolding enterStatus
     kept-enter present =
-        let t : Buffer = statusPut (x .device .wrapper .tag) (x .device .status) (bufferAt x) in
-        kept-send (reaching StatusTransfer (leaving t x)) (stands-left x t h (follows-status (x .device .wrapper .tag) (x .device .status) (bufferAt x))) present once false
+        let t : Buffer = statusPut (x .device .wrapper .tag) (x .device .status) (bufferOfPoint x) in
+        kept-send (reaching StatusTransfer (leaving t x)) (stands-left x t h (follows-status (x .device .wrapper .tag) (x .device .status) (bufferOfPoint x))) present once false
 
     kept-await : Keeps (statusAwaitRule g x)
     unfolding statusAwaitRule
@@ -215,16 +215,16 @@ module _ (d : Device) (len : ℕ) (w : Whole (numbersOf d) len) (g : Given) wher
     kept-to-ending : isPresent (x .device .status) ≡ true → Keeps (toHostEndingRule g x)
     unfolding toHostEndingRule
     kept-to-ending present =
-        let t : Buffer = filledUp (x .device .fixed .packetsize) (x .device .left) (bufferAt x) in
+        let t : Buffer = filledUp (x .device .fixed .packetsize) (x .device .left) (bufferOfPoint x) in
         of-picked Keeps (eqb (x .device .left .0) 0) (λ _. kept-enter present)
-        (λ _. kept-send (reaching DataTransferToHostEnding (leaving t x)) (stands-left x t h (follows-filled (x .device .fixed .packetsize) (x .device .left) (bufferAt x) (h .sound))) present once true)
+        (λ _. kept-send (reaching DataTransferToHostEnding (leaving t x)) (stands-left x t h (follows-filled (x .device .fixed .packetsize) (x .device .left) (bufferOfPoint x) (h .sound))) present once true)
 
     kept-to : Keeps (toHostRule g x)
     unfolding toHostRule
     kept-to =
         of-picked Keeps (eqb (x .device .left .0) 0) (λ _. kept-await)
         (λ _. of-picked Keeps (isPresent (x .device .status)) kept-to-ending
-        (λ _. of-picked Keeps (fallsShort (x .device .fixed .packetsize) (x .device .left) (unread (bufferAt x)))
+        (λ _. of-picked Keeps (fallsShort (x .device .fixed .packetsize) (x .device .left) (unread (bufferOfPoint x)))
         (λ _. kept-rest (reaching DataTransferToHost x) h refl (omega arith) (answer 4) false)
         (λ _. kept-send (reaching DataTransferToHost x) h refl once true)))
 
@@ -233,7 +233,7 @@ module _ (d : Device) (len : ℕ) (w : Whole (numbersOf d) len) (g : Given) wher
     kept-from-ending present =
         let t : Buffer = buffer (x .io) (at 0 0) in
         of-picked Keeps (eqb (x .device .left .0) 0) (λ _. kept-enter present)
-        (λ _. kept-take (reaching DataTransferFromHostEnding (leaving t x)) (stands-left x t h (follows-clean (bufferAt x))) present once)
+        (λ _. kept-take (reaching DataTransferFromHostEnding (leaving t x)) (stands-left x t h (follows-clean (bufferOfPoint x))) present once)
 
     kept-from : Keeps (fromHostRule g x)
     unfolding fromHostRule
@@ -251,12 +251,12 @@ module _ (d : Device) (len : ℕ) (w : Whole (numbersOf d) len) (g : Given) wher
       by-direction Keeps (v .direction) (kept-from y k once) (kept-to y k once) (kept-await y k once)
 
   module _ (x : Point) (h : Stands d len x) (absent : isPresent (x .device .status) ≡ false) where
-    kept-parse : x .taken ≤ 1 → 31 ≤ unread (bufferAt x) → Keeps (parseRule g x)
+    kept-parse : x .taken ≤ 1 → 31 ≤ unread (bufferOfPoint x) → Keeps (parseRule g x)
     unfolding parseRule
     kept-parse once ripe =
-        let m : List ℕ = messageAt (bufferAt x) in
-        let t : Buffer = behind31 (bufferAt x) in
-        let k : Stands d len (leaving t x) = stands-left x t h (follows-31 (bufferAt x) (h .sound) ripe) in
+        let m : List ℕ = messageAt (bufferOfPoint x) in
+        let t : Buffer = past31 (bufferOfPoint x) in
+        let k : Stands d len (leaving t x) = stands-left x t h (follows-31 (bufferOfPoint x) (h .sound) ripe) in
         of-picked Keeps (isValid m)
         (λ v. kept-start (wrapperOf m) (lun-most m) (block-most m v) (leaving t x) k once)
         (λ _. kept-rest (reaching CommandTransferInvalid (leaving t x)) k (rw absent) (omega arith) (answer 0) true)
@@ -264,7 +264,7 @@ module _ (d : Device) (len : ℕ) (w : Whole (numbersOf d) len) (g : Given) wher
     kept-by : Fitting x → x .taken ≤ 1 → (took : Bool) (t : Answering) → Keeps (readBy took t g x)
     unfolding readBy
     kept-by f once took t =
-        let ripe : Bool = leb 31 (unread (bufferAt x)) in
+        let ripe : Bool = leb 31 (unread (bufferOfPoint x)) in
         of-picked Keeps (took && ripe) (λ e. kept-parse once (leb-true _ _ (and-right took ripe e))) (λ _. kept-rest x h f (omega arith) t false)
 
   kept-read : (x : Point) → Stands d len x → isPresent (x .device .status) ≡ false → Fitting x → x .taken ≡ 0 → Keeps (readCbwRule g x)
@@ -272,10 +272,10 @@ module _ (d : Device) (len : ℕ) (w : Whole (numbersOf d) len) (g : Given) wher
   kept-read x h absent f none =
       let p : ℕ = x .device .fixed .packetsize in
       let e : Endpoint = endpointOf (g .turn .first) in
-      let took : Bool = takesOne p e (bufferAt x) in
-      let t : Buffer = received p e (g .one) (bufferAt x) in
-      kept-by (counting took (leaving t x)) (stands-left x t h (follows-received p e (g .one) (bufferAt x) (h .sound))) absent f
-      (of-picked (λ (n : ℕ). n ≤ 1) took (λ _. omega arith) (λ _. omega arith)) took (readAnswer p e (bufferAt x))
+      let took : Bool = takesOne p e (bufferOfPoint x) in
+      let t : Buffer = received p e (g .one) (bufferOfPoint x) in
+      kept-by (counting took (leaving t x)) (stands-left x t h (follows-received p e (g .one) (bufferOfPoint x) (h .sound))) absent f
+      (of-picked (λ (n : ℕ). n ≤ 1) took (λ _. omega arith) (λ _. omega arith)) took (readAnswer p e (bufferOfPoint x))
 
   -- ---- all states
 
@@ -285,7 +285,7 @@ module _ (d : Device) (len : ℕ) (w : Whole (numbersOf d) len) (g : Given) wher
   kept-in CommandTransferInvalid x h f e none = kept-rest x h f (omega arith) (answer 0) true
   kept-in DataTransferNoData x h f e none = kept-await x h (omega arith)
   kept-in StatusTransfer x h f e none =
-      of-picked Keeps (eqb (unread (bufferAt x)) 0)
+      of-picked Keeps (eqb (unread (bufferOfPoint x)) 0)
       (λ _. kept-read (point (entering0 (x .device)) (x .io) (x .taken) true) h refl refl none)
       (λ _. kept-send x h f (omega arith) false)
   kept-in DataTransferToHost x h f e none = kept-to x h (omega arith)

@@ -30,7 +30,7 @@ use Rattle.device.specs.Broken.{Whole}
 use Rattle.device.proofs.Wholly.{whole-sound}
 use Rattle.bbb.specs.declared.open.Opened.{Opened}
 use Rattle.bbb.specs.Poll.{messageAt}
-use Rattle.bbb.specs.Inner.Phases.{Opens, behind, parsedOpen, countOf, openAfter, readOpen, readIo, opens, leftWhen, isOpening, opened, openedIo}
+use Rattle.bbb.specs.Inner.Phases.{Opens, marksPast31, parsedOpen, countOf, openAfter, readOpen, readIo, opensIn, leftWhen, isOpening, opened, openedIo}
 
 -- ---- small tests
 
@@ -41,16 +41,16 @@ pub left-cleared : (b : Bool) (left : Left) → b ≡ true → record { 0 = 0 } 
 left-cleared b left q = rw q
 
 module _ (state : ℕ) (empty : Bool) where
-  pub reaches-0 : state ≡ 0 → true ≡ opens state empty
-  unfolding opens
+  pub reaches-0 : state ≡ 0 → true ≡ opensIn state empty
+  unfolding opensIn
   reaches-0 q = rw (eq-eqb _ _ q)
 
-  pub reaches-3 : (state ≡ 0 → ⊥) → state ≡ 3 → empty ≡ opens state empty
-  unfolding opens
+  pub reaches-3 : (state ≡ 0 → ⊥) → state ≡ 3 → empty ≡ opensIn state empty
+  unfolding opensIn
   reaches-3 k q = rw (ne-eqb _ _ k, eq-eqb _ _ q)
 
-  pub reaches-not : (state ≡ 0 → ⊥) → (state ≡ 3 → ⊥) → false ≡ opens state empty
-  unfolding opens
+  pub reaches-not : (state ≡ 0 → ⊥) → (state ≡ 3 → ⊥) → false ≡ opensIn state empty
+  unfolding opensIn
   reaches-not k l = rw (ne-eqb _ _ k, ne-eqb _ _ l)
 
 -- ---- the 31 bytes
@@ -67,7 +67,7 @@ module _ (m : Marks) (io : List ℕ) where
   unfolding messageAt
   message-is = rw cut
 
-  sound-behind : Sound (buffer io m) → m .read + 31 ≤ m .write → Sound (buffer io (behind m))
+  sound-behind : Sound (buffer io m) → m .read + 31 ≤ m .write → Sound (buffer io (marksPast31 m))
   sound-behind g h = record { order = h; within = g .within }
 
   module _ (left : Left) (cleared : Bool) (g : Sound (buffer io m)) (h : m .read + 31 ≤ m .write)
@@ -77,7 +77,7 @@ module _ (m : Marks) (io : List ℕ) where
 
     pub parses-valid : v ≡ true → {w : Head} → w ≡ headOf (wrapperOf (take (m .read + 31 - m .read) (drop (m .read) io)))
         → Opens (parsedOpen (buffer io m) left cleared) io
-        (record { found = Valid; marks = behind m; left = record { 0 = w .length }; direction = w .direction; answer = Done; taken = 1; cleared = cleared }) io
+        (record { found = Valid; marks = marksPast31 m; left = record { 0 = w .length }; direction = w .direction; answer = Done; taken = 1; cleared = cleared }) io
     unfolding parsedOpen
     parses-valid q hw = record {
       leaves = rw (valid-is q, hw, message-is);
@@ -89,7 +89,7 @@ module _ (m : Marks) (io : List ℕ) where
 
     pub parses-invalid : v ≡ false
         → Opens (parsedOpen (buffer io m) left cleared) io
-        (record { found = Invalid; marks = behind m; left = left; direction = NotExpected; answer = Done; taken = 1; cleared = cleared }) io
+        (record { found = Invalid; marks = marksPast31 m; left = left; direction = NotExpected; answer = Done; taken = 1; cleared = cleared }) io
     unfolding parsedOpen
     parses-invalid q = record {
       leaves = rw (valid-is q);
@@ -145,7 +145,7 @@ module _ (p first : ℕ) (one : List ℕ) (left : Left) (cleared : Bool) (s : Bu
 -- ---- whether the wrapper is reached
 
 module _ (n : Numbers) (io one : List ℕ) (e : Endpoint) {k : ℕ} (hk : k ≡ stateNumber (n .state))
-    {v : Bool} (hv : v ≡ opens k (eqb (n .marks .write - n .marks .read) 0)) where
+    {v : Bool} (hv : v ≡ opensIn k (eqb (n .marks .write - n .marks .read) 0)) where
   opening-is : {b : Bool} → v ≡ b → isOpening n ≡ b
   unfolding isOpening
   opening-is q = rw (← hk) (sym hv ∙ q)

@@ -33,7 +33,7 @@ use Rattle.bbb.specs.declared.Polled.{Polled}
 use Rattle.bbb.specs.declared.open.Opened.{Opened}
 use Rattle.bbb.specs.declared.act.Did.{Did}
 use Rattle.bbb.specs.Poll.{Given, Fits, isFitting, pollingOf, pollRule, pollCall}
-use Rattle.bbb.specs.Inner.Phases.{refusedBy, openOf, isValidFound, InFront, Opens, opened, openedIo, justRead, wrapperThen, Acts, acted, actedPacket, endedOf, endsWith, goneOn, changedBy}
+use Rattle.bbb.specs.Inner.Phases.{refusedBy, openingOf, isValidFound, InFront, Opens, opened, openedIo, justRead, wrapperThen, Acts, acted, actedPacket, endedOf, endsWith, goneOn, changedBy}
 use Rattle.bbb.proofs.Same.{finish, follows, same}
 
 -- ---- small picks
@@ -69,11 +69,11 @@ module _ (o : Opened) {v : Bool} (hv : v ≡ isValidFound (o .found)) where
         rw (cut (o .marks .read) h) (length-part (o .marks .read - 31) 31 io (omega (arith, g .order, g .within)))
 
     pub found-wrapper : (w : Wrapper) → InFront o → v ≡ true → {r : Wrapper}
-        → r ≡ wrapperOf (take (o .marks .read - (o .marks .read - 31)) (drop (o .marks .read - 31) io)) → r ≡ wrapperThen (openOf o) io w
+        → r ≡ wrapperOf (take (o .marks .read - (o .marks .read - 31)) (drop (o .marks .read - 31) io)) → r ≡ wrapperThen (openingOf o) io w
     unfolding wrapperThen
     found-wrapper w front q h = rw (← hv, q, ← in-front io (o .marks) (found-31 front q)) h
 
-    pub kept-wrapper : (w : Wrapper) → v ≡ false → w ≡ wrapperThen (openOf o) io w
+    pub kept-wrapper : (w : Wrapper) → v ≡ false → w ≡ wrapperThen (openingOf o) io w
     unfolding wrapperThen
     kept-wrapper w q = rw (← hv, q)
 
@@ -109,8 +109,8 @@ is-fitting p packet one two h e =
 
 pub goes-on : (n : Numbers) (o : Opened) (io : List ℕ) (g : Given) {p : Bool} {a : Act} {row : Row} {r : Did} {io′ packet′ : List ℕ} {s : Stalls}
     → p ≡ isPresent (n .status) → a ≡ settled (n .state) (n .left .0) p (eqb (n .marks .write - n .marks .read) 0) (o .found) (o .direction) (o .left .0) → row ≡ rowOf a
-    → Acts (acted row n (openOf o) io g) (actedPacket row n (openOf o) io g) r io′ packet′ → s ≡ stallsOf (o .cleared) (r .stalled)
-    → endedOf (record { state = row .0; marks = r .marks; left = r .left; cleared = o .cleared; report = record { answer = r .answer; taken = r .taken; sent = r .sent; stalls = s } }) io′ packet′ ≡ goneOn n (openOf o) io g
+    → Acts (acted row n (openingOf o) io g) (actedPacket row n (openingOf o) io g) r io′ packet′ → s ≡ stallsOf (o .cleared) (r .stalled)
+    → endedOf (record { state = row .0; marks = r .marks; left = r .left; cleared = o .cleared; report = record { answer = r .answer; taken = r .taken; sent = r .sent; stalls = s } }) io′ packet′ ≡ goneOn n (openingOf o) io g
 unfolding goneOn endsWith
 goes-on n o io g hp ha hr x hs = rw (← hp, ← ha, ← hr, ← x .leaves, x .into, hs)
 
@@ -132,11 +132,11 @@ module _ (d : Device) (io : List ℕ) (g : Given) {n : Numbers} (hn : n ≡ numb
     -- What `open` and `go_on` promise, with the wrapper that is taken between them, makes 01's poll.
     pub polls : w ≡ true → {o : Opened} {io′ io″ packet′ : List ℕ} (c : Change) {w′ : Wrapper} {d′ : Device}
         → Opens (opened n io (g .one) (endpointOf (g .turn .first))) (openedIo n io (g .one) (endpointOf (g .turn .first))) o io′
-        → endedOf c io″ packet′ ≡ goneOn n (openOf o) io′ g → w′ ≡ wrapperThen (openOf o) io′ (d .wrapper) → d′ ≡ changedBy d c w′
+        → endedOf c io″ packet′ ≡ goneOn n (openingOf o) io′ g → w′ ≡ wrapperThen (openingOf o) io′ (d .wrapper) → d′ ≡ changedBy d c w′
         → pollingOf (record { device = d′; report = c .report }) io″ packet′ ≡ pollCall d io g
     unfolding pollCall unlessBroken pollRule
     polls p {o} {io′} {io″} {packet′} c x y z h =
-        let k : finish d (endedOf c io″ packet′) (wrapperThen (openOf o) io′ (d .wrapper)) ≡ follows d (opened (numbersOf d) io (g .one) (endpointOf (g .turn .first))) (openedIo (numbersOf d) io (g .one) (endpointOf (g .turn .first))) g =
+        let k : finish d (endedOf c io″ packet′) (wrapperThen (openingOf o) io′ (d .wrapper)) ≡ follows d (opened (numbersOf d) io (g .one) (endpointOf (g .turn .first))) (openedIo (numbersOf d) io (g .one) (endpointOf (g .turn .first))) g =
         rw (← hn, ← x .leaves, ← x .bytes, ← y) in
         rw (← hn, ← hv, q, ← fit, p, h, z) (k ∙ same (d .state) d io g (absent-in-0 (numbersOf d) (length io) (rw hn at (tested n (length io) hv q))))
 

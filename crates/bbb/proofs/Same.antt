@@ -27,8 +27,8 @@ use Rattle.packets.specs.Packets.{readAnswer, takesOne, received, filledUp}
 use Rattle.device.specs.declared.Status.the-variants.{Absent}
 use Rattle.device.specs.declared.Device.{Device}
 use Rattle.device.specs.Device.{isPresent, numbersOf, inState, rebuilt}
-use Rattle.bbb.specs.Poll.{Given, Polling, Point, point, reaching, leaving, ending, ends, sendBy, send, sendStatus, sendData, takeBy, takeData, enterStatus, statusAwaitRule, noDataRule, toHostEndingRule, fallsShort, toHostRule, fromHostEndingRule, fromHostRule, startRule, messageAt, behind31, parseRule, readBy, readOneBy, readCbwRule, statusTransferRule, invalidRule, ruleIn}
-use Rattle.bbb.specs.Inner.Phases.{Open, opening, behind, parsedOpen, openAfter, readOpen, opens, isOpening, opened, openedIo, justRead, wrapperThen, Done, tookFrom, took, sentFrom, sentBy, sentPacket, acted, actedPacket, Ended, endedBy, endsWith, goneOn}
+use Rattle.bbb.specs.Poll.{Given, Polling, Point, point, reaching, leaving, ending, ends, sendBy, send, sendStatus, sendData, takeBy, takeData, enterStatus, statusAwaitRule, noDataRule, toHostEndingRule, fallsShort, toHostRule, fromHostEndingRule, fromHostRule, startRule, messageAt, past31, parseRule, readBy, readOneBy, readCbwRule, statusTransferRule, invalidRule, ruleIn}
+use Rattle.bbb.specs.Inner.Phases.{Opening, opening, marksPast31, parsedOpen, openAfter, readOpen, opensIn, isOpening, opened, openedIo, justRead, wrapperThen, Doing, tookFrom, took, sentFrom, sentBy, sentPacket, acted, actedPacket, Ended, endedBy, endsWith, goneOn}
 
 -- This is the record with what changed and the wrapper `w`, and what is reported.
 abbrev pub finish : Device → Ended → Wrapper → Polling
@@ -43,17 +43,17 @@ finish d x w = record {
 }
 
 -- The poll comes to the act `a` after opening gave `o`, and this is its end.
-abbrev goes : Device → Open → List ℕ → Given → Wrapper → Act → Polling
+abbrev goes : Device → Opening → List ℕ → Given → Wrapper → Act → Polling
 goes d o io g w a = finish d (endsWith (rowOf a) (numbersOf d) o io g) w
 
 -- The act begins at this point: the record has what opening gave, any state `z`, and the wrapper `w`.
-abbrev start : Device → State → Open → List ℕ → Wrapper → Point
+abbrev start : Device → State → Opening → List ℕ → Wrapper → Point
 start d z o io w = point (rebuilt d z (o .marks) w (cond (o .cleared) Absent (d .status)) (o .left)) io (o .taken) (o .cleared)
 
 -- ---- the acts
 
 module _ (d : Device) (z : State) (io : List ℕ) (g : Given) (w : Wrapper) (f : Found) (m : Marks) (l : Left) (dir : DataDirection) (k : ℕ) (c : Bool) where
-  abbrev o : Answering → Open
+  abbrev o : Answering → Opening
   o t = opening f m l dir t k c
 
   stays : (t : Answering) → goes d (o t) io g w Stay ≡ ends g (reaching CommandTransfer (start d z (o t) io w)) t
@@ -77,7 +77,7 @@ module _ (d : Device) (z : State) (io : List ℕ) (g : Given) (w : Wrapper) (f :
   fills = refl
 
   -- A packet of data is sent, or 4 is answered.
-  short : (b : Bool) (x y : Done) (p q : List ℕ) → finish d (endedBy DataTransferToHost (o (answer 0)) (cond b x y) (cond b p q)) w
+  short : (b : Bool) (x y : Doing) (p q : List ℕ) → finish d (endedBy DataTransferToHost (o (answer 0)) (cond b x y) (cond b p q)) w
       ≡ cond b (finish d (endedBy DataTransferToHost (o (answer 0)) x p) w) (finish d (endedBy DataTransferToHost (o (answer 0)) y q) w)
   short true x y p q = refl
   short false x y p q = refl
@@ -98,12 +98,12 @@ module _ (d : Device) (z : State) (io : List ℕ) (g : Given) (w : Wrapper) (f :
   drops = refl
 
 -- A test, or a direction, picks one act of several.
-split : (d : Device) (x : Open) (io : List ℕ) (g : Given) (w : Wrapper) (b : Bool) (a a′ : Act) {y y′ : Polling}
+split : (d : Device) (x : Opening) (io : List ℕ) (g : Given) (w : Wrapper) (b : Bool) (a a′ : Act) {y y′ : Polling}
     → goes d x io g w a ≡ y → goes d x io g w a′ ≡ y′ → goes d x io g w (cond b a a′) ≡ cond b y y′
 split d x io g w true a a′ h h′ = h
 split d x io g w false a a′ h h′ = h′
 
-directed : (d : Device) (x : Open) (io : List ℕ) (g : Given) (w : Wrapper) (q : DataDirection) (a b c : Act) {y z v : Polling}
+directed : (d : Device) (x : Opening) (io : List ℕ) (g : Given) (w : Wrapper) (q : DataDirection) (a b c : Act) {y z v : Polling}
     → goes d x io g w a ≡ y → goes d x io g w b ≡ z → goes d x io g w c ≡ v → goes d x io g w (byDirection q a b c) ≡ byDirection q y z v
 directed d x io g w Out a b c h i j = h
 directed d x io g w In a b c h i j = i
@@ -112,7 +112,7 @@ directed d x io g w NotExpected a b c h i j = j
 -- ---- the handlers of a poll that does not reach the wrapper: nothing was found, read or cleared
 
 module _ (d : Device) (io : List ℕ) (g : Given) where
-  abbrev same-open : Open
+  abbrev same-open : Opening
   same-open = opening Nothing (d .marks) (d .left) NotExpected (answer 0) 0 false
 
   abbrev here : Point
@@ -154,7 +154,7 @@ module _ (d : Device) (io : List ℕ) (g : Given) where
 
 module _ (d : Device) (c : Bool) (absent : isPresent (cond c Absent (d .status)) ≡ false) (io : List ℕ) (g : Given) (w : Wrapper) where
   module _ (m : Marks) (l : Left) (q : DataDirection) where
-    abbrev valid-open : Open
+    abbrev valid-open : Opening
     valid-open = opening Valid m l q (answer 0) 1 c
 
     abbrev there : Point
@@ -179,16 +179,16 @@ module _ (d : Device) (c : Bool) (absent : isPresent (cond c Absent (d .status))
 -- ---- the wrapper's handler, after the packet that it reads
 
 -- The bytes just before the read mark are those that were the first unread.
-just-read : (t : Buffer) → justRead (t .bytes) (behind (t .marks)) ≡ messageAt t
+just-read : (t : Buffer) → justRead (t .bytes) (marksPast31 (t .marks)) ≡ messageAt t
 unfolding justRead messageAt
 just-read t = let k : t .marks .read + 31 - 31 ≡ t .marks .read = omega arith in rw k
 
 -- The poll comes to the act `a`, with the wrapper that the record has then.
-abbrev decides : Device → Open → List ℕ → Given → Act → Polling
+abbrev decides : Device → Opening → List ℕ → Given → Act → Polling
 decides d x io g a = goes d x io g (wrapperThen x io (d .wrapper)) a
 
 module _ (d : Device) (c : Bool) (absent : isPresent (cond c Absent (d .status)) ≡ false) (g : Given) where
-  abbrev parsing : Open → List ℕ → Polling
+  abbrev parsing : Opening → List ℕ → Polling
   parsing x io = decides d x io g (readCbwAct (x .found) (x .direction) (x .left .0))
 
   -- The poll is in 0 with the buffer `t`, and `k` packets are taken.
@@ -200,16 +200,16 @@ module _ (d : Device) (c : Bool) (absent : isPresent (cond c Absent (d .status))
   said t = wrapperOf (messageAt t)
 
   judges : (v : Bool) (t : Buffer) (l : Left)
-      → parsing (cond v (opening Valid (behind (t .marks)) (record { 0 = said t .length }) (said t .direction) (answer 0) 1 c) (opening Invalid (behind (t .marks)) l NotExpected (answer 0) 1 c)) (t .bytes)
-      ≡ cond v (startRule (said t) g (leaving (behind31 t) (waiting t l 1))) (ending (reaching CommandTransferInvalid (leaving (behind31 t) (waiting t l 1))) (answer 0) 0 true (g .packet))
+      → parsing (cond v (opening Valid (marksPast31 (t .marks)) (record { 0 = said t .length }) (said t .direction) (answer 0) 1 c) (opening Invalid (marksPast31 (t .marks)) l NotExpected (answer 0) 1 c)) (t .bytes)
+      ≡ cond v (startRule (said t) g (leaving (past31 t) (waiting t l 1))) (ending (reaching CommandTransferInvalid (leaving (past31 t) (waiting t l 1))) (answer 0) 0 true (g .packet))
   unfolding wrapperThen readCbwAct startAct startRule
   judges true t l =
       rw (just-read t)
       (directed d _ (t .bytes) g (said t) (said t .direction) _ _ _
-      (from-host-0 d c absent (t .bytes) g (said t) (behind (t .marks)) (record { 0 = said t .length }) (said t .direction))
-      (to-host-0 d c absent (t .bytes) g (said t) (behind (t .marks)) (record { 0 = said t .length }) (said t .direction))
-      (none-0 d c absent (t .bytes) g (said t) (behind (t .marks)) (record { 0 = said t .length }) (said t .direction)))
-  judges false t l = stalls d CommandTransfer (t .bytes) g (d .wrapper) Invalid (behind (t .marks)) l NotExpected 1 c
+      (from-host-0 d c absent (t .bytes) g (said t) (marksPast31 (t .marks)) (record { 0 = said t .length }) (said t .direction))
+      (to-host-0 d c absent (t .bytes) g (said t) (marksPast31 (t .marks)) (record { 0 = said t .length }) (said t .direction))
+      (none-0 d c absent (t .bytes) g (said t) (marksPast31 (t .marks)) (record { 0 = said t .length }) (said t .direction)))
+  judges false t l = stalls d CommandTransfer (t .bytes) g (d .wrapper) Invalid (marksPast31 (t .marks)) l NotExpected 1 c
 
   parses : (t : Buffer) (l : Left) → parsing (parsedOpen t l c) (t .bytes) ≡ parseRule g (waiting t l 1)
   unfolding parsedOpen parseRule
@@ -228,7 +228,7 @@ module _ (d : Device) (c : Bool) (absent : isPresent (cond c Absent (d .status))
   wrapper e s l = reads (takesOne (d .fixed .packetsize) e s) (leb 31 (unread (received (d .fixed .packetsize) e (g .one) s))) (received (d .fixed .packetsize) e (g .one) s) (readAnswer (d .fixed .packetsize) e s) l
 
 -- In 3, something is unread or nothing is.
-status : (d : Device) (g : Given) (b : Bool) (x y : Open) (io io′ : List ℕ) {v w : Polling}
+status : (d : Device) (g : Given) (b : Bool) (x y : Opening) (io io′ : List ℕ) {v w : Polling}
     → decides d x io g (readCbwAct (x .found) (x .direction) (x .left .0)) ≡ v → decides d y io′ g Next ≡ w
     → decides d (cond b x y) (cond b io io′) g (statusTransferAct b false (cond b x y .found) (cond b x y .direction) (cond b x y .left .0)) ≡ cond b v w
 unfolding statusTransferAct
@@ -238,13 +238,13 @@ status d g false x y io io′ h i = i
 -- ---- all states
 
 -- This is a poll from what opening gave.
-abbrev pub follows : Device → Open → List ℕ → Given → Polling
+abbrev pub follows : Device → Opening → List ℕ → Given → Polling
 follows d o io g = finish d (goneOn (numbersOf d) o io g) (wrapperThen o io (d .wrapper))
 
 pub same : (s : State) (d : Device) (io : List ℕ) (g : Given) → (s ≡ CommandTransfer → isPresent (d .status) ≡ false)
     → follows (inState s d) (opened (numbersOf (inState s d)) io (g .one) (endpointOf (g .turn .first))) (openedIo (numbersOf (inState s d)) io (g .one) (endpointOf (g .turn .first))) g
     ≡ ruleIn s g (point (inState s d) io 0 false)
-unfolding wrapperThen goneOn opened openedIo isOpening opens ruleIn readCbwRule statusTransferRule invalidRule
+unfolding wrapperThen goneOn opened openedIo isOpening opensIn ruleIn readCbwRule statusTransferRule invalidRule
 same CommandTransfer d io g h = wrapper (inState CommandTransfer d) false (h refl) g (endpointOf (g .turn .first)) (buffer io (d .marks)) (d .left)
 same CommandTransferInvalid d io g h = stalls (inState CommandTransferInvalid d) CommandTransferInvalid io g (d .wrapper) Nothing (d .marks) (d .left) NotExpected 0 false
 same DataTransferNoData d io g h = none (inState DataTransferNoData d) io g

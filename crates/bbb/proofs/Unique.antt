@@ -10,7 +10,7 @@ use Rattle.bbb.specs.declared.Polled.{Polled}
 use Rattle.bbb.specs.declared.open.Opened.{Opened}
 use Rattle.bbb.specs.declared.Change.{Change}
 use Rattle.bbb.specs.Poll.{Polling, pollingOf}
-use Rattle.bbb.specs.Inner.Phases.{Open, openOf, Ended, endedOf}
+use Rattle.bbb.specs.Inner.Phases.{Opening, openingOf, Ended, endedOf}
 use Rattle.bbb.proofs.fits.Kinds as fits-kinds
 use Rattle.bbb.proofs.fits.Reads as fits
 use Rattle.bbb.proofs.is_valid.Kinds as is-valid-kinds
@@ -34,14 +34,14 @@ poll-once x y io io′ packet packet′ h k =
     let e = h ∙ sym k in
     (sym (unpolled-polled x io packet) ∙ ap unpolled e ∙ unpolled-polled y io′ packet′, ap {B = List ℕ × List ℕ} (λ (z : Polling). (z .io, z .packet)) e)
 
-abbrev unopened : Open → Opened
+abbrev unopened : Opening → Opened
 unopened o = record { found = o .found; marks = o .marks; left = o .left; direction = o .direction; answer = named (o .answer); taken = o .taken; cleared = o .cleared }
 
-unopened-opened : (x : Opened) → unopened (openOf x) ≡ x
+unopened-opened : (x : Opened) → unopened (openingOf x) ≡ x
 unopened-opened x = rw (named-answer (x .answer))
 
-open-once : (x y : Opened) {o : Open} → openOf x ≡ o → openOf y ≡ o → x ≡ y
-open-once = once openOf unopened unopened-opened
+open-once : (x y : Opened) {o : Opening} → openingOf x ≡ o → openingOf y ≡ o → x ≡ y
+open-once = once openingOf unopened unopened-opened
 
 abbrev unended : Ended → Change
 unended o = record { state = o .state; marks = o .marks; left = o .left; cleared = o .cleared; report = record { answer = named (o .answer); taken = o .taken; sent = o .sent; stalls = o .stalls } }

@@ -19,27 +19,27 @@ use Rattle.device.specs.Create.{fixed, newDevice}
 use Rattle.bbb.specs.Poll.{Given, given, Polling, pollCall}
 
 -- In this poll the first OUT read offers `packet`, the second is busy, and IN does its part. The packet buffer has 64 bytes of 7.
-unfoldable pub offered : List ℕ → Given
-offered packet = given (replicate 64 7) packet [] (record { first = 0; second = 1; write = 0 })
+unfoldable pub onePacket : List ℕ → Given
+onePacket packet = given (replicate 64 7) packet [] (record { first = 0; second = 1; write = 0 })
 
 -- This is the first poll of a new device with packet size `p` and an IO buffer of `size` zeros. OUT offers `packet`.
-unfoldable pub first : ℕ → ℕ → List ℕ → Polling
-first p size packet = pollCall (newDevice (fixed p 0 size)) (replicate size 0) (offered packet)
+unfoldable pub firstPoll : ℕ → ℕ → List ℕ → Polling
+firstPoll p size packet = pollCall (newDevice (fixed p 0 size)) (replicate size 0) (onePacket packet)
 
 -- This is the poll after the poll `x`. OUT offers `packet`.
-unfoldable pub next : Polling → List ℕ → Polling
-next x packet = pollCall (x .device) (x .io) (offered packet)
+unfoldable pub nextPoll : Polling → List ℕ → Polling
+nextPoll x packet = pollCall (x .device) (x .io) (onePacket packet)
 
 -- This wrapper declares `l` bytes to the host, with `l` below 256. It has tag 1, LUN 0 and a block of 6 zeros.
-unfoldable pub wrapper : ℕ → List ℕ
-wrapper l = 0x55 ∷ 0x53 ∷ 0x42 ∷ 0x43 ∷ 1 ∷ 0 ∷ 0 ∷ 0 ∷ l ∷ 0 ∷ 0 ∷ 0 ∷ 0x80 ∷ 0 ∷ 6 ∷ replicate 16 0
+unfoldable pub wrapperToHost : ℕ → List ℕ
+wrapperToHost l = 0x55 ∷ 0x53 ∷ 0x42 ∷ 0x43 ∷ 1 ∷ 0 ∷ 0 ∷ 0 ∷ l ∷ 0 ∷ 0 ∷ 0 ∷ 0x80 ∷ 0 ∷ 6 ∷ replicate 16 0
 
 -- This wrapper declares `l` bytes from the host, and is the same otherwise.
-unfoldable pub from-host : ℕ → List ℕ
-from-host l = 0x55 ∷ 0x53 ∷ 0x42 ∷ 0x43 ∷ 1 ∷ 0 ∷ 0 ∷ 0 ∷ l ∷ 0 ∷ 0 ∷ 0 ∷ 0 ∷ 0 ∷ 6 ∷ replicate 16 0
+unfoldable pub wrapperFromHost : ℕ → List ℕ
+wrapperFromHost l = 0x55 ∷ 0x53 ∷ 0x42 ∷ 0x43 ∷ 1 ∷ 0 ∷ 0 ∷ 0 ∷ l ∷ 0 ∷ 0 ∷ 0 ∷ 0 ∷ 0 ∷ 6 ∷ replicate 16 0
 
 -- A line of `bench` shows these numbers of a poll: answer, state, left, unread, packets taken and bytes sent.
-pub record Line : Type 0 where
+pub record PollLine : Type 0 where
   pub answer : ℕ
   pub state : ℕ
   pub left : ℕ
@@ -48,26 +48,26 @@ pub record Line : Type 0 where
   pub sent : ℕ
 
 -- This is the line of the poll `x`.
-unfoldable pub line : Polling → Line
-line x = record { answer = x .answer .number; state = stateNumber (x .device .state); left = x .device .left .0; unread = buffer.unread (buffer.buffer (x .io) (x .device .marks)); taken = x .taken; sent = x .sent }
+unfoldable pub pollLineOf : Polling → PollLine
+pollLineOf x = record { answer = x .answer .number; state = stateNumber (x .device .state); left = x .device .left .0; unread = buffer.unread (buffer.buffer (x .io) (x .device .marks)); taken = x .taken; sent = x .sent }
 
-abbrev shown : ℕ → ℕ → ℕ → ℕ → ℕ → ℕ → Line
-shown answer state left unread taken sent = record { answer = answer; state = state; left = left; unread = unread; taken = taken; sent = sent }
+abbrev pollLine : ℕ → ℕ → ℕ → ℕ → ℕ → ℕ → PollLine
+pollLine answer state left unread taken sent = record { answer = answer; state = state; left = left; unread = unread; taken = taken; sent = sent }
 
 -- These are the starred cases of document 01.
 unfoldable pub starred : List Case
 starred =
     -- "Buffer 31, P 8: after 24 bytes the next poll gives 1*"
-    case (line (next (next (next (first 8 31 (take 8 (wrapper 64))) (take 8 (drop 8 (wrapper 64)))) (take 8 (drop 16 (wrapper 64)))) (drop 24 (wrapper 64)))) (shown 1 0 0 24 0 0)
+    case (pollLineOf (nextPoll (nextPoll (nextPoll (firstPoll 8 31 (take 8 (wrapperToHost 64))) (take 8 (drop 8 (wrapperToHost 64)))) (take 8 (drop 16 (wrapperToHost 64)))) (drop 24 (wrapperToHost 64)))) (pollLine 1 0 0 24 0 0)
     -- "L = 64 to host, P 64: the wrapper's poll gives 4 in state 4*. L = 63: 0, nothing sent*."
-    ∷ case (line (first 64 64 (wrapper 64))) (shown 4 4 64 0 1 0)
-    ∷ case (line (first 64 64 (wrapper 63))) (shown 0 4 63 0 1 0)
+    ∷ case (pollLineOf (firstPoll 64 64 (wrapperToHost 64))) (pollLine 4 4 64 0 1 0)
+    ∷ case (pollLineOf (firstPoll 64 64 (wrapperToHost 63))) (pollLine 0 4 63 0 1 0)
     ∷ []
 
 -- This device has P 8 and an IO buffer of 40 bytes. It is in the given state with the given status, marks and left; its wrapper has tag 1
 -- and declares 20 bytes to the host.
-unfoldable pub in-state : State → Status → ℕ → ℕ → ℕ → Device
-in-state state status read write left = rebuilt (newDevice (fixed 8 0 40)) state (buffer.at read write) (record { tag = 1; length = 20; direction = In; lun = 0; blocklength = 6; block = replicate 16 0 }) status (record { 0 = left })
+unfoldable pub deviceIn : State → Status → ℕ → ℕ → ℕ → Device
+deviceIn state status read write left = rebuilt (newDevice (fixed 8 0 40)) state (buffer.at read write) (record { tag = 1; length = 20; direction = In; lun = 0; blocklength = 6; block = replicate 16 0 }) status (record { 0 = left })
 
 -- Its IO buffer starts with 1 to 8.
 unfoldable pub io : List ℕ
@@ -75,8 +75,8 @@ io = 1 ∷ 2 ∷ 3 ∷ 4 ∷ 5 ∷ 6 ∷ 7 ∷ 8 ∷ replicate 32 0
 
 -- This is a poll of the device `d`. The endpoints' answers are `one`, `two` and `into`; the first OUT read offers 9, and the second
 -- offers 10 and 11.
-unfoldable pub polled : Device → ℕ → ℕ → ℕ → Polling
-polled d one two into = pollCall d io (given (replicate 8 7) (9 ∷ []) (10 ∷ 11 ∷ []) (record { first = one; second = two; write = into }))
+unfoldable pub pollAnswered : Device → ℕ → ℕ → ℕ → Polling
+pollAnswered d one two into = pollCall d io (given (replicate 8 7) (9 ∷ []) (10 ∷ 11 ∷ []) (record { first = one; second = two; write = into }))
 
 -- This status says that the command passed, with residue 12.
 unfoldable pub passed : Status
@@ -86,38 +86,38 @@ passed = Present Passed (record { 0 = 12 })
 unfoldable pub ours : List Case
 ours =
     -- 0: two packets together make a wrapper. An invalid wrapper stalls both, and its 31 bytes count as read.
-    case (line (next (first 32 64 (take 30 (wrapper 64))) (drop 30 (wrapper 64)))) (shown 4 4 64 0 1 0)
-    ∷ case (line (first 64 64 (0 ∷ wrapper 64))) (shown 0 1 0 1 1 0)
-    ∷ case (first 64 64 (0 ∷ wrapper 64) .stalls) Stalled
+    case (pollLineOf (nextPoll (firstPoll 32 64 (take 30 (wrapperToHost 64))) (drop 30 (wrapperToHost 64)))) (pollLine 4 4 64 0 1 0)
+    ∷ case (pollLineOf (firstPoll 64 64 (0 ∷ wrapperToHost 64))) (pollLine 0 1 0 1 1 0)
+    ∷ case (firstPoll 64 64 (0 ∷ wrapperToHost 64) .stalls) Stalled
     -- 1: "stall both again; no traffic"
-    ∷ case (polled (in-state CommandTransferInvalid Absent 2 5 0) 0 0 0 .stalls) Stalled
-    ∷ case (line (polled (in-state CommandTransferInvalid Absent 2 5 0) 0 0 0)) (shown 0 1 0 3 0 0)
+    ∷ case (pollAnswered (deviceIn CommandTransferInvalid Absent 2 5 0) 0 0 0 .stalls) Stalled
+    ∷ case (pollLineOf (pollAnswered (deviceIn CommandTransferInvalid Absent 2 5 0) 0 0 0)) (pollLine 0 1 0 3 0 0)
     -- 3: the next packet is sent. With nothing unread, 0 is entered, both endpoints are unstalled, and a packet is read.
-    ∷ case (polled (in-state StatusTransfer passed 2 5 4) 0 0 0 .packet) (3 ∷ 4 ∷ 5 ∷ replicate 5 7)
-    ∷ case (line (polled (in-state StatusTransfer passed 2 5 4) 0 0 0)) (shown 0 3 4 0 0 3)
-    ∷ case (line (polled (in-state StatusTransfer passed 5 5 4) 1 0 0)) (shown 6 0 0 0 0 0)
-    ∷ case (polled (in-state StatusTransfer passed 5 5 4) 1 0 0 .stalls) Unstalled
-    ∷ case (polled (in-state StatusTransfer passed 5 5 4) 1 0 0 .device .status) Absent
+    ∷ case (pollAnswered (deviceIn StatusTransfer passed 2 5 4) 0 0 0 .packet) (3 ∷ 4 ∷ 5 ∷ replicate 5 7)
+    ∷ case (pollLineOf (pollAnswered (deviceIn StatusTransfer passed 2 5 4) 0 0 0)) (pollLine 0 3 4 0 0 3)
+    ∷ case (pollLineOf (pollAnswered (deviceIn StatusTransfer passed 5 5 4) 1 0 0)) (pollLine 6 0 0 0 0 0)
+    ∷ case (pollAnswered (deviceIn StatusTransfer passed 5 5 4) 1 0 0 .stalls) Unstalled
+    ∷ case (pollAnswered (deviceIn StatusTransfer passed 5 5 4) 1 0 0 .device .status) Absent
     -- 4: a whole packet is due if at least P bytes are left, and a short one if fewer are. With nothing left the poll goes on to 5.
-    ∷ case (line (polled (in-state DataTransferToHost Absent 0 8 8) 0 0 0)) (shown 0 4 0 0 0 8)
-    ∷ case (line (polled (in-state DataTransferToHost Absent 0 7 8) 0 0 0)) (shown 4 4 8 7 0 0)
-    ∷ case (line (polled (in-state DataTransferToHost Absent 0 7 3) 0 0 0)) (shown 0 4 0 0 0 7)
-    ∷ case (line (polled (in-state DataTransferToHost Absent 0 7 0) 0 0 0)) (shown 0 5 0 7 0 0)
+    ∷ case (pollLineOf (pollAnswered (deviceIn DataTransferToHost Absent 0 8 8) 0 0 0)) (pollLine 0 4 0 0 0 8)
+    ∷ case (pollLineOf (pollAnswered (deviceIn DataTransferToHost Absent 0 7 8) 0 0 0)) (pollLine 4 4 8 7 0 0)
+    ∷ case (pollLineOf (pollAnswered (deviceIn DataTransferToHost Absent 0 7 3) 0 0 0)) (pollLine 0 4 0 0 0 7)
+    ∷ case (pollLineOf (pollAnswered (deviceIn DataTransferToHost Absent 0 7 0) 0 0 0)) (pollLine 0 5 0 7 0 0)
     -- 5: the status is written into the emptied buffer and sent at once. The number of a failing endpoint is carried.
-    ∷ case (polled (in-state DataTransferToHostStatusAwait passed 2 5 0) 0 0 0 .packet) (0x55 ∷ 0x53 ∷ 0x42 ∷ 0x53 ∷ 1 ∷ 0 ∷ 0 ∷ 0 ∷ [])
-    ∷ case (line (polled (in-state DataTransferToHostStatusAwait passed 2 5 0) 0 0 0)) (shown 0 3 0 5 0 8)
-    ∷ case (polled (in-state DataTransferToHostStatusAwait passed 2 5 0) 0 0 9 .answer) (record { number = 7; carried = 9 })
+    ∷ case (pollAnswered (deviceIn DataTransferToHostStatusAwait passed 2 5 0) 0 0 0 .packet) (0x55 ∷ 0x53 ∷ 0x42 ∷ 0x53 ∷ 1 ∷ 0 ∷ 0 ∷ 0 ∷ [])
+    ∷ case (pollLineOf (pollAnswered (deviceIn DataTransferToHostStatusAwait passed 2 5 0) 0 0 0)) (pollLine 0 3 0 5 0 8)
+    ∷ case (pollAnswered (deviceIn DataTransferToHostStatusAwait passed 2 5 0) 0 0 9 .answer) (record { number = 7; carried = 9 })
     -- 6: the buffer is filled up to min(left, P) bytes. After a busy poll it is not filled again.
-    ∷ case (polled (in-state DataTransferToHostEnding passed 6 8 5) 0 0 0 .packet) (7 ∷ 8 ∷ 0xFF ∷ 0xFF ∷ 0xFF ∷ replicate 3 7)
-    ∷ case (line (polled (in-state DataTransferToHostEnding passed 6 8 5) 0 0 1)) (shown 6 6 5 5 0 0)
-    ∷ case (line (next (polled (in-state DataTransferToHostEnding passed 6 8 5) 0 0 1) [])) (shown 0 6 0 0 0 5)
+    ∷ case (pollAnswered (deviceIn DataTransferToHostEnding passed 6 8 5) 0 0 0 .packet) (7 ∷ 8 ∷ 0xFF ∷ 0xFF ∷ 0xFF ∷ replicate 3 7)
+    ∷ case (pollLineOf (pollAnswered (deviceIn DataTransferToHostEnding passed 6 8 5) 0 0 1)) (pollLine 6 6 5 5 0 0)
+    ∷ case (pollLineOf (nextPoll (pollAnswered (deviceIn DataTransferToHostEnding passed 6 8 5) 0 0 1) [])) (pollLine 0 6 0 0 0 5)
     -- 7 and 8: a packet is read, in 8 into the emptied buffer. If this poll has read a wrapper, the packet is the second offer.
-    ∷ case (line (polled (in-state DataTransferFromHost Absent 0 3 20) 0 0 0)) (shown 0 7 19 4 1 0)
-    ∷ case (line (polled (in-state DataTransferFromHost passed 0 3 20) 0 0 0)) (shown 0 8 19 1 1 0)
-    ∷ case (line (polled (in-state DataTransferNoData Absent 0 3 20) 0 0 0)) (shown 0 5 20 3 0 0)
-    ∷ case (line (pollCall (newDevice (fixed 64 0 128)) (replicate 128 0) (given (replicate 64 7) (from-host 20) (10 ∷ 11 ∷ []) (record { first = 0; second = 0; write = 0 })))) (shown 0 7 18 2 2 0)
+    ∷ case (pollLineOf (pollAnswered (deviceIn DataTransferFromHost Absent 0 3 20) 0 0 0)) (pollLine 0 7 19 4 1 0)
+    ∷ case (pollLineOf (pollAnswered (deviceIn DataTransferFromHost passed 0 3 20) 0 0 0)) (pollLine 0 8 19 1 1 0)
+    ∷ case (pollLineOf (pollAnswered (deviceIn DataTransferNoData Absent 0 3 20) 0 0 0)) (pollLine 0 5 20 3 0 0)
+    ∷ case (pollLineOf (pollCall (newDevice (fixed 64 0 128)) (replicate 128 0) (given (replicate 64 7) (wrapperFromHost 20) (10 ∷ 11 ∷ []) (record { first = 0; second = 0; write = 0 })))) (pollLine 0 7 18 2 2 0)
     -- 11: the packet buffer is below P, or an offer is above P. 10 is checked before.
-    ∷ case (pollCall (in-state DataTransferToHost Absent 0 8 8) io (given (replicate 7 7) [] [] (record { first = 0; second = 0; write = 0 })) .answer) (answer 11)
-    ∷ case (pollCall (in-state DataTransferToHost Absent 0 8 8) io (given (replicate 8 7) [] (replicate 9 1) (record { first = 0; second = 0; write = 0 })) .answer) (answer 11)
-    ∷ case (pollCall (in-state DataTransferToHost Absent 0 8 8) (0 ∷ io) (given (replicate 7 7) [] [] (record { first = 0; second = 0; write = 0 })) .answer) (answer 10)
+    ∷ case (pollCall (deviceIn DataTransferToHost Absent 0 8 8) io (given (replicate 7 7) [] [] (record { first = 0; second = 0; write = 0 })) .answer) (answer 11)
+    ∷ case (pollCall (deviceIn DataTransferToHost Absent 0 8 8) io (given (replicate 8 7) [] (replicate 9 1) (record { first = 0; second = 0; write = 0 })) .answer) (answer 11)
+    ∷ case (pollCall (deviceIn DataTransferToHost Absent 0 8 8) (0 ∷ io) (given (replicate 7 7) [] [] (record { first = 0; second = 0; write = 0 })) .answer) (answer 10)
     ∷ []

@@ -37,7 +37,7 @@ use Rattle.wrapper.specs.declared.counters.Left.{Left}
 use Rattle.wrapper.specs.Counters.{fallen}
 use Rattle.wrapper.specs.Status.{statusNumber}
 use Rattle.wrapper.specs.Wrapper.{isValid, wrapperOf}
-use Rattle.packets.specs.Packets.{readAnswer, takesOne, brought, received, sendAnswer, sentCount, sentOff, sentInto, filledUp, withStatus}
+use Rattle.packets.specs.Packets.{readAnswer, takesOne, brought, received, sendAnswer, sentCount, sentOff, sentInto, filledUp, statusWritten}
 use Rattle.device.specs.declared.Status.{Status}
 use Rattle.device.specs.declared.Status.the-variants.{Absent, Present}
 use Rattle.device.specs.declared.Device.{Device}
@@ -87,8 +87,8 @@ abbrev pub point : Device → List ℕ → ℕ → Bool → Point
 point d io taken unstalled = record { device = d; io = io; taken = taken; unstalled = unstalled }
 
 -- This is the IO buffer at the point `x`, with the marks of the record there.
-abbrev pub bufferAt : Point → Buffer
-bufferAt x = buffer (x .io) (x .device .marks)
+abbrev pub bufferOfPoint : Point → Buffer
+bufferOfPoint x = buffer (x .io) (x .device .marks)
 
 -- The point `x` gets the state `s`.
 abbrev pub reaching : State → Point → Point
@@ -128,7 +128,7 @@ sendBy counts p e s g x = ending (lowered counts (sentCount p e s) (leaving (sen
 
 -- One packet is sent from the buffer at the point `x`. The IN endpoint does what its answer in `g` says.
 unfoldable pub send : Bool → Given → Point → Polling
-send counts g x = sendBy counts (x .device .fixed .packetsize) (endpointOf (g .turn .write)) (bufferAt x) g x
+send counts g x = sendBy counts (x .device .fixed .packetsize) (endpointOf (g .turn .write)) (bufferOfPoint x) g x
 
 -- Left falls by a packet of data.
 abbrev pub sendData : Given → Point → Polling
@@ -139,8 +139,8 @@ abbrev pub sendStatus : Given → Point → Polling
 sendStatus = send false
 
 -- The packet to read is `one`, the first offer, while `taken` is 0, and `two`, the second, once a packet was taken.
-unfoldable pub offers : ℕ → List ℕ → List ℕ → List ℕ
-offers taken one two = cond (eqb taken 0) one two
+unfoldable pub offeredPacket : ℕ → List ℕ → List ℕ → List ℕ
+offeredPacket taken one two = cond (eqb taken 0) one two
 
 -- What the OUT endpoint does is the first OUT answer of `turn` while `taken` is 0, and the second once a packet was taken.
 unfoldable pub offeredBy : ℕ → Turn → Endpoint
@@ -154,7 +154,7 @@ takeBy p e packet s g x = ends g (counting (takesOne p e s) (lowered true (broug
 -- One packet of data is read into the buffer at the point `x`. It is the first offer of `g`, or the second if this poll has taken the
 -- first.
 unfoldable pub takeData : Given → Point → Polling
-takeData g x = takeBy (x .device .fixed .packetsize) (offeredBy (x .taken) (g .turn)) (offers (x .taken) (g .one) (g .two)) (bufferAt x) g x
+takeData g x = takeBy (x .device .fixed .packetsize) (offeredBy (x .taken) (g .turn)) (offeredPacket (x .taken) (g .one) (g .two)) (bufferOfPoint x) g x
 
 -- ---- the states
 
@@ -162,11 +162,11 @@ takeData g x = takeBy (x .device .fixed .packetsize) (offeredBy (x .taken) (g .t
 -- `status`.
 unfoldable pub statusPut : ℕ → Status → Buffer → Buffer
 statusPut tag Absent s = emptied s
-statusPut tag (Present status residue) s = withStatus tag residue (statusNumber status) s
+statusPut tag (Present status residue) s = statusWritten tag residue (statusNumber status) s
 
 -- The poll goes on to 3. "Entering 3 empties the buffer, writes the status into it and sends at once."
 unfoldable pub enterStatus : Given → Point → Polling
-enterStatus g x = sendStatus g (reaching StatusTransfer (leaving (statusPut (x .device .wrapper .tag) (x .device .status) (bufferAt x)) x))
+enterStatus g x = sendStatus g (reaching StatusTransfer (leaving (statusPut (x .device .wrapper .tag) (x .device .status) (bufferOfPoint x)) x))
 
 -- The rule of state 5 is "5: status present goes to 3." With no status the poll ends in 5 with the answer 0.
 unfoldable pub statusAwaitRule : Given → Point → Polling
@@ -182,7 +182,7 @@ unfoldable pub toHostEndingRule : Given → Point → Polling
 toHostEndingRule g x =
     cond (eqb (x .device .left .0) 0)
     (enterStatus g x)
-    (sendData g (reaching DataTransferToHostEnding (leaving (filledUp (x .device .fixed .packetsize) (x .device .left) (bufferAt x)) x)))
+    (sendData g (reaching DataTransferToHostEnding (leaving (filledUp (x .device .fixed .packetsize) (x .device .left) (bufferOfPoint x)) x)))
 
 -- State 4 answers 4, FullPacketExpected, if `left` is at least `p` and fewer than `p` bytes are unread; `n` is how many are. 01 says
 -- "left at least P, unread below P".
@@ -198,7 +198,7 @@ toHostRule g x =
     (statusAwaitRule g x)
     (cond (isPresent (x .device .status))
     (toHostEndingRule g x)
-    (cond (fallsShort (x .device .fixed .packetsize) (x .device .left) (unread (bufferAt x)))
+    (cond (fallsShort (x .device .fixed .packetsize) (x .device .left) (unread (bufferOfPoint x)))
     (ends g (reaching DataTransferToHost x) (answer 4))
     (sendData g (reaching DataTransferToHost x))))
 
@@ -217,33 +217,33 @@ fromHostRule g x =
     (cond (isPresent (x .device .status)) (fromHostEndingRule g x) (takeData g (reaching DataTransferFromHost x)))
 
 -- At the point `x`, the wrapper `w` goes into the record, and left becomes the length that `w` declares.
-abbrev pub ordered : Wrapper → Point → Point
-ordered w x = point (withLeft (record { 0 = w .length }) (withWrapper w (x .device))) (x .io) (x .taken) (x .unstalled)
+abbrev pub starting : Wrapper → Point → Point
+starting w x = point (withLeft (record { 0 = w .length }) (withWrapper w (x .device))) (x .io) (x .taken) (x .unstalled)
 
 -- A valid wrapper `w` was read, and its direction decides how the poll goes on. "Valid goes on to 7, 4 or, through 2, to 5."
 unfoldable pub startRule : Wrapper → Given → Point → Polling
-startRule w g x = byDirection (w .direction) (fromHostRule g (ordered w x)) (toHostRule g (ordered w x)) (noDataRule g (ordered w x))
+startRule w g x = byDirection (w .direction) (fromHostRule g (starting w x)) (toHostRule g (starting w x)) (noDataRule g (starting w x))
 
 -- These are the first 31 unread bytes of the buffer `s`.
 unfoldable pub messageAt : Buffer → List ℕ
 messageAt s = take 31 (drop (s .marks .read) (s .bytes))
 
 -- This is the buffer `s` after those 31 bytes were read: its read mark is 31 higher.
-abbrev pub behind31 : Buffer → Buffer
-behind31 s = buffer (s .bytes) (at (s .marks .read + 31) (s .marks .write))
+abbrev pub past31 : Buffer → Buffer
+past31 s = buffer (s .bytes) (at (s .marks .read + 31) (s .marks .write))
 
 -- At least 31 bytes are unread, and the first 31 are parsed. "Invalid goes to 1, both endpoints stalled." The 31 bytes count as read,
 -- whether they are valid or not.
 unfoldable pub parseRule : Given → Point → Polling
 parseRule g x =
-    cond (isValid (messageAt (bufferAt x)))
-    (startRule (wrapperOf (messageAt (bufferAt x))) g (leaving (behind31 (bufferAt x)) x))
-    (ending (reaching CommandTransferInvalid (leaving (behind31 (bufferAt x)) x)) (answer 0) 0 true (g .packet))
+    cond (isValid (messageAt (bufferOfPoint x)))
+    (startRule (wrapperOf (messageAt (bufferOfPoint x))) g (leaving (past31 (bufferOfPoint x)) x))
+    (ending (reaching CommandTransferInvalid (leaving (past31 (bufferOfPoint x)) x)) (answer 0) 0 true (g .packet))
 
 -- A read was tried: `took` says whether it took a packet, and `t` is its answer. If it took one, "with 31 or more unread parse";
 -- otherwise the poll ends with the answer `t`.
 unfoldable pub readBy : Bool → Answering → Given → Point → Polling
-readBy took t g x = cond (took && leb 31 (unread (bufferAt x))) (parseRule g x) (ends g x t)
+readBy took t g x = cond (took && leb 31 (unread (bufferOfPoint x))) (parseRule g x) (ends g x t)
 
 -- The first offer of `g` is read into the buffer `s`: `p` is the packet size, and `e` is what the OUT endpoint does. Left does not fall.
 unfoldable pub readOneBy : ℕ → Endpoint → Buffer → Given → Point → Polling
@@ -251,7 +251,7 @@ readOneBy p e s g x = readBy (takesOne p e s) (readAnswer p e s) g (counting (ta
 
 -- The rule of state 0 is "0: read one packet; with 31 or more unread parse." The packet is the first offer of `g`.
 unfoldable pub readCbwRule : Given → Point → Polling
-readCbwRule g x = readOneBy (x .device .fixed .packetsize) (endpointOf (g .turn .first)) (bufferAt x) g x
+readCbwRule g x = readOneBy (x .device .fixed .packetsize) (endpointOf (g .turn .first)) (bufferOfPoint x) g x
 
 -- At the point `x`, 0 is entered. "Entering 0 clears status and left and unstalls both; it does not empty the buffer."
 abbrev pub entering : Point → Point
@@ -260,7 +260,7 @@ entering x = point (entering0 (x .device)) (x .io) (x .taken) true
 -- The rule of state 3, if the poll starts in it, is "Later polls in 3 send the next packet; with nothing unread, enter 0 and read." The
 -- read is that of state 0, in the same poll.
 unfoldable pub statusTransferRule : Given → Point → Polling
-statusTransferRule g x = cond (eqb (unread (bufferAt x)) 0) (readCbwRule g (entering x)) (sendStatus g x)
+statusTransferRule g x = cond (eqb (unread (bufferOfPoint x)) 0) (readCbwRule g (entering x)) (sendStatus g x)
 
 -- The rule of state 1 is "1: stall both again; no traffic."
 unfoldable pub invalidRule : Given → Point → Polling

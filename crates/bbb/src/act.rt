@@ -22,8 +22,8 @@ ghost use Rattle.buffer.specs.Buffer.{buffer};
 ghost use Rattle.buffer.specs.Inner.Buffer.{Sound, Leaves};
 ghost use Rattle.answers.specs.Answers.{endpointOf};
 ghost use Rattle.packets.specs.Inner.Packets.{Reads};
-ghost use Rattle.bbb.specs.Poll.{given, leftThen, Fits, fallsShort, offers, offeredBy, statusPut};
-ghost use Rattle.bbb.specs.Inner.Phases.{openOf, doneOf, Acts, restDid, emptiedMarks, oneMore, took, refuses, readied, sentBy, sentPacket, acted, actedPacket};
+ghost use Rattle.bbb.specs.Poll.{given, leftThen, Fits, fallsShort, offeredPacket, offeredBy, statusPut};
+ghost use Rattle.bbb.specs.Inner.Phases.{openingOf, doingOf, Acts, restDid, emptiedMarks, oneMore, took, isRefused, readied, sentBy, sentPacket, acted, actedPacket};
 
 // An act gives the marks, left, the bytes sent, the answer, the packets taken in the whole poll, and whether both endpoints are stalled.
 pub struct Did {
@@ -63,7 +63,7 @@ fn read_offered(
     turn: Turn,
 ) -> Received
     requires { ⌜ Sound (buffer (now io) m) × (length (now one) ≤ p) × (length (now two) ≤ p) ⌝ }
-    ensures { λ r. ⌜ Reads p (offeredBy taken turn) (offers taken (now (one .entry)) (now (two .entry))) (buffer (now (io .entry)) m) r (now (io .exit)) ⌝ }
+    ensures { λ r. ⌜ Reads p (offeredBy taken turn) (offeredPacket taken (now (one .entry)) (now (two .entry))) (buffer (now (io .entry)) m) r (now (io .exit)) ⌝ }
 {
     if taken == 0 {
         return read_packet(io, m, p, endpoint_of(turn.first), one);
@@ -95,7 +95,7 @@ fn one_more(taken: u8, more: bool) -> u8
 // A packet of data is read, and left falls by its bytes.
 fn take(b: Before, p: usize, o: Opened, io: &mut [u8], one: &[u8], two: &[u8], turn: Turn) -> Did
     requires { ⌜ Sound (buffer (now io) (o .marks)) × (o .taken ≤ 1) × (length (now one) ≤ p) × (length (now two) ≤ p) ⌝ }
-    ensures { λ r. ⌜ doneOf r (now (io .exit)) ≡ took b p (openOf o) (now (io .entry)) (now (one .entry)) (now (two .entry)) turn ⌝ }
+    ensures { λ r. ⌜ doingOf r (now (io .exit)) ≡ took b p (openingOf o) (now (io .entry)) (now (one .entry)) (now (two .entry)) turn ⌝ }
 {
     let marks = o.marks;
     let left = o.left;
@@ -126,7 +126,7 @@ fn falls_short(p: usize, left: Left, unread: usize) -> bool
 
 // Only a send in state 4 can be refused: a whole packet may be due there.
 fn refused(b: Before, p: usize, left: Left, unread: usize) -> bool
-    ensures { λ r. ⌜ r ≡ refuses b p left unread ⌝ }
+    ensures { λ r. ⌜ r ≡ isRefused b p left unread ⌝ }
 {
     match b {
         Before::Nothing => false,
@@ -185,7 +185,7 @@ fn send(
     write: u8,
 ) -> Did
     requires { ⌜ Sound (buffer (now io) (o .marks)) × (n .fixed .packetsize ≤ length (now packet)) ⌝ }
-    ensures { λ r. ⌜ Acts (sentBy b counts n (openOf o) (now (io .entry)) (endpointOf write)) (sentPacket b n (openOf o) (now (io .entry)) (endpointOf write) (now (packet .entry))) r (now (io .exit)) (now (packet .exit)) ⌝ }
+    ensures { λ r. ⌜ Acts (sentBy b counts n (openingOf o) (now (io .entry)) (endpointOf write)) (sentPacket b n (openingOf o) (now (io .entry)) (endpointOf write) (now (packet .entry))) r (now (io .exit)) (now (packet .exit)) ⌝ }
 {
     let fixed = n.fixed;
     let marks = o.marks;
@@ -227,7 +227,7 @@ pub fn act(
     turn: Turn,
 ) -> Did
     requires { ⌜ Sound (buffer (now io) (o .marks)) × (o .taken ≤ 1) × Fits (n .fixed .packetsize) (now packet) (now one) (now two) ⌝ }
-    ensures { λ r. ⌜ Acts (acted row n (openOf o) (now (io .entry)) (given (now (packet .entry)) (now (one .entry)) (now (two .entry)) turn)) (actedPacket row n (openOf o) (now (io .entry)) (given (now (packet .entry)) (now (one .entry)) (now (two .entry)) turn)) r (now (io .exit)) (now (packet .exit)) ⌝ }
+    ensures { λ r. ⌜ Acts (acted row n (openingOf o) (now (io .entry)) (given (now (packet .entry)) (now (one .entry)) (now (two .entry)) turn)) (actedPacket row n (openingOf o) (now (io .entry)) (given (now (packet .entry)) (now (one .entry)) (now (two .entry)) turn)) r (now (io .exit)) (now (packet .exit)) ⌝ }
 {
     let fixed = n.fixed;
     let kind = row.1;

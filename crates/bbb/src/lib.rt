@@ -36,7 +36,7 @@ ghost use Rattle.buffer.specs.Buffer.{buffer};
 ghost use Rattle.buffer.specs.Inner.Buffer.{Sound};
 ghost use Rattle.device.specs.declared.Status.the-variants.{Absent};
 ghost use Rattle.bbb.specs.Poll.{given, Fits, isFitting, pollingOf, pollCall};
-ghost use Rattle.bbb.specs.Inner.Phases.{refusedBy, isValidFound, openOf, InFront, wrapperThen, endedOf, goneOn, changedBy};
+ghost use Rattle.bbb.specs.Inner.Phases.{refusedBy, isValidFound, openingOf, InFront, wrapperThen, endedOf, goneOn, changedBy};
 
 // These are the endpoints' answers for this poll, for two OUT reads and one IN write: 0 does its part, 1 is busy, and others are errors.
 pub struct Turn {
@@ -91,7 +91,7 @@ pub fn go_on(
     turn: Turn,
 ) -> Change
     requires { ⌜ (n .marks .read ≤ n .marks .write) × Sound (buffer (now io) (o .marks)) × (o .taken ≤ 1) × Fits (n .fixed .packetsize) (now packet) (now one) (now two) ⌝ }
-    ensures { λ r. ⌜ endedOf r (now (io .exit)) (now (packet .exit)) ≡ goneOn n (openOf o) (now (io .entry)) (given (now (packet .entry)) (now (one .entry)) (now (two .entry)) turn) ⌝ }
+    ensures { λ r. ⌜ endedOf r (now (io .exit)) (now (packet .exit)) ≡ goneOn n (openingOf o) (now (io .entry)) (given (now (packet .entry)) (now (one .entry)) (now (two .entry)) turn) ⌝ }
 {
     let state = n.state;
     let marks = n.marks;
@@ -155,7 +155,7 @@ fn status_then(cleared: bool, status: Status) -> Status
 // The record gets a valid wrapper that opening found, and otherwise keeps the wrapper `old`.
 fn wrapper_then(o: Opened, old: Wrapper, io: &[u8]) -> Wrapper
     requires { ⌜ Sound (buffer (now io) (o .marks)) × InFront o ⌝ }
-    ensures { λ r. ⌜ r ≡ wrapperThen (openOf o) (now (io .entry)) old ⌝ }
+    ensures { λ r. ⌜ r ≡ wrapperThen (openingOf o) (now (io .entry)) old ⌝ }
 {
     let found = o.found;
     let marks = o.marks;

@@ -18,7 +18,7 @@ ghost use Rattle.buffer.specs.Buffer.{buffer};
 ghost use Rattle.buffer.specs.Inner.Buffer.{Sound};
 ghost use Rattle.device.specs.Broken.{Whole};
 ghost use Rattle.answers.specs.Answers.{endpointOf};
-ghost use Rattle.bbb.specs.Inner.Phases.{Opens, opens, countOf, parsedOpen, readOpen, readIo, opened, openedIo, leftWhen};
+ghost use Rattle.bbb.specs.Inner.Phases.{Opens, opensIn, countOf, parsedOpen, readOpen, readIo, opened, openedIo, leftWhen};
 
 // Opening gives what it found and how far the poll has come then. `direction` counts only if a valid wrapper was found.
 pub struct Opened {
@@ -115,7 +115,7 @@ fn read_wrapper(
 
 // The chain that starts in the state with the number `state` reaches the wrapper in 0, and in 3 if nothing is unread (`empty`).
 fn reaches(state: u8, empty: bool) -> bool
-    ensures { λ r. ⌜ r ≡ opens state empty ⌝ }
+    ensures { λ r. ⌜ r ≡ opensIn state empty ⌝ }
 {
     if state == 0 {
         return true;

@@ -31,20 +31,20 @@ use Rattle.calls.specs.declared.Reply.the-variants as reply
 use Rattle.calls.specs.declared.command.Offer.{Offer}
 use Rattle.calls.specs.declared.command.Offer.the-variants as offer
 use Rattle.calls.specs.declared.command.Step.{Step}
-use Rattle.calls.specs.Status.{statedOf, setStatusCall}
-use Rattle.calls.specs.Data.{movedOf, readCall, writeCall, writeAllCall}
-use Rattle.calls.specs.Bus.{Handling, handledOf, replied, resetCall, controlCall}
-use Rattle.calls.specs.Command.{steppedOf, offers, stepCall}
-use Rattle.benchfile.specs.Event.{inAnswer, firstAnswer, secondAnswer, firstLength, secondLength, firstPacket, secondPacket, statusByte, figure, room, requestType, request, agrees, isPoll, isStatus, isLong, suits}
+use Rattle.calls.specs.Status.{statingOf, setStatusCall}
+use Rattle.calls.specs.Data.{movingOf, readDataCall, writeDataCall, writeDataAllCall}
+use Rattle.calls.specs.Bus.{Handling, handlingOf, replied, resetCall, controlCall}
+use Rattle.calls.specs.Command.{steppingOf, offeredOf, commandStepCall}
+use Rattle.benchfile.specs.Event.{inAnswer, firstAnswer, secondAnswer, firstLength, secondLength, firstPacket, secondPacket, statusByte, figure, roomField, requestType, request, agrees, isPollBody, isStatusBody, isLong, suits}
 use Rattle.benchact.specs.declared.Acted.{Acted}
-use Rattle.benchact.specs.Act.{Acting, front, turnOf, polled, pollActs, statusOf, stated, statusActs, written, writeActs, writeAllActs, readInto, readActs, inFront, handled, resetActs, requestOf, controlActs, commandInFront, stepped, commandActs, actBy}
+use Rattle.benchact.specs.Act.{Acting, front, turnOf, actingOfPoll, pollActs, firmwareStatusOf, actingOfStatus, statusActs, actingOfWrite, writeActs, writeAllActs, actingOfRead, readActs, inFront, actingOfBus, resetActs, requestOf, controlActs, commandInFront, actingOfStep, commandActs, actBy}
 use Rattle.benchact.specs.Inner.Act.{actingOf, polledBy, statedBy, movedBy, handledBy}
 
 -- ---- what the kind says of the body
 
-module _ (body : List ℕ) (h : isPoll body ≡ true) where
+module _ (body : List ℕ) (h : isPollBody body ≡ true) where
   pub poll-long : 5 ≤ length body
-  unfolding isPoll
+  unfolding isPollBody
   poll-long = leb-true _ _ (and-left _ _ h)
 
   -- The length of the first packet stands in the body.
@@ -53,7 +53,7 @@ module _ (body : List ℕ) (h : isPoll body ≡ true) where
 
   -- The first packet ends in the body.
   pub poll-ends : {n : ℕ} → n ≡ get firstLength body → 5 + n ≤ length body
-  unfolding isPoll
+  unfolding isPollBody
   poll-ends e =
       let rest : Bool = agrees (get firstAnswer body) (get firstLength body) && agrees (get secondAnswer body) (get secondLength body) in
       let all : Bool = eqb (length body) (5 + get firstLength body + get secondLength body) in
@@ -61,12 +61,12 @@ module _ (body : List ℕ) (h : isPoll body ≡ true) where
       omega arith
 
 module _ (k : ℕ) (body : List ℕ) (h : suits k body ≡ true) where
-  pub suits-poll : k ≡ 1 → isPoll body ≡ true
+  pub suits-poll : k ≡ 1 → isPollBody body ≡ true
   unfolding suits
   suits-poll e = rw e at h
 
   pub suits-status : k ≡ 2 → length body ≡ 5
-  unfolding suits isStatus
+  unfolding suits isStatusBody
   suits-status e = eqb-true _ _ (and-left _ _ (rw e at h))
 
   pub suits-read : k ≡ 5 → length body ≡ 2
@@ -89,8 +89,8 @@ turns body ha hb hw = rw (ha, hb, hw)
 abbrev statusBy : ℕ → ℕ → FirmwareStatus
 statusBy status bytes = record { status = status; figure = bytes }
 
-pub figures : (body : List ℕ) {a b : ℕ} → a ≡ get statusByte body → b ≡ get figure body → statusBy a b ≡ statusOf body
-unfolding statusOf
+pub figures : (body : List ℕ) {a b : ℕ} → a ≡ get statusByte body → b ≡ get figure body → statusBy a b ≡ firmwareStatusOf body
+unfolding firmwareStatusOf
 figures body ha hb = rw (ha, hb)
 
 abbrev requestBy : ℕ → ℕ → Request
@@ -107,29 +107,29 @@ to-end k l = take-all (length l - k) (drop k l) (omega (arith, length-drop k l))
 pub polls : (body : List ℕ) (d : Device) (io lent : List ℕ) (r : Polled) {io′ lent′ : List ℕ} {t : Turn} {n : ℕ} {a : Acted} → t ≡ turnOf body → n ≡ get firstLength body
     → pollingOf r io′ lent′ ≡ pollCall d io (given lent (take (5 + n - 5) (drop 5 body)) (take (length body - (5 + n)) (drop (5 + n) body)) t)
     → a ≡ polledBy r → actingOf a io′ lent′ ≡ pollActs body d io lent
-unfolding pollActs polled firstPacket secondPacket
+unfolding pollActs actingOfPoll firstPacket secondPacket
 polls body d io lent r {n = n} ht hn h ha =
     let e : 5 + n - 5 ≡ n = omega arith in
-    rw ha (ap polled (rw (e, to-end (5 + n) body, hn, ht) at h))
+    rw ha (ap actingOfPoll (rw (e, to-end (5 + n) body, hn, ht) at h))
 
-pub states : (body : List ℕ) (d : Device) (io lent : List ℕ) (r : Stated) {f : FirmwareStatus} {a : Acted} → f ≡ statusOf body → statedOf r ≡ setStatusCall d io f → a ≡ statedBy r
+pub states : (body : List ℕ) (d : Device) (io lent : List ℕ) (r : Stated) {f : FirmwareStatus} {a : Acted} → f ≡ firmwareStatusOf body → statingOf r ≡ setStatusCall d io f → a ≡ statedBy r
     → actingOf a io lent ≡ statusActs body d io lent
-unfolding statusActs stated
-states body d io lent r hf h ha = rw ha (ap (stated io lent) (rw hf at h))
+unfolding statusActs actingOfStatus
+states body d io lent r hf h ha = rw ha (ap (actingOfStatus io lent) (rw hf at h))
 
 module _ (body : List ℕ) (d : Device) (io lent : List ℕ) (r : Moved) {io′ : List ℕ} {a : Acted} where
-  pub writes : movedOf r io′ ≡ writeCall d io body → a ≡ movedBy r 0 → actingOf a io′ lent ≡ writeActs body d io lent
-  unfolding writeActs written
-  writes h ha = rw ha (ap (written lent) h)
+  pub writes : movingOf r io′ ≡ writeDataCall d io body → a ≡ movedBy r 0 → actingOf a io′ lent ≡ writeActs body d io lent
+  unfolding writeActs actingOfWrite
+  writes h ha = rw ha (ap (actingOfWrite lent) h)
 
-  pub writes-all : movedOf r io′ ≡ writeAllCall d io body → a ≡ movedBy r 0 → actingOf a io′ lent ≡ writeAllActs body d io lent
-  unfolding writeAllActs written
-  writes-all h ha = rw ha (ap (written lent) h)
+  pub writes-all : movingOf r io′ ≡ writeDataAllCall d io body → a ≡ movedBy r 0 → actingOf a io′ lent ≡ writeAllActs body d io lent
+  unfolding writeAllActs actingOfWrite
+  writes-all h ha = rw ha (ap (actingOfWrite lent) h)
 
-pub reads : (body : List ℕ) (d : Device) (io lent : List ℕ) (r : Moved) {n : ℕ} {dst : List ℕ} {a : Acted} → n ≡ get room body → movedOf r dst ≡ readCall d io (take n lent)
+pub reads : (body : List ℕ) (d : Device) (io lent : List ℕ) (r : Moved) {n : ℕ} {dst : List ℕ} {a : Acted} → n ≡ get roomField body → movingOf r dst ≡ readDataCall d io (take n lent)
     → a ≡ movedBy r (r .report .count) → actingOf a io (dst ++ drop n lent) ≡ readActs body d io lent
-unfolding readActs readInto
-reads body d io lent r {n} hn h ha = rw (ha, ← hn) (ap (readInto io lent n) h)
+unfolding readActs actingOfRead
+reads body d io lent r {n} hn h ha = rw (ha, ← hn) (ap (actingOfRead io lent n) h)
 
 -- ---- what is put at the front of the lent bytes: a control answer, or LUN and block
 
@@ -153,12 +153,12 @@ pub length-stored : (l : List ℕ) (v : ℕ) {n : ℕ} → n ≡ length (set l 0
 length-stored l v h = h ∙ length-set l 0 v
 
 module _ (lent : List ℕ) (w : Wrapper) (x : Offer) where
-  pub offers-nothing : x ≡ offer.Nothing → front 0 lent ≡ commandInFront w (offers x) lent
+  pub offers-nothing : x ≡ offer.Nothing → front 0 lent ≡ commandInFront w (offeredOf x) lent
   unfolding commandInFront
   offers-nothing e = rw e
 
   pub offers-command : {n : ℕ} {c : ScsiCommand} {lent′ : List ℕ} → x ≡ offer.Command n c → 17 ≤ length lent → lent′ ≡ overlay (set lent 0 n) 1 (w .block)
-      → front (1 + w .blocklength) lent′ ≡ commandInFront w (offers x) lent
+      → front (1 + w .blocklength) lent′ ≡ commandInFront w (offeredOf x) lent
   unfolding commandInFront
   offers-command {n} e h hl = rw (e, hl) (ap (front (1 + w .blocklength)) (behind lent n (w .block) (omega arith)))
 
@@ -167,21 +167,21 @@ steppedBy d r n = record { device = d; answer = r .answer; count = 0; stalls = K
 
 module _ (d : Device) (io lent : List ℕ) {lent′ : List ℕ} where
   module _ (r : Handled) {n : ℕ} {a : Acted} (hf : front n lent′ ≡ inFront (replied (r .report .reply)) lent) (ha : a ≡ handledBy r n) where
-    answers : {o : Handling} → handledOf r ≡ o → actingOf a io lent′ ≡ handled io lent o
-    unfolding handled
+    answers : {o : Handling} → handlingOf r ≡ o → actingOf a io lent′ ≡ actingOfBus io lent o
+    unfolding actingOfBus
     answers h = rw (ha, ← h, ← hf)
 
-    pub resets : handledOf r ≡ resetCall d io → actingOf a io lent′ ≡ resetActs d io lent
+    pub resets : handlingOf r ≡ resetCall d io → actingOf a io lent′ ≡ resetActs d io lent
     unfolding resetActs
     resets h = answers h
 
-    pub controls : (body : List ℕ) {q : Request} → q ≡ requestOf body → handledOf r ≡ controlCall d io q → actingOf a io lent′ ≡ controlActs body d io lent
+    pub controls : (body : List ℕ) {q : Request} → q ≡ requestOf body → handlingOf r ≡ controlCall d io q → actingOf a io lent′ ≡ controlActs body d io lent
     unfolding controlActs
     controls body hq h = answers (rw hq at h)
 
-  pub steps : (r : Step) {n : ℕ} → steppedOf r ≡ stepCall d io → front n lent′ ≡ commandInFront (d .wrapper) (offers (r .offer)) lent
+  pub steps : (r : Step) {n : ℕ} → steppingOf r ≡ commandStepCall d io → front n lent′ ≡ commandInFront (d .wrapper) (offeredOf (r .offer)) lent
       → actingOf (steppedBy d r n) io lent′ ≡ commandActs d io lent
-  unfolding commandActs stepped
+  unfolding commandActs actingOfStep
   steps r h hf = rw (← h, ← hf)
 
 -- ---- the event

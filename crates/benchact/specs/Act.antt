@@ -16,10 +16,10 @@ use Rattle.bbb.specs.Poll.{Polling, given, pollCall}
 use Rattle.calls.specs.declared.FirmwareStatus.{FirmwareStatus}
 use Rattle.calls.specs.declared.Request.{Request}
 use Rattle.calls.specs.Status.{Stating, setStatusCall}
-use Rattle.calls.specs.Data.{Moving, readCall, writeCall, writeAllCall}
+use Rattle.calls.specs.Data.{Moving, readDataCall, writeDataCall, writeDataAllCall}
 use Rattle.calls.specs.Bus.{Handling, resetCall, controlCall}
-use Rattle.calls.specs.Command.{Offered, Stepping, stepCall}
-use Rattle.benchfile.specs.Event.{inAnswer, firstAnswer, secondAnswer, firstPacket, secondPacket, statusByte, figure, room, requestType, request}
+use Rattle.calls.specs.Command.{Offered, Stepping, commandStepCall}
+use Rattle.benchfile.specs.Event.{inAnswer, firstAnswer, secondAnswer, firstPacket, secondPacket, statusByte, figure, roomField, requestType, request}
 
 -- What a call leaves and tells: the record `device`, the answer, "count (packets taken, bytes read or written, else 0)", the stalls, and
 -- `shown`, which says how many bytes the line shows. `io` is the IO buffer after it. `lent` are the lent bytes after it, and the line
@@ -48,53 +48,53 @@ unfoldable pub turnOf : List ℕ → Turn
 turnOf body = record { first = get firstAnswer body; second = get secondAnswer body; write = get inAnswer body }
 
 -- What a poll leaves and tells where the poll by value gives `o`: the line counts the packets taken, and shows the bytes sent.
-unfoldable pub polled : Polling → Acting
-polled o = record { device = o .device; answer = o .answer; count = o .taken; stalls = o .stalls; shown = o .sent; io = o .io; lent = o .packet }
+unfoldable pub actingOfPoll : Polling → Acting
+actingOfPoll o = record { device = o .device; answer = o .answer; count = o .taken; stalls = o .stalls; shown = o .sent; io = o .io; lent = o .packet }
 
 -- The poll with the body `body`, on the device `d` and the IO buffer `io`. The lent bytes `lent` are its packet buffer.
 unfoldable pub pollActs : List ℕ → Device → List ℕ → List ℕ → Acting
-pollActs body d io lent = polled (pollCall d io (given lent (firstPacket body) (secondPacket body) (turnOf body)))
+pollActs body d io lent = actingOfPoll (pollCall d io (given lent (firstPacket body) (secondPacket body) (turnOf body)))
 
 -- ---- 2 status
 
 -- The status byte and the figure in the body `body` of a status.
-unfoldable pub statusOf : List ℕ → FirmwareStatus
-statusOf body = record { status = get statusByte body; figure = get figure body }
+unfoldable pub firmwareStatusOf : List ℕ → FirmwareStatus
+firmwareStatusOf body = record { status = get statusByte body; figure = get figure body }
 
 -- What a status leaves and tells where the call by value gives `o`: the IO buffer `io` and the lent bytes `lent` stay, and the line shows
 -- no bytes.
-unfoldable pub stated : List ℕ → List ℕ → Stating → Acting
-stated io lent o = record { device = o .device; answer = o .answer; count = 0; stalls = Kept; shown = 0; io = io; lent = lent }
+unfoldable pub actingOfStatus : List ℕ → List ℕ → Stating → Acting
+actingOfStatus io lent o = record { device = o .device; answer = o .answer; count = 0; stalls = Kept; shown = 0; io = io; lent = lent }
 
 -- The status with the body `body`, on the device `d` and the IO buffer `io`.
 unfoldable pub statusActs : List ℕ → Device → List ℕ → List ℕ → Acting
-statusActs body d io lent = stated io lent (setStatusCall d io (statusOf body))
+statusActs body d io lent = actingOfStatus io lent (setStatusCall d io (firmwareStatusOf body))
 
 -- ---- 3 `write_data`, 4 `try_write_data_all`: the body is the source
 
 -- What a write leaves and tells where the call by value gives `o`: the lent bytes `lent` stay, and the line shows no bytes.
-unfoldable pub written : List ℕ → Moving → Acting
-written lent o = record { device = o .device; answer = o .answer; count = o .count; stalls = Kept; shown = 0; io = o .bytes; lent = lent }
+unfoldable pub actingOfWrite : List ℕ → Moving → Acting
+actingOfWrite lent o = record { device = o .device; answer = o .answer; count = o .count; stalls = Kept; shown = 0; io = o .bytes; lent = lent }
 
 -- `write_data` of the bytes `body`, on the device `d` and the IO buffer `io`.
 unfoldable pub writeActs : List ℕ → Device → List ℕ → List ℕ → Acting
-writeActs body d io lent = written lent (writeCall d io body)
+writeActs body d io lent = actingOfWrite lent (writeDataCall d io body)
 
 -- `try_write_data_all` of the bytes `body`, on the device `d` and the IO buffer `io`.
 unfoldable pub writeAllActs : List ℕ → Device → List ℕ → List ℕ → Acting
-writeAllActs body d io lent = written lent (writeAllCall d io body)
+writeAllActs body d io lent = actingOfWrite lent (writeDataAllCall d io body)
 
 -- ---- 5 `read_data`: "read"
 
 -- What a read leaves and tells where the call by value gives `o`. Its destination was the first `n` of the lent bytes `lent`; those after
 -- them stay, and so does the IO buffer `io`. The line shows the bytes read.
-unfoldable pub readInto : List ℕ → List ℕ → ℕ → Moving → Acting
-readInto io lent n o = record { device = o .device; answer = o .answer; count = o .count; stalls = Kept; shown = o .count; io = io; lent = o .bytes ++ drop n lent }
+unfoldable pub actingOfRead : List ℕ → List ℕ → ℕ → Moving → Acting
+actingOfRead io lent n o = record { device = o .device; answer = o .answer; count = o .count; stalls = Kept; shown = o .count; io = io; lent = o .bytes ++ drop n lent }
 
 -- The read with the body `body`, on the device `d` and the IO buffer `io`. Its destination is the front of the lent bytes `lent`, as long
 -- as the room in `body` says.
 unfoldable pub readActs : List ℕ → Device → List ℕ → List ℕ → Acting
-readActs body d io lent = readInto io lent (get room body) (readCall d io (take (get room body) lent))
+readActs body d io lent = actingOfRead io lent (get roomField body) (readDataCall d io (take (get roomField body) lent))
 
 -- ---- 6 reset, 7 control: "control answer"
 
@@ -104,12 +104,12 @@ inFront bytes lent = front (length bytes) (overlay lent 0 bytes)
 
 -- What a reset or a control request leaves and tells where the call by value gives `o`: the IO buffer `io` stays, and the line shows the
 -- byte that answers a control request, if there is one.
-unfoldable pub handled : List ℕ → List ℕ → Handling → Acting
-handled io lent o = record { device = o .device; answer = o .answer; count = 0; stalls = o .stalls; shown = inFront (o .bytes) lent .shown; io = io; lent = inFront (o .bytes) lent .lent }
+unfoldable pub actingOfBus : List ℕ → List ℕ → Handling → Acting
+actingOfBus io lent o = record { device = o .device; answer = o .answer; count = 0; stalls = o .stalls; shown = inFront (o .bytes) lent .shown; io = io; lent = inFront (o .bytes) lent .lent }
 
 -- A reset, on the device `d` and the IO buffer `io`.
 unfoldable pub resetActs : Device → List ℕ → List ℕ → Acting
-resetActs d io lent = handled io lent (resetCall d io)
+resetActs d io lent = actingOfBus io lent (resetCall d io)
 
 -- The control request in the body `body`.
 unfoldable pub requestOf : List ℕ → Request
@@ -117,7 +117,7 @@ requestOf body = record { requesttype = get requestType body; request = get requ
 
 -- The control request with the body `body`, on the device `d` and the IO buffer `io`.
 unfoldable pub controlActs : List ℕ → Device → List ℕ → List ℕ → Acting
-controlActs body d io lent = handled io lent (controlCall d io (requestOf body))
+controlActs body d io lent = actingOfBus io lent (controlCall d io (requestOf body))
 
 -- ---- 8 command step: "LUN then block"; "nothing offered gives 0 and `-`, an empty block 13 and `-`"
 
@@ -129,12 +129,12 @@ commandInFront w [] lent = front 0 lent
 commandInFront w (o ∷ os) lent = front (1 + w .blocklength) (overlay lent 0 (o .lun ∷ w .block))
 
 -- What a command step leaves and tells where the call by value gives `o`: the device `d` and the IO buffer `io` stay.
-unfoldable pub stepped : Device → List ℕ → List ℕ → Stepping → Acting
-stepped d io lent o = record { device = d; answer = o .answer; count = 0; stalls = Kept; shown = commandInFront (d .wrapper) (o .offers) lent .shown; io = io; lent = commandInFront (d .wrapper) (o .offers) lent .lent }
+unfoldable pub actingOfStep : Device → List ℕ → List ℕ → Stepping → Acting
+actingOfStep d io lent o = record { device = d; answer = o .answer; count = 0; stalls = Kept; shown = commandInFront (d .wrapper) (o .offers) lent .shown; io = io; lent = commandInFront (d .wrapper) (o .offers) lent .lent }
 
 -- A command step, on the device `d` and the IO buffer `io`.
 unfoldable pub commandActs : Device → List ℕ → List ℕ → Acting
-commandActs d io lent = stepped d io lent (stepCall d io)
+commandActs d io lent = actingOfStep d io lent (commandStepCall d io)
 
 -- ---- the event
 

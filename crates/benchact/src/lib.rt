@@ -19,9 +19,9 @@ ghost use mathlib.Core.Bool.{true};
 ghost use Prim.Native.Nat.{_≤_};
 ghost use lib.ListN.{length};
 ghost use Rattle.calls.specs.Bus.{replied};
-ghost use Rattle.calls.specs.Command.{offers};
-ghost use Rattle.benchfile.specs.Event.{isPoll, suits};
-ghost use Rattle.benchact.specs.Act.{front, turnOf, pollActs, statusOf, readActs, inFront, resetActs, requestOf, controlActs, commandInFront, commandActs, actBy};
+ghost use Rattle.calls.specs.Command.{offeredOf};
+ghost use Rattle.benchfile.specs.Event.{isPollBody, suits};
+ghost use Rattle.benchact.specs.Act.{front, turnOf, pollActs, firmwareStatusOf, readActs, inFront, resetActs, requestOf, controlActs, commandInFront, commandActs, actBy};
 ghost use Rattle.benchact.specs.Inner.Act.{actingOf, polledBy, statedBy, movedBy, handledBy};
 
 // What a call left and told: the record, the answer, the count of the line, what was asked of the endpoints, and how many of the lent
@@ -67,7 +67,7 @@ fn polled(r: bbb::Polled) -> Acted
 
 // Makes the poll. In its body the second packet stands right after the first.
 fn poll(device: Device, io: &mut [u8], lent: &mut [u8], body: &[u8]) -> Acted
-    requires { ⌜ isPoll (now body) ≡ true ⌝ }
+    requires { ⌜ isPollBody (now body) ≡ true ⌝ }
     ensures { λ r. ⌜ actingOf r (now (io .exit)) (now (lent .exit)) ≡ pollActs (now (body .entry)) device (now (io .entry)) (now (lent .entry)) ⌝ }
 {
     let turn = turn_of(body);
@@ -80,7 +80,7 @@ fn poll(device: Device, io: &mut [u8], lent: &mut [u8], body: &[u8]) -> Acted
 // The status byte and the figure in a status's body.
 fn status_of(body: &[u8]) -> FirmwareStatus
     requires { ⌜ length (now body) ≡ 5 ⌝ }
-    ensures { λ r. ⌜ r ≡ statusOf (now (body .entry)) ⌝ }
+    ensures { λ r. ⌜ r ≡ firmwareStatusOf (now (body .entry)) ⌝ }
 {
     FirmwareStatus {
         status: byte(body, 0),
@@ -206,7 +206,7 @@ fn control(device: Device, io: &[u8], lent: &mut [u8], body: &[u8]) -> Acted
 // shows the LUN and as many of them as the block length says.
 fn put_command(offer: Offer, w: Wrapper, lent: &mut [u8]) -> usize
     requires { ⌜ 17 ≤ length (now lent) ⌝ }
-    ensures { λ r. ⌜ front r (now (lent .exit)) ≡ commandInFront w (offers offer) (now (lent .entry)) ⌝ }
+    ensures { λ r. ⌜ front r (now (lent .exit)) ≡ commandInFront w (offeredOf offer) (now (lent .entry)) ⌝ }
 {
     match offer {
         Offer::Nothing => 0,

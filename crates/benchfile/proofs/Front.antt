@@ -1,4 +1,4 @@
--- What stands at the front of some bytes: what each way through `event::front` and `event::event_at` owes (`fronts`), and how `headOf`
+-- What stands at the front of some bytes: what each way through `event::front` and `event::event_at` owes (`fronts`), and how `eventHeadOf`
 -- and `isEvent` belong together. Assumes nothing.
 use mathlib.Core.Path.{_≡_, refl, sym, ap, _∙_}
 use mathlib.Core.Bool.{Bool, true, false, not, cond, _&&_}
@@ -15,7 +15,7 @@ use Rattle.fields.proofs.Bools.{and-left, and-right, not-true, not-false}
 use Rattle.fields.proofs.Field.{get-append, get-front}
 use Rattle.fields.proofs.Seq.{drop-front}
 use Rattle.benchfile.specs.declared.event.Head.{Head}
-use Rattle.benchfile.specs.Event.{kindByte, lengthField, bodyOf, isLong, suits, mayStand, isEvent, frontOf, nothing, headOf, eventAt}
+use Rattle.benchfile.specs.Event.{kindByte, lengthField, bodyOf, isLong, suits, mayStand, isEvent, frontOf, noEvent, eventHeadOf, eventAt}
 
 -- ---- an event
 
@@ -36,29 +36,29 @@ module _ (first : Bool) (e : List ℕ) (h : isEvent first e ≡ true) where
   front-event ys =
       rw (get-append lengthField e ys (omega (arith, event-long))) (take-at e ys (3 + get lengthField e) event-long)
 
-  pub head-event : (ys : List ℕ) → headOf first (e ++ ys) ≡ record { whole = true; kind = get kindByte e; length = get lengthField e }
-  unfolding headOf
+  pub head-event : (ys : List ℕ) → eventHeadOf first (e ++ ys) ≡ record { whole = true; kind = get kindByte e; length = get lengthField e }
+  unfolding eventHeadOf
   head-event ys =
       rw (front-event ys, h, get-append kindByte e ys (omega (arith, event-long)), get-append lengthField e ys (omega (arith, event-long)))
 
 -- ---- the front of any bytes
 
 module _ (first : Bool) (xs : List ℕ) where
-  no-event : isEvent first (frontOf xs) ≡ false → {r : Head} → r ≡ nothing → r ≡ headOf first xs
-  unfolding headOf
+  no-event : isEvent first (frontOf xs) ≡ false → {r : Head} → r ≡ noEvent → r ≡ eventHeadOf first xs
+  unfolding eventHeadOf
   no-event e hr = rw (e, hr)
 
   pub within : length (frontOf xs) ≤ length xs
   unfolding frontOf
   within = rw (length-take (3 + get lengthField xs) xs) (min-le-right (3 + get lengthField xs) (length xs))
 
-  pub front-short : length xs < 3 → {r : Head} → r ≡ nothing → r ≡ headOf first xs
+  pub front-short : length xs < 3 → {r : Head} → r ≡ noEvent → r ≡ eventHeadOf first xs
   unfolding isEvent
   front-short h =
       no-event (rw (ne-eqb (length (frontOf xs)) (3 + get lengthField (frontOf xs)) (λ q. absurd (omega (arith, q, within)))))
 
   module _ (h : 3 ≤ length xs) {n : ℕ} (hn : n ≡ get lengthField xs) where
-    pub front-cut : length xs - 3 < n → {r : Head} → r ≡ nothing → r ≡ headOf first xs
+    pub front-cut : length xs - 3 < n → {r : Head} → r ≡ noEvent → r ≡ eventHeadOf first xs
     unfolding isEvent frontOf
     front-cut k =
         no-event (rw (take-all (3 + get lengthField xs) xs (omega (arith, hn)), ne-eqb (length xs) (3 + get lengthField xs) (λ q. absurd (omega (arith, q, hn)))))
@@ -72,42 +72,42 @@ module _ (first : Bool) (xs : List ℕ) where
           rw (← hn, length-take-le (3 + n) xs whole, get-front lengthField (3 + n) xs (omega arith) whole, ← hn, eq-eqb (3 + n) (3 + n) refl, get-front kindByte (3 + n) xs (omega arith) whole, ← hk, drop-front 3 n xs h, rest)
 
       module _ {b : Bool} (hb : b ≡ mayStand first kind) where
-        pub front-misplaced : not b ≡ true → {r : Head} → r ≡ nothing → r ≡ headOf first xs
+        pub front-misplaced : not b ≡ true → {r : Head} → r ≡ noEvent → r ≡ eventHeadOf first xs
         front-misplaced q = no-event (front-there ∙ rw (← hb, not-true b q))
 
         module _ (q : not b ≡ false) {s : Bool} (hs : s ≡ suits kind (take (3 + n - 3) (drop 3 xs))) where
-          pub front-unsuited : s ≡ false → {r : Head} → r ≡ nothing → r ≡ headOf first xs
+          pub front-unsuited : s ≡ false → {r : Head} → r ≡ noEvent → r ≡ eventHeadOf first xs
           front-unsuited e = no-event (front-there ∙ rw (← hb, not-false b q, ← hs, e))
 
-          pub front-suited : s ≡ true → record { whole = true; kind = kind; length = n } ≡ headOf first xs
-          unfolding headOf
+          pub front-suited : s ≡ true → record { whole = true; kind = kind; length = n } ≡ eventHeadOf first xs
+          unfolding eventHeadOf
           front-suited e = rw (front-there, ← hb, not-false b q, ← hs, e, hk, hn)
 
 module _ (xs : List ℕ) (at : ℕ) where
   -- After the end nothing stands.
-  pub front-behind : length xs < at → {r : Head} → r ≡ nothing → r ≡ eventAt xs at
+  pub front-behind : length xs < at → {r : Head} → r ≡ noEvent → r ≡ eventAt xs at
   unfolding eventAt
   front-behind h = front-short (eqb at 0) (drop at xs) (rw (drop-of-length-le xs {i = at} (omega arith)) (lit< tt))
 
-  pub front-at : {r : Head} → r ≡ headOf (eqb at 0) (take (length xs - at) (drop at xs)) → r ≡ eventAt xs at
+  pub front-at : {r : Head} → r ≡ eventHeadOf (eqb at 0) (take (length xs - at) (drop at xs)) → r ≡ eventAt xs at
   unfolding eventAt
-  front-at e = e ∙ ap (headOf (eqb at 0)) (take-all (length xs - at) (drop at xs) (rw (length-drop at xs) (le-refl (length xs - at))))
+  front-at e = e ∙ ap (eventHeadOf (eqb at 0)) (take-all (length xs - at) (drop at xs) (rw (length-drop at xs) (le-refl (length xs - at))))
 
 pub ruleset fronts = (front-short, front-cut, front-misplaced, front-unsuited, front-suited, front-behind, front-at)
 
 -- ---- the other way: where a head is whole, the bytes begin with an event
 
-module _ (first : Bool) (xs : List ℕ) (w : headOf first xs .whole ≡ true) where
+module _ (first : Bool) (xs : List ℕ) (w : eventHeadOf first xs .whole ≡ true) where
   pub whole-event : isEvent first (frontOf xs) ≡ true
-  unfolding headOf
+  unfolding eventHeadOf
   whole-event = of-test (isEvent first (frontOf xs)) w
     where
-      of-test : (b : Bool) → cond b (record { whole = true; kind = get kindByte xs; length = get lengthField xs }) nothing .whole ≡ true → b ≡ true
+      of-test : (b : Bool) → cond b (record { whole = true; kind = get kindByte xs; length = get lengthField xs }) noEvent .whole ≡ true → b ≡ true
       of-test true e = refl
       of-test false e = e
 
-  pub whole-numbers : headOf first xs ≡ record { whole = true; kind = get kindByte xs; length = get lengthField xs }
-  unfolding headOf
+  pub whole-numbers : eventHeadOf first xs ≡ record { whole = true; kind = get kindByte xs; length = get lengthField xs }
+  unfolding eventHeadOf
   whole-numbers = rw whole-event
 
   -- The event is not cut off.
@@ -126,7 +126,7 @@ module _ (first : Bool) (xs : List ℕ) (w : headOf first xs .whole ≡ true) wh
 -- ---- for callers: what stands at an offset, if it is an event
 
 module _ (xs : List ℕ) (at : ℕ) (w : eventAt xs at .whole ≡ true) where
-  there : headOf (eqb at 0) (drop at xs) .whole ≡ true
+  there : eventHeadOf (eqb at 0) (drop at xs) .whole ≡ true
   unfolding eventAt
   there = w
 

@@ -7,7 +7,7 @@ use lib.Dec.{eqb, leb}
 use lib.ListN.{length}
 use borrow.Author.Tests.{eq-eqb, ne-eqb, le-leb, lt-leb}
 use Rattle.fields.specs.Field.{oneByte, get}
-use Rattle.benchfile.specs.Event.{agrees, isPoll, isStatus, isLong, suits, mayStand}
+use Rattle.benchfile.specs.Event.{agrees, isPollBody, isStatusBody, isLong, suits, mayStand}
 
 module _ (answer len : ℕ) where
   pub agrees-served : answer ≡ 0 → true ≡ agrees answer len
@@ -19,30 +19,30 @@ module _ (answer len : ℕ) where
   agrees-else n = rw (ne-eqb _ _ n)
 
 module _ (body : List ℕ) where
-  pub poll-short : length body < 5 → false ≡ isPoll body
-  unfolding isPoll
+  pub poll-short : length body < 5 → false ≡ isPollBody body
+  unfolding isPollBody
   poll-short h = rw (lt-leb _ _ h)
 
   module _ (h : 5 ≤ length body) {one two : ℕ} (h1 : one ≡ get (oneByte 3) body) (h2 : two ≡ get (oneByte 4) body) where
-    pub poll-uneven : (length body ≡ 5 + one + two → ⊥) → false ≡ isPoll body
-    unfolding isPoll
+    pub poll-uneven : (length body ≡ 5 + one + two → ⊥) → false ≡ isPollBody body
+    unfolding isPollBody
     poll-uneven n = rw (← h1, ← h2, le-leb _ _ h, ne-eqb _ _ n)
 
     module _ (e : length body ≡ 5 + one + two) {a : ℕ} (ha : a ≡ get (oneByte 1) body) {x : Bool} (hx : x ≡ agrees a one) where
-      pub poll-disagrees : x ≡ false → false ≡ isPoll body
-      unfolding isPoll
+      pub poll-disagrees : x ≡ false → false ≡ isPollBody body
+      unfolding isPollBody
       poll-disagrees q = rw (← h1, ← h2, ← ha, le-leb _ _ h, eq-eqb _ _ e, ← hx, q)
 
-      pub poll-agrees : x ≡ true → {b : ℕ} → b ≡ get (oneByte 2) body → {y : Bool} → y ≡ agrees b two → y ≡ isPoll body
-      unfolding isPoll
+      pub poll-agrees : x ≡ true → {b : ℕ} → b ≡ get (oneByte 2) body → {y : Bool} → y ≡ agrees b two → y ≡ isPollBody body
+      unfolding isPollBody
       poll-agrees q hb hy = rw (← h1, ← h2, ← ha, ← hb, le-leb _ _ h, eq-eqb _ _ e, ← hx, q, hy)
 
-  pub status-uneven : (length body ≡ 5 → ⊥) → false ≡ isStatus body
-  unfolding isStatus
+  pub status-uneven : (length body ≡ 5 → ⊥) → false ≡ isStatusBody body
+  unfolding isStatusBody
   status-uneven n = rw (ne-eqb _ _ n)
 
-  pub status-even : length body ≡ 5 → {b : ℕ} → b ≡ get (oneByte 0) body → leb b 2 ≡ isStatus body
-  unfolding isStatus
+  pub status-even : length body ≡ 5 → {b : ℕ} → b ≡ get (oneByte 0) body → leb b 2 ≡ isStatusBody body
+  unfolding isStatusBody
   status-even e hb = rw (eq-eqb _ _ e, hb)
 
 module _ (kind n : ℕ) where
@@ -85,12 +85,12 @@ module _ (kind n : ℕ) where
               long-else n8 = rw (ne-eqb _ _ n0, ne-eqb _ _ n3, ne-eqb _ _ n4, ne-eqb _ _ n5, ne-eqb _ _ n6, ne-eqb _ _ n7, ne-eqb _ _ n8)
 
 module _ (kind : ℕ) (body : List ℕ) where
-  pub suits-poll : kind ≡ 1 → {b : Bool} → b ≡ isPoll body → b ≡ suits kind body
+  pub suits-poll : kind ≡ 1 → {b : Bool} → b ≡ isPollBody body → b ≡ suits kind body
   unfolding suits
   suits-poll e h = rw (eq-eqb _ _ e) h
 
   module _ (n1 : kind ≡ 1 → ⊥) where
-    pub suits-status : kind ≡ 2 → {b : Bool} → b ≡ isStatus body → b ≡ suits kind body
+    pub suits-status : kind ≡ 2 → {b : Bool} → b ≡ isStatusBody body → b ≡ suits kind body
     unfolding suits
     suits-status e h = rw (ne-eqb _ _ n1, eq-eqb _ _ e) h
 

@@ -11,7 +11,7 @@ use borrow.Author.Tests.{ne-eqb}
 use Rattle.fields.specs.Field.{get}
 use Rattle.fields.proofs.Bools.{not-true, not-false, clash}
 use Rattle.benchfile.specs.declared.event.Head.{Head}
-use Rattle.benchfile.specs.Event.{lengthField, frontOf, headOf, eventAt}
+use Rattle.benchfile.specs.Event.{lengthField, frontOf, eventHeadOf, eventAt}
 use Rattle.benchfile.specs.File.{joined, areEvents, lastOffset}
 use Rattle.benchfile.specs.Inner.Walk.{Fills, Tallies}
 use Rattle.benchfile.proofs.Front.{front-event, head-event, whole-event, whole-numbers, whole-long, whole-within}
@@ -64,7 +64,7 @@ module _ (xs : List ℕ) (at : ℕ) {count last : ℕ} (w : Walked xs at count l
   module _ (h : at < length xs) {head : Head} (e : head ≡ eventAt xs at) where
     -- The event at the offset is one more.
     module _ (q : not (head .whole) ≡ false) where
-      there : headOf (eqb at 0) (drop at xs) .whole ≡ true
+      there : eventHeadOf (eqb at 0) (drop at xs) .whole ≡ true
       unfolding eventAt
       there = sym (ap (λ (x : Head). x .whole) e) ∙ not-false (head .whole) q
 
@@ -134,7 +134,7 @@ module _ (xs : List ℕ) (at : ℕ) {count last : ℕ} (w : Walked xs at count l
           let s = standing h all f in
           let bytes : drop at xs ≡ s .event ++ joined (s .others) = b .bytes ∙ ap joined (s .split) in
           let there : head .whole ≡ true =
-          ap (λ (x : Head). x .whole) (e ∙ ap (headOf (eqb at 0)) bytes ∙ head-event (eqb at 0) (s .event) (s .is) (joined (s .others)))
+          ap (λ (x : Head). x .whole) (e ∙ ap (eventHeadOf (eqb at 0)) bytes ∙ head-event (eqb at 0) (s .event) (s .is) (joined (s .others)))
           in
           absurd (clash (sym there ∙ not-true (head .whole) q));
     }

@@ -6,7 +6,7 @@ use Prim.Native.Nat.{ℕ}
 use lib.ListN.{replicate}
 use Rattle.fields.specs.Field.{get}
 use Rattle.fields.specs.Case.{Case, case}
-use Rattle.benchfile.specs.Event.{isPoll, isStatus, suits, isEvent, headOf, eventAt, nothing}
+use Rattle.benchfile.specs.Event.{isPollBody, isStatusBody, suits, isEvent, eventHeadOf, eventAt, noEvent}
 use Rattle.benchfile.specs.File.{joined, areEvents, lastOffset, countField, lastField}
 
 -- ---- the events of 01's listing
@@ -47,15 +47,15 @@ table =
     ∷ case (isEvent false create) false
     ∷ case (isEvent true status) false
     -- The first length says more than is there, and the second does not.
-    ∷ case (headOf false (0x03 ∷ 0x02 ∷ 0x00 ∷ 0x55 ∷ [])) nothing
-    ∷ case (headOf false (0x03 ∷ 0x01 ∷ 0x00 ∷ 0x55 ∷ [])) (record { whole = true; kind = 3; length = 1 })
+    ∷ case (eventHeadOf false (0x03 ∷ 0x02 ∷ 0x00 ∷ 0x55 ∷ [])) noEvent
+    ∷ case (eventHeadOf false (0x03 ∷ 0x01 ∷ 0x00 ∷ 0x55 ∷ [])) (record { whole = true; kind = 3; length = 1 })
     -- "a length is 0 unless its answer is 0"
-    ∷ case (isPoll (0x00 ∷ 0x01 ∷ 0x01 ∷ 0x01 ∷ 0x00 ∷ 0x55 ∷ [])) false
-    ∷ case (isPoll (0x00 ∷ 0x00 ∷ 0x01 ∷ 0x01 ∷ 0x00 ∷ 0x55 ∷ [])) true
-    ∷ case (isPoll (0x00 ∷ 0x01 ∷ 0x02 ∷ 0x00 ∷ 0x01 ∷ 0x55 ∷ [])) false
+    ∷ case (isPollBody (0x00 ∷ 0x01 ∷ 0x01 ∷ 0x01 ∷ 0x00 ∷ 0x55 ∷ [])) false
+    ∷ case (isPollBody (0x00 ∷ 0x00 ∷ 0x01 ∷ 0x01 ∷ 0x00 ∷ 0x55 ∷ [])) true
+    ∷ case (isPollBody (0x00 ∷ 0x01 ∷ 0x02 ∷ 0x00 ∷ 0x01 ∷ 0x55 ∷ [])) false
     -- "status (byte 0 to 2, ..)"
-    ∷ case (isStatus (0x03 ∷ 0x00 ∷ 0x00 ∷ 0x00 ∷ 0x00 ∷ [])) false
-    ∷ case (isStatus (0x04 ∷ 0x00 ∷ 0x00 ∷ 0x00 ∷ 0x00 ∷ [])) false
+    ∷ case (isStatusBody (0x03 ∷ 0x00 ∷ 0x00 ∷ 0x00 ∷ 0x00 ∷ [])) false
+    ∷ case (isStatusBody (0x04 ∷ 0x00 ∷ 0x00 ∷ 0x00 ∷ 0x00 ∷ [])) false
     -- "event count, offset of the last event (0 if none), 4 bytes each"
     ∷ case (get countField (0x01 ∷ 0x02 ∷ 0x03 ∷ 0x04 ∷ 0x05 ∷ 0x06 ∷ 0x07 ∷ 0x08 ∷ [])) 0x04030201
     ∷ case (get lastField (0x01 ∷ 0x02 ∷ 0x03 ∷ 0x04 ∷ 0x05 ∷ 0x06 ∷ 0x07 ∷ 0x08 ∷ [])) 0x08070605

@@ -63,8 +63,8 @@ abbrev pub figure : Field
 figure = littleEndian 1 4
 
 -- "5 `read_data` (room 2)": this is the field of a read.
-abbrev pub room : Field
-room = littleEndian 0 2
+abbrev pub roomField : Field
+roomField = littleEndian 0 2
 
 -- "7 control (bmRequestType, request)": these are the fields of a control request.
 abbrev pub requestType : Field
@@ -81,15 +81,15 @@ agrees answer len = eqb answer 0 || eqb len 0
 
 -- Whether `body` may be the body of a poll: it has its five bytes and as many more as both packet lengths say, and each length agrees
 -- with its answer.
-unfoldable pub isPoll : List ℕ → Bool
-isPoll body =
+unfoldable pub isPollBody : List ℕ → Bool
+isPollBody body =
     leb 5 (length body)
     && (eqb (length body) (5 + get firstLength body + get secondLength body)
     && (agrees (get firstAnswer body) (get firstLength body) && agrees (get secondAnswer body) (get secondLength body)))
 
 -- Whether `body` may be the body of a status: it has five bytes, and the status byte is at most 2.
-unfoldable pub isStatus : List ℕ → Bool
-isStatus body = eqb (length body) 5 && leb (get statusByte body) 2
+unfoldable pub isStatusBody : List ℕ → Bool
+isStatusBody body = eqb (length body) 5 && leb (get statusByte body) 2
 
 -- Whether `n` is a length that the kind `kind` may have, for the kinds that go by their length alone. "3 `write_data`; 4
 -- `try_write_data_all`" take any source; "6 reset"; "8 command step, n = 0".
@@ -106,7 +106,7 @@ isLong kind n =
 
 -- Whether an event of the kind `kind` may have the body `body`. There are no other kinds than 0 to 8.
 unfoldable pub suits : ℕ → List ℕ → Bool
-suits kind body = cond (eqb kind 1) (isPoll body) (cond (eqb kind 2) (isStatus body) (isLong kind (length body)))
+suits kind body = cond (eqb kind 1) (isPollBody body) (cond (eqb kind 2) (isStatusBody body) (isLong kind (length body)))
 
 -- "0 create .., first and only first": whether an event of the kind `kind` may stand first in a file (`first` is true) or later (it is
 -- false).
@@ -126,14 +126,14 @@ unfoldable pub frontOf : List ℕ → List ℕ
 frontOf xs = take (3 + get lengthField xs) xs
 
 -- What is said where no event stands.
-abbrev pub nothing : Head
-nothing = record { whole = false; kind = 0; length = 0 }
+abbrev pub noEvent : Head
+noEvent = record { whole = false; kind = 0; length = 0 }
 
--- What stands at the front of `xs`: the kind and the length of an event, or `nothing`. `first` says whether it would be the first one of
+-- What stands at the front of `xs`: the kind and the length of an event, or `noEvent`. `first` says whether it would be the first one of
 -- its file.
-unfoldable pub headOf : Bool → List ℕ → Head
-headOf first xs = cond (isEvent first (frontOf xs)) (record { whole = true; kind = get kindByte xs; length = get lengthField xs }) nothing
+unfoldable pub eventHeadOf : Bool → List ℕ → Head
+eventHeadOf first xs = cond (isEvent first (frontOf xs)) (record { whole = true; kind = get kindByte xs; length = get lengthField xs }) noEvent
 
 -- What stands at the offset `at` of the events `xs`. An event at the offset 0 is the first one of its file.
 unfoldable pub eventAt : List ℕ → ℕ → Head
-eventAt xs at = headOf (eqb at 0) (drop at xs)
+eventAt xs at = eventHeadOf (eqb at 0) (drop at xs)

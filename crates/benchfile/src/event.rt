@@ -2,7 +2,7 @@
 use fields::byte;
 use fields::le16;
 ghost use mathlib.Core.Path.{_≡_};
-ghost use Rattle.benchfile.specs.Event.{agrees, isPoll, isStatus, isLong, suits, mayStand, nothing, headOf, eventAt};
+ghost use Rattle.benchfile.specs.Event.{agrees, isPollBody, isStatusBody, isLong, suits, mayStand, noEvent, eventHeadOf, eventAt};
 
 // What stands at an offset: whether it is a whole event that the rules allow, its kind, and the length of its body. Where no event
 // stands, the numbers are 0.
@@ -14,7 +14,7 @@ pub struct Head {
 
 // This is said where no event stands.
 fn none() -> Head
-    ensures { λ r. ⌜ r ≡ nothing ⌝ }
+    ensures { λ r. ⌜ r ≡ noEvent ⌝ }
 {
     Head {
         whole: false,
@@ -35,7 +35,7 @@ fn agree(answer: u8, length: u8) -> bool
 
 // The body of a poll is three answers, two packet lengths and the packets.
 fn poll_fits(body: &[u8]) -> bool
-    ensures { λ r. ⌜ r ≡ isPoll (now (body .entry)) ⌝ }
+    ensures { λ r. ⌜ r ≡ isPollBody (now (body .entry)) ⌝ }
 {
     if body.len() < 5 {
         return false;
@@ -53,7 +53,7 @@ fn poll_fits(body: &[u8]) -> bool
 
 // The body of a status is a status byte from 0 to 2 and a figure.
 fn status_fits(body: &[u8]) -> bool
-    ensures { λ r. ⌜ r ≡ isStatus (now (body .entry)) ⌝ }
+    ensures { λ r. ⌜ r ≡ isStatusBody (now (body .entry)) ⌝ }
 {
     if body.len() != 5 {
         return false;
@@ -114,7 +114,7 @@ fn may_stand(first: bool, kind: u8) -> bool
 
 // What stands at the front of the bytes `rest`; `first` says whether they begin the file.
 fn front(first: bool, rest: &[u8]) -> Head
-    ensures { λ r. ⌜ r ≡ headOf first (now (rest .entry)) ⌝ }
+    ensures { λ r. ⌜ r ≡ eventHeadOf first (now (rest .entry)) ⌝ }
 {
     if rest.len() < 3 {
         return none();

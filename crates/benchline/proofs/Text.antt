@@ -16,7 +16,7 @@ use Rattle.fields.proofs.Overlay.{length-overlay, take-overlay, drop-overlay, o
 use Rattle.answers.specs.declared.Stalls.{Stalls}
 use Rattle.answers.specs.declared.Stalls.the-variants.{Kept, Stalled, Unstalled, UnstalledStalled}
 use Rattle.benchline.specs.declared.Line.{Line}
-use Rattle.benchline.specs.Line.{space, decimal, number, numbers, stallsText, fields, hex, bytesText, lineOf}
+use Rattle.benchline.specs.Line.{space, decimal, numberText, numbersText, stallsText, fieldsText, hex, bytesText, lineOf}
 use Rattle.benchline.specs.Inner.Line.{numbersLength, roomFor, Puts}
 use Rattle.benchline.proofs.Decimal.{more-digits, few-digits}
 
@@ -60,12 +60,12 @@ store d at v h = then-store v (omega arith) record { ends = omega arith; text = 
 pub length-more : (n : ℕ) → n < 10 ^ 20 → 10 ≤ n → length (decimal n) ≡ length (decimal (n / 10)) + 1
 length-more n h l = ap length (more-digits n h l) ∙ length-append (decimal (n / 10)) ((0x30 + n % 10) ∷ [])
 
-pub length-number : (n : ℕ) → length (number n) ≡ length (decimal n) + 1
-unfolding number
+pub length-number : (n : ℕ) → length (numberText n) ≡ length (decimal n) + 1
+unfolding numberText
 length-number n = length-append (decimal n) (space ∷ [])
 
-pub length-numbers : (l : Line) → length (numbers l) ≡ numbersLength l
-unfolding numbers
+pub length-numbers : (l : Line) → length (numbersText l) ≡ numbersLength l
+unfolding numbersText
 length-numbers l = simp length-append
 
 pub length-hex : (bs : List ℕ) → length (hex bs) ≡ 2 * length bs
@@ -73,15 +73,15 @@ unfolding hex
 length-hex [] = refl
 length-hex (b ∷ bs) = omega (arith, length-hex bs)
 
-pub length-fields : (l : Line) → length (fields l) ≡ length (numbers l) + length (stallsText (l .stalls)) + 1
-unfolding fields
+pub length-fields : (l : Line) → length (fieldsText l) ≡ length (numbersText l) + length (stallsText (l .stalls)) + 1
+unfolding fieldsText
 length-fields l = simp length-append
 
-pub length-line : (l : Line) (bs : List ℕ) → length (lineOf l bs) ≡ length (fields l) + length (bytesText bs) + 1
+pub length-line : (l : Line) (bs : List ℕ) → length (lineOf l bs) ≡ length (fieldsText l) + length (bytesText bs) + 1
 unfolding lineOf
 length-line l bs = simp length-append
 
-short-number : (n : ℕ) → length (number n) ≤ 21
+short-number : (n : ℕ) → length (numberText n) ≤ 21
 short-number n = omega (arith, length-number n, few-digits n)
 
 pub some-stalls : (s : Stalls) → 0 < length (stallsText s)

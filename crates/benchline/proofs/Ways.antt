@@ -10,7 +10,7 @@ use Rattle.fields.proofs.Overlay.{Laid, laid-turn, laid-end}
 use Rattle.answers.specs.declared.Stalls.{Stalls}
 use Rattle.answers.specs.declared.Stalls.the-variants.{Kept, Stalled, Unstalled, UnstalledStalled}
 use Rattle.benchline.specs.declared.Line.{Line}
-use Rattle.benchline.specs.Line.{digit, decimal, number, numbers, stallsText, fields, hex, bytesText, lineOf}
+use Rattle.benchline.specs.Line.{digit, decimal, numberText, numbersText, stallsText, fieldsText, hex, bytesText, lineOf}
 use Rattle.benchline.specs.Inner.Line.{numbersLength, roomFor, Puts}
 use Rattle.benchline.proofs.Decimal.{one-digit, more-digits, some-digit}
 use Rattle.benchline.proofs.Text.{then-put, fits-behind, then-store, store, length-more, length-number, length-numbers, length-fields, length-hex, length-line, some-stalls, line-fits}
@@ -37,22 +37,22 @@ module _ (d : List ℕ) (at n : ℕ) (h : at + length (decimal n) ≤ length d) 
   pub decimal-goes-on : {m : List ℕ} {e : ℕ} → n < 2 ^ 64 → 10 ≤ n → Puts at (decimal (n / 10)) d m e → Puts at (decimal n) d (set m e (48 + n % 10)) (e + 1)
   decimal-goes-on f l p = rw (more-digits n (below n f) l) (then-store (48 + n % 10) (omega (arith, length-more n (below n f) l)) p)
 
-module _ (d : List ℕ) (at n : ℕ) (h : at + length (number n) ≤ length d) where
+module _ (d : List ℕ) (at n : ℕ) (h : at + length (numberText n) ≤ length d) where
   pub number-fits : at + length (decimal n) ≤ length d
   number-fits = omega (arith, length-number n)
 
   pub number-last : {m : List ℕ} {e : ℕ} → Puts at (decimal n) d m e → e < length m
   number-last p = omega (arith, fits-behind 1 p (omega (arith, length-number n)))
 
-  pub number-ends : {m : List ℕ} {e : ℕ} → Puts at (decimal n) d m e → Puts at (number n) d (set m e 0x20) (e + 1)
-  unfolding number
+  pub number-ends : {m : List ℕ} {e : ℕ} → Puts at (decimal n) d m e → Puts at (numberText n) d (set m e 0x20) (e + 1)
+  unfolding numberText
   number-ends p = then-store 0x20 (omega (arith, length-number n)) p
 
 -- Six numbers are put one after the other.
 pub numbers-end : (l : Line) (d : List ℕ) {m₁ m₂ m₃ m₄ m₅ m : List ℕ} {e₁ e₂ e₃ e₄ e₅ e : ℕ}
-    → Puts 0 (number (l .index)) d m₁ e₁ → Puts e₁ (number (l .answer)) m₁ m₂ e₂ → Puts e₂ (number (l .state)) m₂ m₃ e₃
-    → Puts e₃ (number (l .left)) m₃ m₄ e₄ → Puts e₄ (number (l .unread)) m₄ m₅ e₅ → Puts e₅ (number (l .count)) m₅ m e → Puts 0 (numbers l) d m e
-unfolding numbers
+    → Puts 0 (numberText (l .index)) d m₁ e₁ → Puts e₁ (numberText (l .answer)) m₁ m₂ e₂ → Puts e₂ (numberText (l .state)) m₂ m₃ e₃
+    → Puts e₃ (numberText (l .left)) m₃ m₄ e₄ → Puts e₄ (numberText (l .unread)) m₄ m₅ e₅ → Puts e₅ (numberText (l .count)) m₅ m e → Puts 0 (numbersText l) d m e
+unfolding numbersText
 numbers-end l d p q r s t u = then-put zero-le (then-put zero-le (then-put zero-le (then-put zero-le (then-put zero-le p q) r) s) t) u
 
 -- ---- stalls
@@ -149,11 +149,11 @@ module _ (d : List ℕ) (at : ℕ) where
 
 -- ---- the line
 
-module _ (l : Line) (d : List ℕ) (h : length (fields l) ≤ length d) where
+module _ (l : Line) (d : List ℕ) (h : length (fieldsText l) ≤ length d) where
   pub numbers-fit : numbersLength l ≤ length d
   numbers-fit = omega (arith, length-fields l, length-numbers l)
 
-  module _ {m₁ : List ℕ} {e₁ : ℕ} (p : Puts 0 (numbers l) d m₁ e₁) where
+  module _ {m₁ : List ℕ} {e₁ : ℕ} (p : Puts 0 (numbersText l) d m₁ e₁) where
     after-numbers : e₁ + (length (stallsText (l .stalls)) + 1) ≤ length m₁
     after-numbers = fits-behind _ p (omega (arith, length-fields l))
 
@@ -164,15 +164,15 @@ module _ (l : Line) (d : List ℕ) (h : length (fields l) ≤ length d) where
       pub space-fits : e₂ < length m₂
       space-fits = omega (arith, fits-behind _ q after-numbers)
 
-      pub fields-end : Puts 0 (fields l) d (set m₂ e₂ 0x20) (e₂ + 1)
-      unfolding fields
-      fields-end = then-store 0x20 (omega (arith, length-fields l, length-append (numbers l) (stallsText (l .stalls)))) (then-put zero-le p q)
+      pub fields-end : Puts 0 (fieldsText l) d (set m₂ e₂ 0x20) (e₂ + 1)
+      unfolding fieldsText
+      fields-end = then-store 0x20 (omega (arith, length-fields l, length-append (numbersText l) (stallsText (l .stalls)))) (then-put zero-le p q)
 
 module _ (l : Line) (bs d : List ℕ) (h : roomFor (length bs) ≤ length d) where
-  pub fields-fit : length (fields l) ≤ length d
+  pub fields-fit : length (fieldsText l) ≤ length d
   fields-fit = omega (arith, line-fits l bs, length-line l bs)
 
-  module _ {m₁ : List ℕ} {e₁ : ℕ} (p : Puts 0 (fields l) d m₁ e₁) where
+  module _ {m₁ : List ℕ} {e₁ : ℕ} (p : Puts 0 (fieldsText l) d m₁ e₁) where
     after-fields : e₁ + (length (bytesText bs) + 1) ≤ length m₁
     after-fields = fits-behind _ p (omega (arith, line-fits l bs, length-line l bs))
 
@@ -185,6 +185,6 @@ module _ (l : Line) (bs d : List ℕ) (h : roomFor (length bs) ≤ length d) whe
 
       pub line-ends : Puts 0 (lineOf l bs) d (set m₂ e₂ 0x0A) (e₂ + 1)
       unfolding lineOf
-      line-ends = then-store 0x0A (omega (arith, line-fits l bs, length-line l bs, length-append (fields l) (bytesText bs))) (then-put zero-le p q)
+      line-ends = then-store 0x0A (omega (arith, line-fits l bs, length-line l bs, length-append (fieldsText l) (bytesText bs))) (then-put zero-le p q)
 
 pub ruleset ways = (decimal-first, decimal-ends, decimal-fits, decimal-last, decimal-goes-on, number-fits, number-last, number-ends, numbers-end, stalls-kept, stalls-stalled, stalls-unstalled, stalls-both, stalls-first, stalls-second, low-digit, high-digit, hex-turn, hex-ends, bytes-first, bytes-fit, none-shown, bytes-shown, numbers-fit, stalls-fit, space-fits, fields-end, fields-fit, shown-fits, end-fits, line-ends)

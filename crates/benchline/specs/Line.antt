@@ -32,18 +32,18 @@ unfoldable pub decimal : ℕ → List ℕ
 decimal n = decimalUpTo 20 n
 
 -- The number `n` in decimal, and a space after it.
-unfoldable pub number : ℕ → List ℕ
-number n = decimal n ++ (space ∷ [])
+unfoldable pub numberText : ℕ → List ℕ
+numberText n = decimal n ++ (space ∷ [])
 
 -- "decimal: index, answer, state, left, unread, count": the six numbers of the line `l`.
-unfoldable pub numbers : Line → List ℕ
-numbers l =
-    number (l .index)
-    ++ number (l .answer)
-    ++ number (l .state)
-    ++ number (l .left)
-    ++ number (l .unread)
-    ++ number (l .count)
+unfoldable pub numbersText : Line → List ℕ
+numbersText l =
+    numberText (l .index)
+    ++ numberText (l .answer)
+    ++ numberText (l .state)
+    ++ numberText (l .left)
+    ++ numberText (l .unread)
+    ++ numberText (l .count)
 
 -- "stalls (`-`, `S`, `U`, `US`)": the text for what is asked of both endpoints.
 abbrev pub stallsText : Stalls → List ℕ
@@ -63,9 +63,9 @@ bytesText [] = dash ∷ []
 bytesText (b ∷ bs) = hex (b ∷ bs)
 
 -- Everything that the line `l` has before its bytes.
-unfoldable pub fields : Line → List ℕ
-fields l = numbers l ++ stallsText (l .stalls) ++ (space ∷ [])
+unfoldable pub fieldsText : Line → List ℕ
+fieldsText l = numbersText l ++ stallsText (l .stalls) ++ (space ∷ [])
 
 -- The whole text of the line `l` with the bytes `bytes`.
 unfoldable pub lineOf : Line → List ℕ → List ℕ
-lineOf l bytes = fields l ++ bytesText bytes ++ (newline ∷ [])
+lineOf l bytes = fieldsText l ++ bytesText bytes ++ (newline ∷ [])

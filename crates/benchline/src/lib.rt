@@ -4,7 +4,7 @@ use answers::Stalls;
 ghost use mathlib.Core.Path.{_≡_};
 ghost use Prim.Native.Nat.{_+_, _≤_, _<_};
 ghost use lib.ListN.{length};
-ghost use Rattle.benchline.specs.Line.{digit, decimal, number, numbers, stallsText, fields, hex, bytesText, lineOf};
+ghost use Rattle.benchline.specs.Line.{digit, decimal, numberText, numbersText, stallsText, fieldsText, hex, bytesText, lineOf};
 ghost use Rattle.benchline.specs.Inner.Line.{numbersLength, roomFor, Puts};
 
 // Everything that a line tells apart from its bytes.
@@ -34,8 +34,8 @@ fn put_decimal(text: &mut [u8], at: usize, n: u64) -> usize
 
 // Puts `n` in decimal at the index `at`, and a space after it.
 fn put_number(text: &mut [u8], at: usize, n: u64) -> usize
-    requires { ⌜ at + length (number n) ≤ length (now text) ⌝ }
-    ensures { λ r. ⌜ Puts at (number n) (now (text .entry)) (now (text .exit)) r ⌝ }
+    requires { ⌜ at + length (numberText n) ≤ length (now text) ⌝ }
+    ensures { λ r. ⌜ Puts at (numberText n) (now (text .entry)) (now (text .exit)) r ⌝ }
 {
     let end = put_decimal(text, at, n);
     text[end] = b' ';
@@ -45,7 +45,7 @@ fn put_number(text: &mut [u8], at: usize, n: u64) -> usize
 // Puts the numbers of the line `l` at the front.
 fn put_numbers(text: &mut [u8], l: Line) -> usize
     requires { ⌜ numbersLength l ≤ length (now text) ⌝ }
-    ensures { λ r. ⌜ Puts 0 (numbers l) (now (text .entry)) (now (text .exit)) r ⌝ }
+    ensures { λ r. ⌜ Puts 0 (numbersText l) (now (text .entry)) (now (text .exit)) r ⌝ }
 {
     let answer = put_number(text, 0, l.index as u64);
     let state = put_number(text, answer, l.answer as u64);
@@ -83,8 +83,8 @@ fn put_stalls(text: &mut [u8], at: usize, stalls: Stalls) -> usize
 
 // Puts everything that a line has before its bytes at the front.
 fn put_fields(text: &mut [u8], l: Line) -> usize
-    requires { ⌜ length (fields l) ≤ length (now text) ⌝ }
-    ensures { λ r. ⌜ Puts 0 (fields l) (now (text .entry)) (now (text .exit)) r ⌝ }
+    requires { ⌜ length (fieldsText l) ≤ length (now text) ⌝ }
+    ensures { λ r. ⌜ Puts 0 (fieldsText l) (now (text .entry)) (now (text .exit)) r ⌝ }
 {
     let stalls = l.stalls;
     let at = put_numbers(text, l);

@@ -13,14 +13,14 @@ use Rattle.answers.specs.declared.Stalls.{Stalls}
 use Rattle.answers.specs.declared.Stalls.the-variants.{Kept}
 use Rattle.device.specs.declared.Fixed.{Fixed}
 use Rattle.device.specs.declared.Device.{Device}
-use Rattle.device.specs.Create.{isPacketSize, creation, createCall}
+use Rattle.device.specs.Create.{isPacketSize, creationChecks, createCall}
 use Rattle.benchfile.specs.Event.{eventAt}
 use Rattle.benchfile.proofs.Front.{whole-fits}
 use Rattle.benchline.specs.Inner.Line.{roomFor}
 use Rattle.benchline.proofs.Text.{line-fits}
 use Rattle.benchact.specs.Act.{Acting, actBy}
 use Rattle.benchrun.specs.declared.step.Run.{Run}
-use Rattle.benchrun.specs.Run.{fieldsOf, lineText, toldLine, Beginning, begunOf, creationOf, created, beginBy, eventsOf, refusedBy, openBy, Opens, Running, runningOf, wentOn, eventBy, stepBy}
+use Rattle.benchrun.specs.Run.{fieldsOf, lineText, lineOfActing, Beginning, beginningOf, creationOfBody, beginningOfCreation, beginBy, eventsOf, beginningRefused, openBy, OpensFile, Running, runningOf, wentOn, eventBy, stepBy}
 use Rattle.benchrun.specs.Inner.Run.{Roomy}
 
 -- More bytes need no less room.
@@ -33,8 +33,8 @@ unfolding lineText
 line-room index d answer count stalls n bytes =
     le-trans (line-fits (fieldsOf index d answer count stalls) (take n bytes)) (room-less _ _ (rw (length-take n bytes) (min-le-right n (length bytes))))
 
-told-room : (index : ℕ) (a : Acting) → length (toldLine index a) ≤ roomFor (length (a .lent))
-unfolding toldLine
+told-room : (index : ℕ) (a : Acting) → length (lineOfActing index a) ≤ roomFor (length (a .lent))
+unfolding lineOfActing
 told-room index a = line-room index (a .device) (a .answer .number) (a .count) (a .stalls) (a .shown) (a .lent)
 
 -- ---- a later event
@@ -87,10 +87,10 @@ last-test false false true false e = refl
 last-test false false false d e = absurd (omega (arith, e))
 
 size-most : (f : Fixed) → createCall f .device .fixed .size ≤ 65536
-unfolding createCall creation
+unfolding createCall creationChecks
 size-most f =
-    of-picked (λ (d : Device). d .fixed .size ≤ 65536) (eqb (creation f) 0)
-    (λ e. ltb-false 65536 (f .size) (last-test (ltb 15 (f .maxlun)) (ltb (f .size) 31 || ltb (f .size) (f .packetsize)) (isPacketSize (f .packetsize)) (ltb 65536 (f .size)) (eqb-true (creation f) 0 e)))
+    of-picked (λ (d : Device). d .fixed .size ≤ 65536) (eqb (creationChecks f) 0)
+    (λ e. ltb-false 65536 (f .size) (last-test (ltb 15 (f .maxlun)) (ltb (f .size) 31 || ltb (f .size) (f .packetsize)) (isPacketSize (f .packetsize)) (ltb 65536 (f .size)) (eqb-true (creationChecks f) 0 e)))
     (λ e. zero-le)
 
 pub record Begins (o : Beginning) : Type 0 where
@@ -99,7 +99,7 @@ pub record Begins (o : Beginning) : Type 0 where
   pub size : o .run .device .fixed .size ≤ 65536
 
 begins : (events text : List ℕ) → Begins (beginBy events text)
-unfolding beginBy created creationOf
+unfolding beginBy beginningOfCreation creationOfBody
 begins events text =
     of-picked Begins (eventAt events 0 .whole)
     (λ w. record { index = omega arith; line = line-room 0 _ _ 0 Kept 0 []; size = size-most _ })
@@ -107,12 +107,12 @@ begins events text =
 
 -- ---- a file, before anything is written
 
-refuses : (text : List ℕ) → Begins (refusedBy text)
-unfolding refusedBy roomFor
+refuses : (text : List ℕ) → Begins (beginningRefused text)
+unfolding beginningRefused roomFor
 refuses text = record { index = zero-le; line = omega arith; size = zero-le }
 
-module _ (file text : List ℕ) {r : Run} {after : List ℕ} (h : Opens file text (begunOf r after)) where
-  opened : Begins (begunOf r after)
+module _ (file text : List ℕ) {r : Run} {after : List ℕ} (h : OpensFile file text (beginningOf r after)) where
+  opened : Begins (beginningOf r after)
   unfolding openBy
   opened =
       subst Begins (sym (h .opened)) (of-picked Begins (h .verdict) (λ v. begins (eventsOf file) text) (λ v. refuses text))

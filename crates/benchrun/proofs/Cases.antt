@@ -1,9 +1,9 @@
 -- The events of 01's listing print it, byte for byte: antt computes it. Assumes nothing.
 use mathlib.Core.Path.{refl}
 use Rattle.benchfile.specs.Cases.{listing}
-use Rattle.benchrun.specs.Cases.{listed, Printed}
+use Rattle.benchrun.specs.Cases.{listingText, Printed}
 use Rattle.benchrun.proofs.Computing.{computing}
 
 pub listing-printed : Printed
-unfolding listing listed computing
+unfolding listing listingText computing
 listing-printed = refl

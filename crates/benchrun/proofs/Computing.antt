@@ -4,9 +4,9 @@ use Rattle.calls.proofs.Computing as calls
 use Rattle.benchfile.proofs.Computing as benchfile
 use Rattle.benchline.proofs.Computing as benchline
 use Rattle.benchact.proofs.Computing as benchact
-use Rattle.benchrun.specs.Run.{fieldsOf, lineText, toldLine, creationOf}
+use Rattle.benchrun.specs.Run.{fieldsOf, lineText, lineOfActing, creationOfBody}
 use Rattle.benchrun.specs.Output.{laterLines, creationLines, fileLines}
 
 unfoldable pub computing : Unit {0}
-unfolding fieldsOf lineText toldLine creationOf laterLines creationLines fileLines bbb.computing calls.computing benchfile.computing benchline.computing benchact.computing
+unfolding fieldsOf lineText lineOfActing creationOfBody laterLines creationLines fileLines bbb.computing calls.computing benchfile.computing benchline.computing benchact.computing
 computing = tt

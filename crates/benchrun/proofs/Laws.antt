@@ -16,7 +16,7 @@ use Rattle.answers.specs.Answers.{answerOf}
 use Rattle.ring.specs.States.{stateNumber}
 use Rattle.device.specs.declared.Device.{Device}
 use Rattle.device.specs.declared.create.Created.{Created}
-use Rattle.device.specs.Create.{fixed, noDevice, createdOf, createCall}
+use Rattle.device.specs.Create.{fixed, noDevice, creationOf, createCall}
 use Rattle.benchfile.specs.declared.event.Head.{Head}
 use Rattle.benchfile.specs.Event.{packetSize, maxLun, bufferSize, suits, eventAt}
 use Rattle.benchfile.specs.File.{Judges}
@@ -29,7 +29,7 @@ use Rattle.benchact.specs.declared.Acted.{Acted}
 use Rattle.benchact.specs.Act.{actBy}
 use Rattle.benchact.specs.Inner.Act.{actingOf}
 use Rattle.benchrun.specs.declared.step.Run.{Run}
-use Rattle.benchrun.specs.Run.{fieldsOf, lineText, toldLine, begunOf, stoppedAt, creationOf, created, beginBy, eventsOf, refusedBy, openBy, Opens, runningOf, wentOn, eventBy, stepBy}
+use Rattle.benchrun.specs.Run.{fieldsOf, lineText, lineOfActing, beginningOf, stoppedAt, creationOfBody, beginningOfCreation, beginBy, eventsOf, beginningRefused, openBy, OpensFile, runningOf, wentOn, eventBy, stepBy}
 use Rattle.benchrun.specs.Inner.Run.{Roomy}
 
 -- ---- the line
@@ -66,12 +66,12 @@ ended {ys} p = p .ends ∙ zero-add (length ys)
 
 -- ---- the first event
 
-pub creates : (body : List ℕ) {p m s : ℕ} → p ≡ get packetSize body → m ≡ get maxLun body → s ≡ get bufferSize body → (c : Created) → createdOf c ≡ createCall (fixed p m s) → createdOf c ≡ creationOf body
-unfolding creationOf
+pub creates : (body : List ℕ) {p m s : ℕ} → p ≡ get packetSize body → m ≡ get maxLun body → s ≡ get bufferSize body → (c : Created) → creationOf c ≡ createCall (fixed p m s) → creationOf c ≡ creationOfBody body
+unfolding creationOfBody
 creates body hp hm hs c hc = rw (← hp, ← hm, ← hs) hc
 
 module _ (events text : List ℕ) {e : Head} (he : e ≡ eventAt events 0) where
-  pub begins-none : not (e .whole) ≡ true → {d : Device} → d ≡ noDevice → {r : Run} → r ≡ stoppedAt d 0 0 → begunOf r text ≡ beginBy events text
+  pub begins-none : not (e .whole) ≡ true → {d : Device} → d ≡ noDevice → {r : Run} → r ≡ stoppedAt d 0 0 → beginningOf r text ≡ beginBy events text
   unfolding beginBy
   begins-none q hd hr = rw (← he, not-true (e .whole) q, hr, hd)
 
@@ -79,10 +79,10 @@ module _ (events text : List ℕ) {e : Head} (he : e ≡ eventAt events 0) where
     pub begins-fits : 10 ≤ length events
     begins-fits = first-long events (sym (ap (λ (x : Head). x .whole) he) ∙ not-false (e .whole) q)
 
-    pub begins-made : (c : Created) → createdOf c ≡ creationOf (take 7 (drop 3 events)) → {k : ℕ} → k ≡ answerOf (c .answer) .number
+    pub begins-made : (c : Created) → creationOf c ≡ creationOfBody (take 7 (drop 3 events)) → {k : ℕ} → k ≡ answerOf (c .answer) .number
         → {after : List ℕ} {n : ℕ} → Puts 0 (lineText 0 (c .device) (answerOf (c .answer) .number) 0 Kept []) text after n
-        → begunOf (record { device = c .device; at = 10; index = 1; line = n; going = eqb k 0 }) after ≡ beginBy events text
-    unfolding beginBy created
+        → beginningOf (record { device = c .device; at = 10; index = 1; line = n; going = eqb k 0 }) after ≡ beginBy events text
+    unfolding beginBy beginningOfCreation
     begins-made c hc hk t = rw (← he, not-false (e .whole) q, ← hc, hk, ended t, t .text)
 
 -- ---- a file, before anything is written
@@ -102,8 +102,8 @@ module _ (text : List ℕ) (room : roomFor 0 ≤ length text) where
   refuses-third = simp length-set (omega arith)
 
   pub refuses : {d : Device} → d ≡ noDevice
-      → begunOf (record { device = d; at = 0; index = 0; line = 3; going = false }) (set (set (set text 0 0x31) 1 0x34) 2 0x0A) ≡ refusedBy text
-  unfolding refusedBy roomFor
+      → beginningOf (record { device = d; at = 0; index = 0; line = 3; going = false }) (set (set (set text 0 0x31) 1 0x34) 2 0x0A) ≡ beginningRefused text
+  unfolding beginningRefused roomFor
   refuses hd =
       let put = then-store 0x0A (omega arith) (then-store 0x34 (omega arith) (store text 0 0x31 (omega arith))) in
       rw (put .text, hd)
@@ -113,11 +113,11 @@ pub cut-fits : (file : List ℕ) {n : ℕ} → n ≡ length file - 12 → n ≡ 
 cut-fits file {n} e = sym (length-take-le n file (omega (arith, e)))
 
 module _ (file text : List ℕ) {verdict : Bool} (j : Judges verdict file) where
-  pub opens-refused : not verdict ≡ true → {r : Run} {after : List ℕ} → begunOf r after ≡ refusedBy text → Opens file text (begunOf r after)
+  pub opens-refused : not verdict ≡ true → {r : Run} {after : List ℕ} → beginningOf r after ≡ beginningRefused text → OpensFile file text (beginningOf r after)
   unfolding openBy
   opens-refused q h = record { verdict = verdict; judges = j; opened = rw (not-true verdict q) h }
 
-  pub opens-begun : not verdict ≡ false → {n : ℕ} → n ≡ length file - 12 → {r : Run} {after : List ℕ} → begunOf r after ≡ beginBy (take n file) text → Opens file text (begunOf r after)
+  pub opens-begun : not verdict ≡ false → {n : ℕ} → n ≡ length file - 12 → {r : Run} {after : List ℕ} → beginningOf r after ≡ beginBy (take n file) text → OpensFile file text (beginningOf r after)
   unfolding openBy eventsOf
   opens-begun q e h = record { verdict = verdict; judges = j; opened = rw (not-false verdict q, ← e) h }
 
@@ -147,7 +147,7 @@ module _ (run : Run) (events io lent text : List ℕ) {e : Head} (he : e ≡ eve
       → actingOf a io′ lent′ ≡ actBy (e .kind) (take (run .at + 3 + e .length - (run .at + 3)) (drop (run .at + 3) events)) (run .device) io lent
       → {after : List ℕ} {n : ℕ} → Puts 0 (lineText (run .index) (a .device) (answerOf (a .answer) .number) (a .count) (a .stalls) (take (a .shown) lent′)) text after n
       → runningOf (record { device = a .device; at = run .at + 3 + e .length; index = run .index + 1; line = n; going = true }) io′ lent′ after ≡ stepBy run events io lent text
-  unfolding stepBy eventBy wentOn toldLine
+  unfolding stepBy eventBy wentOn lineOfActing
   steps-on q a ha t =
       let n : run .at + 3 + e .length - (run .at + 3) ≡ e .length = omega arith in
       let acted = ha ∙ ap (λ (k : ℕ). actBy (e .kind) (take k (drop (run .at + 3) events)) (run .device) io lent) n in

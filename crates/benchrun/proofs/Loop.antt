@@ -6,9 +6,9 @@ use Prim.Native.Nat.{ℕ, _-_, _≤_, _<_}
 use lib.ListN.{length, take, drop}
 use Rattle.fields.proofs.Bools.{not-true, not-false}
 use Rattle.benchrun.specs.declared.step.Run.{Run}
-use Rattle.benchrun.specs.Run.{begunOf, eventsOf, Opens, Running, runningOf}
+use Rattle.benchrun.specs.Run.{beginningOf, eventsOf, OpensFile, Running, runningOf}
 use Rattle.benchrun.specs.Inner.Run.{Roomy}
-use Rattle.benchrun.specs.Turns.{handed, nextOf, Turns, last, turn, Played, PlayedFile}
+use Rattle.benchrun.specs.Turns.{turnText, nextOf, Turns, last, turn, Played, PlayedFile}
 use Rattle.benchrun.proofs.After.{ahead, after-index, after-less, after-line, after-roomy}
 
 -- The loop that began at `from` has come to `o`: what the turns so far handed over stands before everything that is handed over from here
@@ -49,22 +49,22 @@ module _ (events : List ℕ) (from o : Running) (h : Comes events from o) where
       io = ei ∙ h .io;
       lent = el ∙ h .lent;
       text = et ∙ h .text;
-      before = h .before ++ handed o;
-      onward = λ to rest t. subst (Turns events from to) (sym (append-assoc (h .before) (handed o) rest))
-          (h .onward to (handed o ++ rest) (turn o to (handed o ++ rest) rest (not-false (o .run .going) g) (subst (λ (x : Running). Turns events x to rest) s t) refl));
+      before = h .before ++ turnText o;
+      onward = λ to rest t. subst (Turns events from to) (sym (append-assoc (h .before) (turnText o) rest))
+          (h .onward to (turnText o ++ rest) (turn o to (turnText o ++ rest) rest (not-false (o .run .going) g) (subst (λ (x : Running). Turns events x to rest) s t) refl));
     }
 
   -- The run has ended: this was the last turn.
   pub comes-last : not (o .run .going) ≡ true → Played events from (o .io) (o .lent) (o .text)
   comes-last g = record {
     run = o .run;
-    out = h .before ++ handed o;
-    turns = h .onward o (handed o) (last o o (handed o) (not-true (o .run .going) g) refl refl);
+    out = h .before ++ turnText o;
+    turns = h .onward o (turnText o) (last o o (turnText o) (not-true (o .run .going) g) refl refl);
   }
 
 -- What `play_file` owes follows from what `open`, `events_end` and `play` ensure.
-pub plays-file : (file space lent text : List ℕ) {r : Run} {after : List ℕ} → Opens file text (begunOf r after) → {n : ℕ} → n ≡ length file - 12
+pub plays-file : (file space lent text : List ℕ) {r : Run} {after : List ℕ} → OpensFile file text (beginningOf r after) → {n : ℕ} → n ≡ length file - 12
     → {io lent′ text′ : List ℕ} → Played (take n file) (runningOf r (take (r .device .fixed .size) space) lent after) io lent′ text′
     → PlayedFile file space lent text (io ++ drop (r .device .fixed .size) space) lent′ text′
 unfolding eventsOf
-plays-file file space lent text {r} {after} o e {io} p = record { begun = begunOf r after; opens = o; io = io; played = rw (← e) p; behind = refl }
+plays-file file space lent text {r} {after} o e {io} p = record { begun = beginningOf r after; opens = o; io = io; played = rw (← e) p; behind = refl }

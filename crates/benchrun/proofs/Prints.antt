@@ -28,8 +28,8 @@ use Rattle.benchfile.proofs.Judged.{events-part}
 use Rattle.benchfile.proofs.Yields.{read-there}
 use Rattle.benchact.specs.Act.{Acting, actBy}
 use Rattle.benchrun.specs.declared.step.Run.{Run}
-use Rattle.benchrun.specs.Run.{lineText, toldLine, Beginning, begunOf, stoppedAt, creationOf, created, beginBy, eventsOf, breach, refusedBy, openBy, Running, runningOf, wentOn, eventBy, stepBy}
-use Rattle.benchrun.specs.Turns.{handed, nextOf, Turns, last, turn, startOf, PlayedFile}
+use Rattle.benchrun.specs.Run.{lineText, lineOfActing, Beginning, beginningOf, stoppedAt, creationOfBody, beginningOfCreation, beginBy, eventsOf, breach, beginningRefused, openBy, Running, runningOf, wentOn, eventBy, stepBy}
+use Rattle.benchrun.specs.Turns.{turnText, nextOf, Turns, last, turn, startOf, PlayedFile}
 use Rattle.benchrun.proofs.play.play_file.Kinds as kinds
 use Rattle.benchrun.proofs.play.play_file.Reads as play-file
 use Rattle.benchrun.specs.Output.{laterLines, creationLines, fileLines, Prints}
@@ -56,7 +56,7 @@ unfolding stepBy
 step-none run xs io lent text h = rw (ends-there xs (run .at) h)
 
 -- A run that has ended has this turn only.
-ended : (xs : List ℕ) (o to : Running) (out : List ℕ) → o .run .going ≡ false → Turns xs o to out → out ≡ handed o
+ended : (xs : List ℕ) (o to : Running) (out : List ℕ) → o .run .going ≡ false → Turns xs o to out → out ≡ turnText o
 ended xs o to out q (last _ _ _ g t e) = e
 ended xs o to out q (turn _ _ _ rest g t e) = absurd (clash (sym g ∙ q))
 
@@ -65,20 +65,20 @@ module _ (xs : List ℕ) (o to next : Running) (out : List ℕ) (h : nextOf xs o
   pub record Turned : Type 0 where
     pub rest : List ℕ
     pub turns : Turns xs next to rest
-    pub front : out ≡ handed o ++ rest
+    pub front : out ≡ turnText o ++ rest
 
   turned : o .run .going ≡ true → Turns xs o to out → Turned
   turned q (last _ _ _ g t e) = absurd (clash (sym q ∙ g))
   turned q (turn _ _ _ rest g t e) = record { rest = rest; turns = subst (λ (x : Running). Turns xs x to rest) h t; front = e }
 
 later-printed : (es before : List (List ℕ)) (o to : Running) (out : List ℕ) → areEvents true (before ++ es) ≡ true → o .run .at ≡ length (joined before) → o .run .going ≡ true
-    → Turns (joined (before ++ es)) o to out → out ≡ handed o ++ laterLines (o .run .index) es (o .run .device) (o .io) (o .lent)
+    → Turns (joined (before ++ es)) o to out → out ≡ turnText o ++ laterLines (o .run .index) es (o .run .device) (o .io) (o .lent)
 unfolding laterLines wentOn
 later-printed [] before o to out are at going w =
     let xs = joined (before ++ []) in
     let none = step-none (o .run) xs (o .io) (o .lent) (o .text) (rw (append-nil before, at) (le-refl (length (joined before)))) in
     let t = turned xs o to _ out none going w in
-    t .front ∙ ap (λ (x : List ℕ). handed o ++ x) (ended xs _ to (t .rest) refl (t .turns))
+    t .front ∙ ap (λ (x : List ℕ). turnText o ++ x) (ended xs _ to (t .rest) refl (t .turns))
 later-printed (e ∷ es) before o to out are at going w =
     let xs = joined (before ++ e ∷ es) in
     let read : ReadAt xs (o .run .at) e = rw at (read-there before e es are) in
@@ -86,7 +86,7 @@ later-printed (e ∷ es) before o to out are at going w =
     let next = wentOn (o .run .index) (o .run .at + length e) a (o .text) in
     let t = turned xs o to next out (step-read (o .run) xs (o .io) (o .lent) (o .text) e read) going w in
     let same : (before ++ e ∷ []) ++ es ≡ before ++ e ∷ es = append-assoc before (e ∷ []) es in
-    let behind : t .rest ≡ handed next ++ laterLines (o .run .index + 1) es (a .device) (a .io) (a .lent) =
+    let behind : t .rest ≡ turnText next ++ laterLines (o .run .index + 1) es (a .device) (a .io) (a .lent) =
     later-printed es (before ++ e ∷ []) next to (t .rest)
     (rw same are)
     (rw (joined-snoc before e, length-append (joined before) e, at))
@@ -94,8 +94,8 @@ later-printed (e ∷ es) before o to out are at going w =
     (subst (λ (l : List (List ℕ)). Turns (joined l) next to (t .rest)) (sym same) (t .turns))
     in
     t .front
-    ∙ ap (λ (x : List ℕ). handed o ++ x)
-    (behind ∙ ap (λ (x : List ℕ). x ++ laterLines (o .run .index + 1) es (a .device) (a .io) (a .lent)) (front-put (o .text) (toldLine (o .run .index) a)))
+    ∙ ap (λ (x : List ℕ). turnText o ++ x)
+    (behind ∙ ap (λ (x : List ℕ). x ++ laterLines (o .run .index + 1) es (a .device) (a .io) (a .lent)) (front-put (o .text) (lineOfActing (o .run .index) a)))
 
 -- ---- the first event
 
@@ -103,7 +103,7 @@ body-seven : (e : List ℕ) → isEvent true e ≡ true → length (bodyOf e) �
 unfolding bodyOf
 body-seven e h = length-drop 3 e ∙ omega (arith, creation-long e h)
 
-begin-read : (e : List ℕ) (es : List (List ℕ)) (text : List ℕ) → areEvents true (e ∷ es) ≡ true → beginBy (joined (e ∷ es)) text ≡ created (creationOf (bodyOf e)) text
+begin-read : (e : List ℕ) (es : List (List ℕ)) (text : List ℕ) → areEvents true (e ∷ es) ≡ true → beginBy (joined (e ∷ es)) text ≡ beginningOfCreation (creationOfBody (bodyOf e)) text
 unfolding beginBy joined areEvents
 begin-read e es text are =
     let read : ReadAt (joined (e ∷ es)) 0 e = read-there [] e es are in
@@ -111,25 +111,25 @@ begin-read e es text are =
     rw (read .head, ← read .body, seven)
 
 created-printed : (c : Creation) (e : List ℕ) (es : List (List ℕ)) (space lent text : List ℕ) (to : Running) (out : List ℕ) → areEvents true (e ∷ es) ≡ true
-    → Turns (joined (e ∷ es)) (startOf (created c text) space lent) to out → out ≡ creationLines c es space lent
-unfolding created creationLines joined areEvents
+    → Turns (joined (e ∷ es)) (startOf (beginningOfCreation c text) space lent) to out → out ≡ creationLines c es space lent
+unfolding beginningOfCreation creationLines joined areEvents
 created-printed c e es space lent text to out are w =
     behind (eqb (c .answer .number) 0) refl ∙ ap (λ (x : List ℕ). x ++ rest (eqb (c .answer .number) 0)) (front-put text (lineText 0 (c .device) (c .answer .number) 0 Kept []))
   where
     start : Running
-    start = startOf (created c text) space lent
+    start = startOf (beginningOfCreation c text) space lent
 
     rest : Bool → List ℕ
     rest b = cond b (laterLines 1 es (c .device) (take (c .device .fixed .size) space) lent) []
 
-    behind : (b : Bool) → eqb (c .answer .number) 0 ≡ b → out ≡ handed start ++ rest b
+    behind : (b : Bool) → eqb (c .answer .number) 0 ≡ b → out ≡ turnText start ++ rest b
     behind true q =
         later-printed es (e ∷ []) start to out are (rw (append-nil e) (sym (creation-long e (and-left (isEvent true e) (areEvents false es) are)))) q w
-    behind false q = ended (joined (e ∷ es)) start to out q w ∙ sym (append-nil (handed start))
+    behind false q = ended (joined (e ∷ es)) start to out q w ∙ sym (append-nil (turnText start))
 
 -- ---- a good file
 
-begin-none : (text : List ℕ) → beginBy (joined []) text ≡ begunOf (stoppedAt noDevice 0 0) text
+begin-none : (text : List ℕ) → beginBy (joined []) text ≡ beginningOf (stoppedAt noDevice 0 0) text
 unfolding beginBy joined
 begin-none text = rw (ends-there [] 0 zero-le)
 
@@ -143,7 +143,7 @@ unfolding fileLines
 events-printed [] space lent text to out are w =
     ended (joined []) _ to out refl (from-begin (joined []) space lent to out (begin-none text) w)
 events-printed (e ∷ es) space lent text to out are w =
-    created-printed (creationOf (bodyOf e)) e es space lent text to out are (from-begin (joined (e ∷ es)) space lent to out (begin-read e es text are) w)
+    created-printed (creationOfBody (bodyOf e)) e es space lent text to out are (from-begin (joined (e ∷ es)) space lent to out (begin-read e es text are) w)
 
 -- ---- any file
 
@@ -154,10 +154,10 @@ module _ (file space lent text : List ℕ) (begun : Beginning) (to : Running) (o
       events-printed events space lent text to out (g .are)
       (subst (λ (xs : List ℕ). Turns xs (startOf (beginBy xs text) space lent) to out) (events-part file events g) (from-begin (eventsOf file) space lent to out h w))
 
-  bad-printed : begun ≡ refusedBy text → out ≡ breach
-  unfolding refusedBy
+  bad-printed : begun ≡ beginningRefused text → out ≡ breach
+  unfolding beginningRefused
   bad-printed h =
-      ended (eventsOf file) (startOf (refusedBy text) space lent) to out refl (from-begin (eventsOf file) space lent to out h w) ∙ front-put text breach
+      ended (eventsOf file) (startOf (beginningRefused text) space lent) to out refl (from-begin (eventsOf file) space lent to out h w) ∙ front-put text breach
 
   opened-printed : (verdict : Bool) → Judges verdict file → begun ≡ openBy verdict file text → Prints file space lent out
   unfolding openBy

@@ -10,8 +10,8 @@ use denote.Ref.{now}
 use Rattle.fields.proofs.Bools.{clash}
 use Rattle.fields.proofs.Only.{Only}
 use Rattle.benchfile.proofs.Unique.{judged-once}
-use Rattle.benchrun.specs.Run.{Beginning, eventsOf, openBy, Opens, Running, runningOf}
-use Rattle.benchrun.specs.Turns.{handed, Turns, last, turn, startOf, PlayedFile}
+use Rattle.benchrun.specs.Run.{Beginning, eventsOf, openBy, OpensFile, Running, runningOf}
+use Rattle.benchrun.specs.Turns.{turnText, Turns, last, turn, startOf, PlayedFile}
 use Rattle.benchrun.proofs.open.open.Kinds as open-kinds
 use Rattle.benchrun.proofs.open.open.Reads as opens
 use Rattle.benchrun.proofs.play.play.Kinds as play-kinds
@@ -36,7 +36,7 @@ step-only κs a x y s t p q =
 
 -- ---- a file, before anything is written
 
-opens-once : (file text : List ℕ) (a b : Beginning) → Opens file text a → Opens file text b → a ≡ b
+opens-once : (file text : List ℕ) (a b : Beginning) → OpensFile file text a → OpensFile file text b → a ≡ b
 opens-once file text a b p q =
     p .opened ∙ ap (λ (v : Bool). openBy v file text) (judged-once file (p .verdict) (q .verdict) (p .judges) (q .judges)) ∙ sym (q .opened)
 
@@ -54,7 +54,7 @@ turns-once events from a b x y (last _ _ _ g t e) (turn _ _ _ _ g′ t′ e′) 
 turns-once events from a b x y (turn _ _ _ _ g t e) (last _ _ _ g′ t′ e′) = absurd (clash (sym g ∙ g′))
 turns-once events from a b x y (turn _ _ _ r g t e) (turn _ _ _ r′ g′ t′ e′) =
     let once = turns-once events _ a b r r′ t t′ in
-    (once .0, e ∙ ap (λ (l : List ℕ). handed from ++ l) (once .1) ∙ sym e′)
+    (once .0, e ∙ ap (λ (l : List ℕ). turnText from ++ l) (once .1) ∙ sym e′)
 
 -- It may write to the IO buffer, the lent bytes and the text.
 pub play-only : Only {B = List ℕ × List ℕ × List ℕ} 4 play-kinds.ps play-kinds.r play.Post (λ κs s. (now (s .1 .1 .0), now (s .1 .1 .1 .0), now (s .1 .1 .1 .1 .0)))

@@ -8,8 +8,8 @@ use Rattle.benchrun.specs.Output.{fileLines}
 use Rattle.benchfile.specs.Cases.{listing}
 
 -- The listing in ASCII.
-unfoldable pub listed : List ℕ
-listed =
+unfoldable pub listingText : List ℕ
+listingText =
     -- `0 0 0 0 0 0 - -`
     (0x30 ∷ 0x20 ∷ 0x30 ∷ 0x20 ∷ 0x30 ∷ 0x20 ∷ 0x30 ∷ 0x20 ∷ 0x30 ∷ 0x20 ∷ 0x30 ∷ 0x20 ∷ 0x2D ∷ 0x20 ∷ 0x2D ∷ 0x0A ∷ [])
     ++  -- `1 0 5 0 0 1 - -`
@@ -23,4 +23,4 @@ listed =
 
 -- The events of the listing print it, with an IO buffer of 64 bytes. There are 64 lent bytes here, as many as a poll can send.
 abbrev pub Printed : Type 0
-Printed = fileLines listing (replicate 64 0) (replicate 64 0) ≡ listed
+Printed = fileLines listing (replicate 64 0) (replicate 64 0) ≡ listingText

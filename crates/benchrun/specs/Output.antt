@@ -12,7 +12,7 @@ use Rattle.device.specs.Create.{Creation}
 use Rattle.benchfile.specs.Event.{kindByte, bodyOf}
 use Rattle.benchfile.specs.File.{Good}
 use Rattle.benchact.specs.Act.{Acting, actBy}
-use Rattle.benchrun.specs.Run.{lineText, toldLine, creationOf, breach}
+use Rattle.benchrun.specs.Run.{lineText, lineOfActing, creationOfBody, breach}
 
 -- ---- the lines of a file's events
 
@@ -22,7 +22,7 @@ unfoldable pub laterLines : ℕ → List (List ℕ) → Device → List ℕ → 
 laterLines index [] d io lent = []
 laterLines index (e ∷ es) d io lent =
     let a : Acting = actBy (get kindByte e) (bodyOf e) d io lent in
-    toldLine index a ++ laterLines (index + 1) es (a .device) (a .io) (a .lent)
+    lineOfActing index a ++ laterLines (index + 1) es (a .device) (a .io) (a .lent)
 
 -- The lines of a file whose creation gives `c`, with the events `es` after it. "A refused creation prints its answer, zeros and two
 -- dashes, and the run ends." The IO buffer is the front of `space`, as long as the creation asks for; `lent` are the lent bytes.
@@ -34,7 +34,7 @@ creationLines c es space lent =
 -- The lines of a good file with these events. "a file of none is good and prints nothing"
 unfoldable pub fileLines : List (List ℕ) → List ℕ → List ℕ → List ℕ
 fileLines [] space lent = []
-fileLines (e ∷ es) space lent = creationLines (creationOf (bodyOf e)) es space lent
+fileLines (e ∷ es) space lent = creationLines (creationOfBody (bodyOf e)) es space lent
 
 -- ---- any file
 

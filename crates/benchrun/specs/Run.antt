@@ -32,19 +32,19 @@ unfoldable pub lineText : ℕ → Device → ℕ → ℕ → Stalls → List ℕ
 lineText index d answer count stalls bytes = lineOf (fieldsOf index d answer count stalls) bytes
 
 -- The text of the line of the event with the index `index`, which left and told `a`. The first of the lent bytes are shown.
-unfoldable pub toldLine : ℕ → Acting → List ℕ
-toldLine index a = lineText index (a .device) (a .answer .number) (a .count) (a .stalls) (take (a .shown) (a .lent))
+unfoldable pub lineOfActing : ℕ → Acting → List ℕ
+lineOfActing index a = lineText index (a .device) (a .answer .number) (a .count) (a .stalls) (take (a .shown) (a .lent))
 
 -- ---- the first event
 
--- What the first event leaves: `run` is how far the run has come, and `text` is the text buffer. `begunOf` makes such a record of the
+-- What the first event leaves: `run` is how far the run has come, and `text` is the text buffer. `beginningOf` makes such a record of the
 -- two.
 pub record Beginning : Type 0 where
   pub run : Run
   pub text : List ℕ
 
-abbrev pub begunOf : Run → List ℕ → Beginning
-begunOf run text = record { run = run; text = text }
+abbrev pub beginningOf : Run → List ℕ → Beginning
+beginningOf run text = record { run = run; text = text }
 
 -- No event stands at the offset `at`, where the event with the index `index` would stand: the run ends with the device `d`, and there is
 -- no line.
@@ -52,13 +52,13 @@ abbrev pub stoppedAt : Device → ℕ → ℕ → Run
 stoppedAt d at index = record { device = d; at = at; index = index; line = 0; going = false }
 
 -- "0 create (P 2, max LUN 1, buffer 4)": what creation gives for the body `body`.
-unfoldable pub creationOf : List ℕ → Creation
-creationOf body = createCall (fixed (get packetSize body) (get maxLun body) (get bufferSize body))
+unfoldable pub creationOfBody : List ℕ → Creation
+creationOfBody body = createCall (fixed (get packetSize body) (get maxLun body) (get bufferSize body))
 
 -- What the first event leaves where creation gives `c` and the text buffer is `text`. "A refused creation prints its answer, zeros and
 -- two dashes, and the run ends." The next event stands at the offset 10.
-unfoldable pub created : Creation → List ℕ → Beginning
-created c text = begunOf
+unfoldable pub beginningOfCreation : Creation → List ℕ → Beginning
+beginningOfCreation c text = beginningOf
     (record { device = c .device; at = 10; index = 1; line = length (lineText 0 (c .device) (c .answer .number) 0 Kept []); going = eqb (c .answer .number) 0 })
     (overlay text 0 (lineText 0 (c .device) (c .answer .number) 0 Kept []))
 
@@ -67,8 +67,8 @@ created c text = begunOf
 unfoldable pub beginBy : List ℕ → List ℕ → Beginning
 beginBy events text =
     cond (eventAt events 0 .whole)
-    (created (creationOf (take 7 (drop 3 events))) text)
-    (begunOf (stoppedAt noDevice 0 0) text)
+    (beginningOfCreation (creationOfBody (take 7 (drop 3 events))) text)
+    (beginningOf (stoppedAt noDevice 0 0) text)
 
 -- ---- a file, before anything is written
 
@@ -81,16 +81,16 @@ abbrev pub breach : List ℕ
 breach = 0x31 ∷ 0x34 ∷ 0x0A ∷ []
 
 -- "Any breach is 14: `bench` prints `14` alone." This is what a refused file leaves where the text buffer is `text`.
-unfoldable pub refusedBy : List ℕ → Beginning
-refusedBy text = begunOf (record { device = noDevice; at = 0; index = 0; line = length breach; going = false }) (overlay text 0 breach)
+unfoldable pub beginningRefused : List ℕ → Beginning
+beginningRefused text = beginningOf (record { device = noDevice; at = 0; index = 0; line = length breach; going = false }) (overlay text 0 breach)
 
 -- What stands in the text buffer `text`, and how far the run has come, before anything is written. `good` is the verdict on the file
 -- `file`.
 unfoldable pub openBy : Bool → List ℕ → List ℕ → Beginning
-openBy good file text = cond good (beginBy (eventsOf file) text) (refusedBy text)
+openBy good file text = cond good (beginBy (eventsOf file) text) (beginningRefused text)
 
 -- `verdict` is the verdict on `file`, and `o` is what follows from it where the text buffer is `text`.
-pub record Opens (file text : List ℕ) (o : Beginning) : Type 0 where
+pub record OpensFile (file text : List ℕ) (o : Beginning) : Type 0 where
   pub verdict : Bool
   pub judges : Judges verdict file
   pub opened : o ≡ openBy verdict file text
@@ -112,10 +112,10 @@ runningOf run io lent text = record { run = run; io = io; lent = lent; text = te
 -- `text`. The next event stands at the offset `next`.
 unfoldable pub wentOn : ℕ → ℕ → Acting → List ℕ → Running
 wentOn index next a text = runningOf
-    (record { device = a .device; at = next; index = index + 1; line = length (toldLine index a); going = true })
+    (record { device = a .device; at = next; index = index + 1; line = length (lineOfActing index a); going = true })
     (a .io)
     (a .lent)
-    (overlay text 0 (toldLine index a))
+    (overlay text 0 (lineOfActing index a))
 
 -- What the event with the head `e` leaves. It stands in `events` at the offset of the run `run`, and its call is given the device of
 -- `run`, the IO buffer `io` and the lent bytes `lent`.

@@ -7,7 +7,7 @@ ghost use mathlib.Core.Path.{_≡_};
 ghost use Prim.Native.Nat.{_-_, _≤_};
 ghost use lib.ListN.{length};
 ghost use Rattle.benchline.specs.Inner.Line.{roomFor};
-ghost use Rattle.benchrun.specs.Run.{begunOf, refusedBy, Opens};
+ghost use Rattle.benchrun.specs.Run.{beginningOf, beginningRefused, OpensFile};
 
 // Where the events end: right before the trailer.
 pub fn events_end(file: &[u8]) -> usize
@@ -22,7 +22,7 @@ pub fn events_end(file: &[u8]) -> usize
 // Puts `14` into `text`; there is no run.
 fn refuse(text: &mut [u8]) -> Run
     requires { ⌜ roomFor 0 ≤ length (now text) ⌝ }
-    ensures { λ r. ⌜ begunOf r (now (text .exit)) ≡ refusedBy (now (text .entry)) ⌝ }
+    ensures { λ r. ⌜ beginningOf r (now (text .exit)) ≡ beginningRefused (now (text .entry)) ⌝ }
 {
     text[0] = b'1';
     text[1] = b'4';
@@ -40,7 +40,7 @@ fn refuse(text: &mut [u8]) -> Run
 // Makes the first event of a good file, and refuses any other file with `14`.
 pub fn open(file: &[u8], text: &mut [u8]) -> Run
     requires { ⌜ roomFor 0 ≤ length (now text) ⌝ }
-    ensures { λ r. ⌜ Opens (now (file .entry)) (now (text .entry)) (begunOf r (now (text .exit))) ⌝ }
+    ensures { λ r. ⌜ OpensFile (now (file .entry)) (now (text .entry)) (beginningOf r (now (text .exit))) ⌝ }
 {
     if !benchfile::good(file) {
         return refuse(text);

@@ -21,9 +21,9 @@ ghost use mathlib.Core.Path.{_≡_};
 ghost use Prim.Native.Nat.{_-_, _≤_};
 ghost use lib.ListN.{length, take};
 ghost use Rattle.answers.specs.Answers.{answerOf};
-ghost use Rattle.device.specs.Create.{createdOf};
+ghost use Rattle.device.specs.Create.{creationOf};
 ghost use Rattle.benchline.specs.Inner.Line.{roomFor, Puts};
-ghost use Rattle.benchrun.specs.Run.{fieldsOf, lineText, stoppedAt, begunOf, creationOf, beginBy, runningOf, stepBy};
+ghost use Rattle.benchrun.specs.Run.{fieldsOf, lineText, stoppedAt, beginningOf, creationOfBody, beginBy, runningOf, stepBy};
 ghost use Rattle.benchrun.specs.Inner.Run.{Roomy};
 
 // How far a run has come: the device, the offset and the index of the next event, the length of the last event's line, and whether the
@@ -93,7 +93,7 @@ fn stopped(device: Device, at: usize, index: usize) -> Run
 // The creation that the body of the first event asks for.
 fn created(body: &[u8]) -> Created
     requires { ⌜ length (now body) ≡ 7 ⌝ }
-    ensures { λ r. ⌜ createdOf r ≡ creationOf (now (body .entry)) ⌝ }
+    ensures { λ r. ⌜ creationOf r ≡ creationOfBody (now (body .entry)) ⌝ }
 {
     create(Fixed {
         packetsize: le16(body, 0) as usize,
@@ -105,7 +105,7 @@ fn created(body: &[u8]) -> Created
 // Makes the first event, and puts its line into `text`.
 pub fn begin(events: &[u8], text: &mut [u8]) -> Run
     requires { ⌜ roomFor 0 ≤ length (now text) ⌝ }
-    ensures { λ r. ⌜ begunOf r (now (text .exit)) ≡ beginBy (now (events .entry)) (now (text .entry)) ⌝ }
+    ensures { λ r. ⌜ beginningOf r (now (text .exit)) ≡ beginBy (now (events .entry)) (now (text .entry)) ⌝ }
 {
     let e = event_at(events, 0);
     if !e.whole {

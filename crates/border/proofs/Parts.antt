@@ -93,11 +93,11 @@ pub parts-once : (p q : Parts) → Bytes p → Bytes q → wordOf p ≡ wordOf q
 parts-once p q hp hq e = sym (parts-read p hp) ∙ ap read e ∙ parts-read q hq
 
 -- The number of what is asked of both endpoints determines what is asked.
-pub stallsOf : ℕ → Stalls
-stallsOf n = cond (eqb n 0) Kept (cond (eqb n 1) Stalled (cond (eqb n 2) Unstalled UnstalledStalled))
+pub stallsOfNumber : ℕ → Stalls
+stallsOfNumber n = cond (eqb n 0) Kept (cond (eqb n 1) Stalled (cond (eqb n 2) Unstalled UnstalledStalled))
 
-pub stalls-told : (s : Stalls) → stallsOf (stallsNumber s) ≡ s
-unfolding stallsOf
+pub stalls-told : (s : Stalls) → stallsOfNumber (stallsNumber s) ≡ s
+unfolding stallsOfNumber
 stalls-told Kept = refl
 stalls-told Stalled = refl
 stalls-told Unstalled = refl

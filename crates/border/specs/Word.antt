@@ -16,5 +16,5 @@ stallsNumber Unstalled = 2
 stallsNumber UnstalledStalled = 3
 
 -- This is a word with an `answer` and nothing else.
-abbrev pub plain : ℕ → ℕ
-plain answer = word answer 0 0 0 0
+abbrev pub answerWord : ℕ → ℕ
+answerWord answer = word answer 0 0 0 0

@@ -10,9 +10,9 @@ use borrow.Author.Tests.{lt-ltb, le-ltb, not-true, not-false}
 use lib.ListN.{length, take, drop, replicate, length-replicate}
 use lib.Seq.{length-take-le, take-take}
 use Rattle.fields.specs.Overlay.{overlay}
-use Rattle.buffer.specs.Buffer.{Buffer, buffer, at, isSound, unread, unreadBytes, room, moved, withRoom, appended, fitting, written, filled, lacksRoom, writtenAll, ready, given, readOff}
+use Rattle.buffer.specs.Buffer.{Buffer, buffer, at, isSound, unread, unreadBytes, room, moved, withRoom, appended, fitting, written, filled, lacksRoom, writtenAll, ready, readyBytes, readOff}
 use Rattle.buffer.specs.Inner.Buffer.{Sound, Leaves}
-use Rattle.buffer.specs.Calls.{answering, unlessBroken}
+use Rattle.buffer.specs.Calls.{answering, ifSound}
 use Rattle.buffer.proofs.Kept.{is-sound, sound-moved, sound-written, sound-filled, sound-writtenAll, sound-readOff, sound-withRoom}
 
 -- ---- marked: t is the buffer after room was made, and b are its bytes at the end
@@ -84,8 +84,8 @@ module _ (want : ℕ) (ys : List ℕ) (n : ℕ) (s t : Buffer) (g : Sound s) (en
 -- At most n bytes are read, k of them, into d, which becomes e.
 pub reads : (d : List ℕ) (n k : ℕ) (s : Buffer) → Sound s → k ≡ min (unread s) n → (e : List ℕ)
     → e ≡ overlay d 0 (take (s .marks .read + k - s .marks .read) (drop (s .marks .read) (s .bytes)))
-    → (k ≡ ready n s) × Leaves (buffer (s .bytes) (at (s .marks .read + k) (s .marks .write))) (readOff n s) × (e ≡ overlay d 0 (given n s))
-unfolding given ready readOff unreadBytes
+    → (k ≡ ready n s) × Leaves (buffer (s .bytes) (at (s .marks .read + k) (s .marks .write))) (readOff n s) × (e ≡ overlay d 0 (readyBytes n s))
+unfolding readyBytes ready readOff unreadBytes
 reads d n k s g ek e ee =
     let same : s .marks .read + k - s .marks .read ≡ k = omega arith in
     let first = take-take k (unread s) (drop (s .marks .read) (s .bytes)) (omega (arith, min-le-left (unread s) n)) in
@@ -97,12 +97,12 @@ pub tested : (s : Buffer) {x : Bool} → x ≡ isSound (length (s .bytes)) (s .m
 tested s e h = is-sound s (sym e ∙ h)
 
 module _ (s : Buffer) {x : Bool} (e : x ≡ isSound (length (s .bytes)) (s .marks)) where
-  pub broken : {A : Type 0} (done refused : A) → x ≡ false → refused ≡ unlessBroken s done refused
-  unfolding unlessBroken
+  pub broken : {A : Type 0} (done refused : A) → x ≡ false → refused ≡ ifSound s done refused
+  unfolding ifSound
   broken done refused h = rw (← e, h)
 
-  pub passes : {A : Type 0} {result done : A} (refused : A) → x ≡ true → result ≡ done → result ≡ unlessBroken s done refused
-  unfolding unlessBroken
+  pub passes : {A : Type 0} {result done : A} (refused : A) → x ≡ true → result ≡ done → result ≡ ifSound s done refused
+  unfolding ifSound
   passes refused h p = rw (← e, h) p
 
 -- Two outcomes with the same count and the same buffer are the same.

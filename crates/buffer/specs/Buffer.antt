@@ -81,8 +81,8 @@ unfoldable pub ready : ℕ → Buffer → ℕ
 ready n s = min (unread s) n
 
 -- Such a read gives these bytes: the first unread bytes of `s`, as many as the destination of `n` bytes can take.
-unfoldable pub given : ℕ → Buffer → List ℕ
-given n s = take (ready n s) (unreadBytes s)
+unfoldable pub readyBytes : ℕ → Buffer → List ℕ
+readyBytes n s = take (ready n s) (unreadBytes s)
 
 -- Such a read leaves the bytes of `s` as they are. "Reading advances the read mark only": it goes up by the number of bytes given.
 unfoldable pub readOff : ℕ → Buffer → Buffer

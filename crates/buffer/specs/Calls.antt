@@ -5,7 +5,7 @@ use mathlib.Core.Bool.{cond}
 use mathlib.Core.List.{List}
 use lib.ListN.{length}
 use Rattle.fields.specs.Overlay.{overlay}
-use Rattle.buffer.specs.Buffer.{Buffer, buffer, isSound, unread, moved, fitting, written, filled, lacksRoom, writtenAll, ready, given, readOff, emptied}
+use Rattle.buffer.specs.Buffer.{Buffer, buffer, isSound, unread, moved, fitting, written, filled, lacksRoom, writtenAll, ready, readyBytes, readOff, emptied}
 use Rattle.buffer.specs.declared.Marks.{Marks}
 use Rattle.buffer.specs.declared.Answer.{Answer}
 use Rattle.buffer.specs.declared.Answer.the-variants.{Done, Overflow, Broken}
@@ -28,12 +28,12 @@ answerOf m (Overflow t) b = answering 1 0 (buffer b t)
 answerOf m Broken b = answering 10 0 (buffer b m)
 
 -- "Broken means: .. read mark above write mark or write mark above the length": if `s` is broken this is `refused`, otherwise `done`.
-unfoldable pub unlessBroken : {A : Type 0} → Buffer → A → A → A
-unlessBroken s done refused = cond (isSound (length (s .bytes)) (s .marks)) done refused
+unfoldable pub ifSound : {A : Type 0} → Buffer → A → A → A
+ifSound s done refused = cond (isSound (length (s .bytes)) (s .marks)) done refused
 
 -- A call whose outcome would be `done` first checks the marks of `s`: if `s` is broken it answers 10 instead, and leaves "all as before".
 abbrev pub checked : Buffer → Answering → Answering
-checked s done = unlessBroken s done (answering 10 0 s)
+checked s done = ifSound s done (answering 10 0 s)
 
 -- `available` counts the unread bytes of `s`, and changes nothing.
 unfoldable pub availableCall : Buffer → Answering
@@ -71,4 +71,4 @@ readCall n s = checked s (answering 0 (ready n s) (readOff n s))
 -- `read` leaves the bytes given at the front of the destination `d`, and the rest of `d` as before.
 -- If `s` is broken, all of `d` is as before.
 unfoldable pub readInto : List ℕ → Buffer → List ℕ
-readInto d s = unlessBroken s (overlay d 0 (given (length d) s)) d
+readInto d s = ifSound s (overlay d 0 (readyBytes (length d) s)) d

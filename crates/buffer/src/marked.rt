@@ -9,7 +9,7 @@ ghost use mathlib.Core.Path.{_≡_};
 ghost use mathlib.Core.Bool.{not};
 ghost use Prim.Native.Nat.{_+_, _-_, _≤_, max};
 ghost use lib.ListN.{length};
-ghost use Rattle.buffer.specs.Buffer.{buffer, at, moved, withRoom, fitting, written, filled, lacksRoom, writtenAll, ready, given, readOff};
+ghost use Rattle.buffer.specs.Buffer.{buffer, at, moved, withRoom, fitting, written, filled, lacksRoom, writtenAll, ready, readyBytes, readOff};
 ghost use Rattle.buffer.specs.Inner.Buffer.{Sound, Leaves};
 ghost use Rattle.fields.specs.Overlay.{overlay};
 
@@ -129,7 +129,7 @@ pub fn read(io: &[u8], m: Marks, most: usize, dst: &mut [u8]) -> Taken
     requires { ⌜ Sound (buffer (now io) m) × (most ≤ length (now dst)) ⌝ }
     ensures { λ r. ⌜ (r .count ≡ ready most (buffer (now (io .entry)) m))
         × Leaves (buffer (now (io .entry)) (r .marks)) (readOff most (buffer (now (io .entry)) m))
-        × (now (dst .exit) ≡ overlay (now (dst .entry)) 0 (given most (buffer (now (io .entry)) m))) ⌝ }
+        × (now (dst .exit) ≡ overlay (now (dst .entry)) 0 (readyBytes most (buffer (now (io .entry)) m))) ⌝ }
 {
     let from = m.read;
     let n = least(m.write - m.read, most);

@@ -5,7 +5,7 @@ use mathlib.Core.List.{List}
 use Prim.Native.Nat.{ℕ}
 use denote.Ref.{now}
 use Rattle.fields.proofs.Only.{Only}
-use Rattle.callbytes.specs.Calls.{Left, leaves}
+use Rattle.callbytes.specs.Calls.{CallOutcome, callOutcome}
 use Rattle.callbytes.proofs.create.create.Kinds as create-kinds
 use Rattle.callbytes.proofs.create.create.Reads as create
 use Rattle.callbytes.proofs.status.set_status.Kinds as set-status-kinds
@@ -16,8 +16,8 @@ use Rattle.callbytes.proofs.bus.control.Kinds as control-kinds
 use Rattle.callbytes.proofs.bus.control.Reads as control
 
 -- What a call leaves tells each of its parts.
-pub left-once : {n k : ℕ} {r l : List ℕ} → leaves n r ≡ leaves k l → (n ≡ k) × (r ≡ l)
-left-once e = (ap (λ (o : Left). o .result) e, ap (λ (o : Left). o .bytes) e)
+pub left-once : {n k : ℕ} {r l : List ℕ} → callOutcome n r ≡ callOutcome k l → (n ≡ k) × (r ≡ l)
+left-once e = (ap (λ (o : CallOutcome). o .result) e, ap (λ (o : CallOutcome). o .bytes) e)
 
 pub create-only : Only 1 create-kinds.ps create-kinds.r create.Post (λ κs s. now (s .0))
 create-only κs a x y s t p q = left-once (p ∙ sym q)

@@ -13,41 +13,41 @@ use Rattle.device.specs.Device.{inState, withStatus, withLeft}
 use Rattle.device.proofs.Wholly.{either, packet-below, lun-below, size-below}
 use Rattle.calls.specs.declared.FirmwareStatus.{FirmwareStatus}
 use Rattle.calls.specs.declared.Stated.{Stated}
-use Rattle.calls.specs.Status.{Stating, statedOf, setStatusCall}
+use Rattle.calls.specs.Status.{Stating, statingOf, setStatusCall}
 use Rattle.calls.specs.declared.Reply.{Reply}
 use Rattle.calls.specs.declared.Reply.the-variants.{Nothing, MaxLun}
 use Rattle.calls.specs.declared.Request.{Request}
 use Rattle.calls.specs.declared.Handled.{Handled}
-use Rattle.calls.specs.Bus.{Handling, replied, handledOf, entering, resetCall, controlCall}
+use Rattle.calls.specs.Bus.{Handling, replied, handlingOf, handlingOfReset, resetCall, controlCall}
 use Rattle.device.specs.declared.create.Created.{Created}
-use Rattle.device.specs.Create.{creation, Creation, createdOf, createCall}
+use Rattle.device.specs.Create.{creationChecks, Creation, creationOf, createCall}
 use Rattle.calls.proofs.After.{by-request, status-keeps}
 use Rattle.recordbytes.specs.Record.{isKnown, deviceAt, storeState, storeLeft, storeStatus, storeDevice, newRecord}
-use Rattle.recordbytes.specs.Inner.Storable.{Fixable}
+use Rattle.recordbytes.specs.Inner.Storable.{StorableFixed}
 use Rattle.recordbytes.proofs.Stored.{is-known}
 use Rattle.recordbytes.proofs.Parts.{status-alone, entered}
-use Rattle.border.specs.Word.{word, plain, stallsNumber}
+use Rattle.border.specs.Word.{word, answerWord, stallsNumber}
 use Rattle.border.specs.Record.{onDevice}
-use Rattle.callbytes.specs.Calls.{leaves, createOn, stated, statusOn, handled, resetOn, controlOn}
+use Rattle.callbytes.specs.Calls.{callOutcome, createOn, callOutcomeOfStatus, setStatusOn, callOutcomeOfBus, resetOn, controlOn}
 use Rattle.border.proofs.Lending.{known-then, long-then, unknown, made}
 
 -- ---- the status
 
 module _ (r io : List ℕ) (f : FirmwareStatus) {k : Bool} (ek : k ≡ isKnown r) where
-  pub status-unknown : not k ≡ true → leaves 10 r ≡ statusOn r io f
-  unfolding statusOn
-  status-unknown q = unknown r ek (leaves 10 r) (λ (d : Device). stated r (setStatusCall d io f)) q
+  pub status-unknown : not k ≡ true → callOutcome 10 r ≡ setStatusOn r io f
+  unfolding setStatusOn
+  status-unknown q = unknown r ek (callOutcome 10 r) (λ (d : Device). callOutcomeOfStatus r (setStatusCall d io f)) q
 
-  pub status-set : not k ≡ false → (s : Stated) {d : Device} {n : ℕ} {l : List ℕ} → d ≡ deviceAt r → statedOf s ≡ setStatusCall d io f → l ≡ storeStatus (s .device .status) r → n ≡ answerOf (s .answer) .number
-      → leaves n l ≡ statusOn r io f
-  unfolding statusOn
+  pub status-set : not k ≡ false → (s : Stated) {d : Device} {n : ℕ} {l : List ℕ} → d ≡ deviceAt r → statingOf s ≡ setStatusCall d io f → l ≡ storeStatus (s .device .status) r → n ≡ answerOf (s .answer) .number
+      → callOutcome n l ≡ setStatusOn r io f
+  unfolding setStatusOn
   status-set q s {l = l} ed es el en =
       let test = known-then r ek q in
-      let to : statedOf s ≡ setStatusCall (deviceAt r) io f = rw ed at es in
+      let to : statingOf s ≡ setStatusCall (deviceAt r) io f = rw ed at es in
       let alone : s .device ≡ withStatus (s .device .status) (deviceAt r) =
       ap (λ (o : Stating). withStatus (s .device .status) (withStatus (deviceAt r .status) (o .device))) to ∙ ap (withStatus (s .device .status)) (status-keeps (deviceAt r) io f) in
       let kept : l ≡ storeDevice (s .device) r = el ∙ sym (status-alone r (is-known r test) (s .device .status)) ∙ ap (λ (d : Device). storeDevice d r) (sym alone) in
-      rw (en, kept) (ap (stated r) to ∙ made r (leaves 10 r) (λ (d : Device). stated r (setStatusCall d io f)) test)
+      rw (en, kept) (ap (callOutcomeOfStatus r) to ∙ made r (callOutcome 10 r) (λ (d : Device). callOutcomeOfStatus r (setStatusCall d io f)) test)
 
 -- ---- the bus: status, state and left changed
 
@@ -70,76 +70,76 @@ bus-stored r d ea eb el = rw (← ea, ← eb, el)
 
 -- The device entered 0 or stayed as it was: only status, state and left can have changed.
 bus-made : (r : List ℕ) (call : Device → Handling) {k : Bool} → k ≡ isKnown r → not k ≡ false
-    → inState (deviceAt r .state) (withStatus (deviceAt r .status) (withLeft (deviceAt r .left) (call (deviceAt r) .device))) ≡ deviceAt r → (m : Handled) → handledOf m ≡ call (deviceAt r)
+    → inState (deviceAt r .state) (withStatus (deviceAt r .status) (withLeft (deviceAt r .left) (call (deviceAt r) .device))) ≡ deviceAt r → (m : Handled) → handlingOf m ≡ call (deviceAt r)
     → {x : ℕ} {l : List ℕ} → (x ≡ word (answerOf (m .report .answer) .number) 0 (stallsNumber (m .report .stalls)) (length (replied (m .report .reply))) (getD (replied (m .report .reply)) 0 0))
     × (l ≡ storeLeft (m .device .left) (storeState (m .device .state) (storeStatus (m .device .status) r)))
-    → leaves x l ≡ onDevice r (leaves (plain 10) r) (λ (d : Device). handled r (call d))
+    → callOutcome x l ≡ onDevice r (callOutcome (answerWord 10) r) (λ (d : Device). callOutcomeOfBus r (call d))
 bus-made r call ek q keeps m to {x} {l} e =
     let test = known-then r ek q in
     let with : Device → Device = λ (d : Device). inState (m .device .state) (withStatus (m .device .status) (withLeft (m .device .left) d)) in
     let alone : m .device ≡ with (deviceAt r) =
     ap (λ (o : Handling). with (inState (deviceAt r .state) (withStatus (deviceAt r .status) (withLeft (deviceAt r .left) (o .device))))) to ∙ ap with keeps in
     let kept : l ≡ storeDevice (m .device) r = e .1 ∙ sym (entered r (is-known r test) (m .device .status) (m .device .state) (m .device .left)) ∙ ap (λ (d : Device). storeDevice d r) (sym alone) in
-    rw (e .0, kept) (ap (handled r) to ∙ made r (leaves (plain 10) r) (λ (d : Device). handled r (call d)) test)
+    rw (e .0, kept) (ap (callOutcomeOfBus r) to ∙ made r (callOutcome (answerWord 10) r) (λ (d : Device). callOutcomeOfBus r (call d)) test)
 
 -- Everything in the device `d` but status, state and left stays.
 abbrev Keeps : Device → Handling → Type 0
 Keeps d o = inState (d .state) (withStatus (d .status) (withLeft (d .left) (o .device))) ≡ d
 
 reset-rest : (d : Device) (io : List ℕ) → Keeps d (resetCall d io)
-unfolding resetCall entering
+unfolding resetCall handlingOfReset
 reset-rest d io = either d io (Keeps d) refl (λ _. refl)
 
 control-rest : (d : Device) (io : List ℕ) (q : Request) → Keeps d (controlCall d io q)
-unfolding entering
+unfolding handlingOfReset
 control-rest d io q = by-request d io q (Keeps d) (λ _ _. refl) (λ _ _. refl)
 
 module _ (r io : List ℕ) {k : Bool} (ek : k ≡ isKnown r) where
-  pub reset-unknown : not k ≡ true → leaves 10 r ≡ resetOn r io
+  pub reset-unknown : not k ≡ true → callOutcome 10 r ≡ resetOn r io
   unfolding resetOn word
-  reset-unknown q = unknown r ek (leaves (plain 10) r) (λ (d : Device). handled r (resetCall d io)) q
+  reset-unknown q = unknown r ek (callOutcome (answerWord 10) r) (λ (d : Device). callOutcomeOfBus r (resetCall d io)) q
 
-  pub reset-made : not k ≡ false → (m : Handled) {d : Device} → d ≡ deviceAt r → handledOf m ≡ resetCall d io
+  pub reset-made : not k ≡ false → (m : Handled) {d : Device} → d ≡ deviceAt r → handlingOf m ≡ resetCall d io
       → {x : ℕ} {l : List ℕ} → (x ≡ word (answerOf (m .report .answer) .number) 0 (stallsNumber (m .report .stalls)) (length (replied (m .report .reply))) (getD (replied (m .report .reply)) 0 0))
       × (l ≡ storeLeft (m .device .left) (storeState (m .device .state) (storeStatus (m .device .status) r)))
-      → leaves x l ≡ resetOn r io
+      → callOutcome x l ≡ resetOn r io
   unfolding resetOn
   reset-made q m ed em e = bus-made r (λ (d : Device). resetCall d io) ek q (reset-rest (deviceAt r) io) m (rw ed at em) e
 
   module _ (request : Request) where
-    pub control-unknown : not k ≡ true → leaves 10 r ≡ controlOn r io request
+    pub control-unknown : not k ≡ true → callOutcome 10 r ≡ controlOn r io request
     unfolding controlOn word
-    control-unknown q = unknown r ek (leaves (plain 10) r) (λ (d : Device). handled r (controlCall d io request)) q
+    control-unknown q = unknown r ek (callOutcome (answerWord 10) r) (λ (d : Device). callOutcomeOfBus r (controlCall d io request)) q
 
-    pub control-made : not k ≡ false → (m : Handled) {d : Device} → d ≡ deviceAt r → handledOf m ≡ controlCall d io request
+    pub control-made : not k ≡ false → (m : Handled) {d : Device} → d ≡ deviceAt r → handlingOf m ≡ controlCall d io request
         → {x : ℕ} {l : List ℕ} → (x ≡ word (answerOf (m .report .answer) .number) 0 (stallsNumber (m .report .stalls)) (length (replied (m .report .reply))) (getD (replied (m .report .reply)) 0 0))
         × (l ≡ storeLeft (m .device .left) (storeState (m .device .state) (storeStatus (m .device .status) r)))
-        → leaves x l ≡ controlOn r io request
+        → callOutcome x l ≡ controlOn r io request
     unfolding controlOn
     control-made q m ed em e = bus-made r (λ (d : Device). controlCall d io request) ek q (control-rest (deviceAt r) io request) m (rw ed at em) e
 
 -- ---- creation
 
-module _ (r : List ℕ) (f : Fixed) (c : Created) (ec : createdOf c ≡ createCall f) {n : ℕ} (en : n ≡ answerOf (c .answer) .number) where
-  answered : n ≡ creation f
+module _ (r : List ℕ) (f : Fixed) (c : Created) (ec : creationOf c ≡ createCall f) {n : ℕ} (en : n ≡ answerOf (c .answer) .number) where
+  answered : n ≡ creationChecks f
   unfolding createCall
   answered = en ∙ ap (λ (x : Creation). x .answer .number) ec
 
-  pub create-refused : (n ≡ 0 → ⊥) → leaves n r ≡ createOn r f
+  pub create-refused : (n ≡ 0 → ⊥) → callOutcome n r ≡ createOn r f
   unfolding createOn
   create-refused q = rw (← answered, ne-eqb _ _ q)
 
-  pub create-unlent : n ≡ 0 → (length r ≡ 52 → ⊥) → leaves 10 r ≡ createOn r f
+  pub create-unlent : n ≡ 0 → (length r ≡ 52 → ⊥) → callOutcome 10 r ≡ createOn r f
   unfolding createOn
   create-unlent q k = rw (← answered, eq-eqb _ _ q, ne-eqb _ _ k)
 
   -- What creation accepts fits into its places in a record.
-  pub create-fits : n ≡ 0 → Fixable f
+  pub create-fits : n ≡ 0 → StorableFixed f
   create-fits q =
-      let e : creation f ≡ 0 = sym answered ∙ q in
+      let e : creationChecks f ≡ 0 = sym answered ∙ q in
       record { packetsize = packet-below f e; maxlun = lun-below f e; size = size-below f e }
 
-  pub create-made : n ≡ 0 → length r ≡ 52 → {l : List ℕ} → l ≡ newRecord f → leaves 0 l ≡ createOn r f
+  pub create-made : n ≡ 0 → length r ≡ 52 → {l : List ℕ} → l ≡ newRecord f → callOutcome 0 l ≡ createOn r f
   unfolding createOn
   create-made q k el = rw (← answered, eq-eqb _ _ q, eq-eqb _ _ k, el)
 

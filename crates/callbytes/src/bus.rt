@@ -15,7 +15,7 @@ ghost use Rattle.calls.specs.Bus as bus;
 ghost use Rattle.recordbytes.specs.Layout.{recordSize};
 ghost use Rattle.recordbytes.specs.Record.{storeState, storeLeft, storeStatus};
 ghost use Rattle.border.specs.Word as spec;
-ghost use Rattle.callbytes.specs.Calls.{leaves, resetOn, controlOn};
+ghost use Rattle.callbytes.specs.Calls.{callOutcome, resetOn, controlOn};
 
 // Puts an answer, stalls and a reply into one number. Max LUN is its count, and the flag says that there is one.
 fn replied(number: u8, stalls: u8, reply: Reply) -> u64
@@ -49,7 +49,7 @@ fn handled(record: &mut [u8], h: Handled) -> u64
 
 // Resets the device: it enters 0.
 pub fn reset(record: &mut [u8], io: &[u8]) -> u64
-    ensures { λ x. ⌜ leaves x (now («record» .exit)) ≡ resetOn (now («record» .entry)) (now (io .entry)) ⌝ }
+    ensures { λ x. ⌜ callOutcome x (now («record» .exit)) ≡ resetOn (now («record» .entry)) (now (io .entry)) ⌝ }
 {
     if !known(record) {
         return 10;
@@ -60,7 +60,7 @@ pub fn reset(record: &mut [u8], io: &[u8]) -> u64
 
 // Handles the control request `request` with the bmRequestType `request_type`.
 pub fn control(record: &mut [u8], io: &[u8], request_type: u8, request: u8) -> u64
-    ensures { λ x. ⌜ leaves x (now («record» .exit)) ≡ controlOn (now («record» .entry)) (now (io .entry)) (record { requesttype = «request_type»; request = request }) ⌝ }
+    ensures { λ x. ⌜ callOutcome x (now («record» .exit)) ≡ controlOn (now («record» .entry)) (now (io .entry)) (record { requesttype = «request_type»; request = request }) ⌝ }
 {
     if !known(record) {
         return 10;

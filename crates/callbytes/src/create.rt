@@ -4,12 +4,12 @@ use device::Fixed;
 use recordbytes::store;
 ghost use mathlib.Core.Path.{_≡_};
 ghost use Rattle.device.specs.Create.{fixed};
-ghost use Rattle.callbytes.specs.Calls.{leaves, createOn};
+ghost use Rattle.callbytes.specs.Calls.{callOutcome, createOn};
 
 // Makes a new record for the packet size `packet_size`, the max LUN `max_lun` and an IO buffer of `size` bytes. 01's refusals come first,
 // and then 10 where `record` does not have the length of a record.
 pub fn create(record: &mut [u8], packet_size: u32, max_lun: u8, size: u32) -> u32
-    ensures { λ x. ⌜ leaves x (now («record» .exit)) ≡ createOn (now («record» .entry)) (fixed «packet_size» «max_lun» size) ⌝ }
+    ensures { λ x. ⌜ callOutcome x (now («record» .exit)) ≡ createOn (now («record» .entry)) (fixed «packet_size» «max_lun» size) ⌝ }
 {
     let fixed = Fixed {
         packetsize: packet_size as usize,

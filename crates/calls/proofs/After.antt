@@ -22,7 +22,7 @@ use borrow.Table.Steps.{cases}
 use Rattle.fields.specs.Overlay.{overlay}
 use Rattle.fields.proofs.Bools.{and-left, of-picked, clash}
 use Rattle.buffer.specs.declared.Marks.{Marks}
-use Rattle.buffer.specs.Buffer.{Buffer, buffer, unread, unreadBytes, room, withRoom, appended, fitting, written, lacksRoom, writtenAll, ready, given, readOff}
+use Rattle.buffer.specs.Buffer.{Buffer, buffer, unread, unreadBytes, room, withRoom, appended, fitting, written, lacksRoom, writtenAll, ready, readyBytes, readOff}
 use Rattle.buffer.specs.Inner.Buffer.{Sound}
 use Rattle.buffer.proofs.Kept.{length-written, sound-written, length-writtenAll, sound-writtenAll, sound-readOff}
 use Rattle.buffer.proofs.Room.{room-left, fitting-by-unread}
@@ -41,9 +41,9 @@ use Rattle.calls.specs.declared.FirmwareStatus.{FirmwareStatus}
 use Rattle.calls.specs.declared.Request.{Request}
 use Rattle.calls.specs.Checks.{isIn, bufferOf}
 use Rattle.calls.specs.Status.{Stating, stating, takesStatus, withFigure, acceptedStatus, setStatusCall}
-use Rattle.calls.specs.Data.{Moving, moving, worksIn, leaving, readOut, readCall, limited, writeIn, writeCall, writeAllIn, writeAllCall}
-use Rattle.calls.specs.Bus.{Handling, handling, entering, resetCall, served, controlCall}
-use Rattle.calls.specs.Command.{showing, isShown, commandCall, stepping, isOffered, offering, blockOf, stepCall}
+use Rattle.calls.specs.Data.{Moving, moving, worksIn, movingTo, readFrom, readDataCall, limited, writeIn, writeDataCall, writeAllIn, writeDataAllCall}
+use Rattle.calls.specs.Bus.{Handling, handling, handlingOfReset, resetCall, handlingOfRequest, controlCall}
+use Rattle.calls.specs.Command.{showing, isShown, commandCall, stepping, isOffered, steppingOfDecoding, blockOf, commandStepCall}
 
 -- ---- a whole record
 
@@ -148,41 +148,41 @@ data-tells state d io bytes done h =
     (λ _. record { broken = λ e. absurd (clash (sym e ∙ h)); whole = λ _. w })
     (λ _. record { broken = λ e. absurd (clash (sym e)); whole = λ _. w }))
 
-pub read-tells : (d : Device) (io dst : List ℕ) → Tells10 d io dst (readCall d io dst)
-unfolding readOut
+pub read-tells : (d : Device) (io dst : List ℕ) → Tells10 d io dst (readDataCall d io dst)
+unfolding readFrom
 read-tells d io dst = data-tells 7 d io dst _ refl
 
-pub write-tells : (d : Device) (io src : List ℕ) → Tells10 d io io (writeCall d io src)
+pub write-tells : (d : Device) (io src : List ℕ) → Tells10 d io io (writeDataCall d io src)
 unfolding writeIn
 write-tells d io src = data-tells 4 d io io _ refl
 
-pub write-all-tells : (d : Device) (io src : List ℕ) → Tells10 d io io (writeAllCall d io src)
+pub write-all-tells : (d : Device) (io src : List ℕ) → Tells10 d io io (writeDataAllCall d io src)
 unfolding writeAllIn
 write-all-tells d io src = data-tells 4 d io io _ (of-picked (λ (o : Moving). eqb (o .answer .number) 10 ≡ false) (lacksRoom (length src) (bufferOf d io)) (λ _. refl) (λ _. refl))
 
 -- Whatever the answer, everything of the record but the marks stays: with the old ones put back, it is the old record.
-pub read-keeps : (d : Device) (io dst : List ℕ) → withMarks (d .marks) (readCall d io dst .device) ≡ d
-unfolding readOut
+pub read-keeps : (d : Device) (io dst : List ℕ) → withMarks (d .marks) (readDataCall d io dst .device) ≡ d
+unfolding readFrom
 read-keeps d io dst = by-data (λ (o : Moving). withMarks (d .marks) (o .device) ≡ d) 7 d io dst _ (λ _. refl) refl
 
-pub write-keeps : (d : Device) (io src : List ℕ) → withMarks (d .marks) (writeCall d io src .device) ≡ d
+pub write-keeps : (d : Device) (io src : List ℕ) → withMarks (d .marks) (writeDataCall d io src .device) ≡ d
 unfolding writeIn
 write-keeps d io src = by-data (λ (o : Moving). withMarks (d .marks) (o .device) ≡ d) 4 d io io _ (λ _. refl) refl
 
-pub write-all-keeps : (d : Device) (io src : List ℕ) → withMarks (d .marks) (writeAllCall d io src .device) ≡ d
+pub write-all-keeps : (d : Device) (io src : List ℕ) → withMarks (d .marks) (writeDataAllCall d io src .device) ≡ d
 unfolding writeAllIn
 write-all-keeps d io src =
     let P : Moving → Type 0 = λ (o : Moving). withMarks (d .marks) (o .device) ≡ d in
     by-data P 4 d io io _ (λ _. refl) (of-picked P (lacksRoom (length src) (bufferOf d io)) (λ _. refl) (λ _. refl))
 
 -- The count is never above the write mark that the call leaves.
-pub read-within : (d : Device) (io dst : List ℕ) → Whole (numbersOf d) (length io) → readCall d io dst .count ≤ readCall d io dst .device .marks .write
-unfolding readOut readOff ready
+pub read-within : (d : Device) (io dst : List ℕ) → Whole (numbersOf d) (length io) → readDataCall d io dst .count ≤ readDataCall d io dst .device .marks .write
+unfolding readFrom readOff ready
 read-within d io dst w =
     by-data (λ (o : Moving). o .count ≤ o .device .marks .write) 7 d io dst _ (λ _. zero-le)
     (omega (arith, min-le-left (unread (bufferOf d io)) (length dst)))
 
-pub write-within : (d : Device) (io src : List ℕ) → writeCall d io src .count ≤ writeCall d io src .device .marks .write
+pub write-within : (d : Device) (io src : List ℕ) → writeDataCall d io src .count ≤ writeDataCall d io src .device .marks .write
 unfolding writeIn written appended fitting
 write-within d io src =
     let ys : List ℕ = limited (d .left) src in
@@ -190,7 +190,7 @@ write-within d io src =
     by-data (λ (o : Moving). o .count ≤ o .device .marks .write) 4 d io io _ (λ _. zero-le)
     (omega (arith, length-take-le (min free (length ys)) ys (min-le-right free (length ys))))
 
-pub write-all-within : (d : Device) (io src : List ℕ) → writeAllCall d io src .count ≤ writeAllCall d io src .device .marks .write
+pub write-all-within : (d : Device) (io src : List ℕ) → writeDataAllCall d io src .count ≤ writeDataAllCall d io src .device .marks .write
 unfolding writeAllIn writtenAll appended
 write-all-within d io src =
     let P : Moving → Type 0 = λ (o : Moving). o .count ≤ o .device .marks .write in
@@ -202,46 +202,46 @@ write-all-within d io src =
 
 -- These are the answer and the count if all is written or nothing.
 all-answer : (b : Bool) (n : ℕ) (d : Device) (t : Buffer)
-    → (cond b (leaving (answer 1) 0 d t) (leaving (answer 0) n d t) .answer ≡ cond b (answer 1) (answer 0)) × (cond b (leaving (answer 1) 0 d t) (leaving (answer 0) n d t) .count ≡ cond b 0 n)
+    → (cond b (movingTo (answer 1) 0 d t) (movingTo (answer 0) n d t) .answer ≡ cond b (answer 1) (answer 0)) × (cond b (movingTo (answer 1) 0 d t) (movingTo (answer 0) n d t) .count ≡ cond b 0 n)
 all-answer true n d t = (refl, refl)
 all-answer false n d t = (refl, refl)
 
 -- The record is whole.
 module _ (d : Device) (io : List ℕ) (w : Whole (numbersOf d) (length io)) where
   module _ (dst : List ℕ) where
-    pub read-whole : Whole (numbersOf (readCall d io dst .device)) (length io)
-    unfolding readOut readOff
+    pub read-whole : Whole (numbersOf (readDataCall d io dst .device)) (length io)
+    unfolding readFrom readOff
     read-whole =
         by-data (λ (o : Moving). Whole (numbersOf (o .device)) (length io)) 7 d io dst _ (λ _. w)
         (whole-marked d io w (readOff (length dst) (bufferOf d io) .marks) io (sound-readOff (length dst) (bufferOf d io) (sound d io w)) refl)
 
     module _ (h : isIn 7 d ≡ true) where
       -- The marks fix the count.
-      pub read-count : readCall d io dst .count ≡ min (unread (bufferOf d io)) (length dst)
-      unfolding readOut ready
+      pub read-count : readDataCall d io dst .count ≡ min (unread (bufferOf d io)) (length dst)
+      unfolding readFrom ready
       read-count = ap (λ (o : Moving). o .count) (data-done 7 d io dst _ w h)
 
       -- That many bytes are no longer unread; the destination gets them.
-      pub read-unread : unreadBytes (bufferOf (readCall d io dst .device) io) ≡ drop (readCall d io dst .count) (unreadBytes (bufferOf d io))
-      unfolding readOut readOff
+      pub read-unread : unreadBytes (bufferOf (readDataCall d io dst .device) io) ≡ drop (readDataCall d io dst .count) (unreadBytes (bufferOf d io))
+      unfolding readFrom readOff
       read-unread =
           subst (λ (o : Moving). unreadBytes (bufferOf (o .device) io) ≡ drop (o .count) (unreadBytes (bufferOf d io))) (sym (data-done 7 d io dst _ w h))
           (unread-readOff (length dst) (bufferOf d io) (sound d io w))
 
-      pub read-into : readCall d io dst .bytes ≡ overlay dst 0 (take (readCall d io dst .count) (unreadBytes (bufferOf d io)))
-      unfolding readOut given
+      pub read-into : readDataCall d io dst .bytes ≡ overlay dst 0 (take (readDataCall d io dst .count) (unreadBytes (bufferOf d io)))
+      unfolding readFrom readyBytes
       read-into =
           subst (λ (o : Moving). o .bytes ≡ overlay dst 0 (take (o .count) (unreadBytes (bufferOf d io)))) (sym (data-done 7 d io dst _ w h)) refl
 
   module _ (src : List ℕ) where
-    pub write-whole : Whole (numbersOf (writeCall d io src .device)) (length (writeCall d io src .bytes))
+    pub write-whole : Whole (numbersOf (writeDataCall d io src .device)) (length (writeDataCall d io src .bytes))
     unfolding writeIn
     write-whole =
         let ys : List ℕ = limited (d .left) src in
         by-data (λ (o : Moving). Whole (numbersOf (o .device)) (length (o .bytes))) 4 d io io _ (λ _. w)
         (whole-marked d io w (written ys (bufferOf d io) .marks) (written ys (bufferOf d io) .bytes) (sound-written ys (bufferOf d io) (sound d io w)) (length-written ys (bufferOf d io) (sound d io w)))
 
-    pub write-all-whole : Whole (numbersOf (writeAllCall d io src .device)) (length (writeAllCall d io src .bytes))
+    pub write-all-whole : Whole (numbersOf (writeDataAllCall d io src .device)) (length (writeDataAllCall d io src .bytes))
     unfolding writeAllIn
     write-all-whole =
         let P : Moving → Type 0 = λ (o : Moving). Whole (numbersOf (o .device)) (length (o .bytes)) in
@@ -252,7 +252,7 @@ module _ (d : Device) (io : List ℕ) (w : Whole (numbersOf d) (length io)) wher
 
     module _ (h : isIn 4 d ≡ true) where
       -- "at most `left` bytes a call"
-      pub write-most : writeCall d io src .count ≤ d .left .0
+      pub write-most : writeDataCall d io src .count ≤ d .left .0
       unfolding writeIn fitting limited
       write-most =
           let ys : List ℕ = limited (d .left) src in
@@ -261,7 +261,7 @@ module _ (d : Device) (io : List ℕ) (w : Whole (numbersOf d) (length io)) wher
 
       -- It is no fewer than it can be: it is limited only by what is left, by the source, and by the part of the buffer that is not
       -- unread.
-      pub write-count : writeCall d io src .count ≡ min (room-left (bufferOf d io)) (min (d .left .0) (length src))
+      pub write-count : writeDataCall d io src .count ≡ min (room-left (bufferOf d io)) (min (d .left .0) (length src))
       unfolding writeIn limited
       write-count =
           ap (λ (o : Moving). o .count) (data-done 4 d io io _ w h)
@@ -269,12 +269,12 @@ module _ (d : Device) (io : List ℕ) (w : Whole (numbersOf d) (length io)) wher
           ∙ ap (min (room-left (bufferOf d io))) (length-take (d .left .0) src)
 
       -- These are the first bytes of the source.
-      pub write-first : take (writeCall d io src .count) (limited (d .left) src) ≡ take (writeCall d io src .count) src
+      pub write-first : take (writeDataCall d io src .count) (limited (d .left) src) ≡ take (writeDataCall d io src .count) src
       unfolding limited
-      write-first = take-take (writeCall d io src .count) (d .left .0) src write-most
+      write-first = take-take (writeDataCall d io src .count) (d .left .0) src write-most
 
       -- That many bytes stand after the unread ones.
-      pub write-unread : unreadBytes (bufferOf (writeCall d io src .device) (writeCall d io src .bytes)) ≡ unreadBytes (bufferOf d io) ++ take (writeCall d io src .count) (limited (d .left) src)
+      pub write-unread : unreadBytes (bufferOf (writeDataCall d io src .device) (writeDataCall d io src .bytes)) ≡ unreadBytes (bufferOf d io) ++ take (writeDataCall d io src .count) (limited (d .left) src)
       unfolding writeIn
       write-unread =
           let ys : List ℕ = limited (d .left) src in
@@ -282,19 +282,19 @@ module _ (d : Device) (io : List ℕ) (w : Whole (numbersOf d) (length io)) wher
           (unread-written ys (bufferOf d io) (sound d io w))
 
       -- All of the source is written or none: the answer is 0 and the count its length, or 1 and 0.
-      pub write-all-answer : (writeAllCall d io src .answer ≡ cond (lacksRoom (length src) (bufferOf d io)) (answer 1) (answer 0)) × (writeAllCall d io src .count ≡ cond (lacksRoom (length src) (bufferOf d io)) 0 (length src))
+      pub write-all-answer : (writeDataAllCall d io src .answer ≡ cond (lacksRoom (length src) (bufferOf d io)) (answer 1) (answer 0)) × (writeDataAllCall d io src .count ≡ cond (lacksRoom (length src) (bufferOf d io)) 0 (length src))
       unfolding writeAllIn
       write-all-answer =
           let t : Buffer = writtenAll 0 src (bufferOf d io) in
           subst (λ (o : Moving). (o .answer ≡ cond (lacksRoom (length src) (bufferOf d io)) (answer 1) (answer 0)) × (o .count ≡ cond (lacksRoom (length src) (bufferOf d io)) 0 (length src)))
           (sym (data-done 4 d io io _ w h)) (all-answer (lacksRoom (length src) (bufferOf d io)) (length src) d t)
 
-      pub write-all-unread : unreadBytes (bufferOf (writeAllCall d io src .device) (writeAllCall d io src .bytes))
+      pub write-all-unread : unreadBytes (bufferOf (writeDataAllCall d io src .device) (writeDataAllCall d io src .bytes))
           ≡ cond (lacksRoom (length src) (bufferOf d io)) (unreadBytes (bufferOf d io)) (unreadBytes (bufferOf d io) ++ src)
       unfolding writeAllIn
       write-all-unread =
           let P : Moving → Type 0 = λ (o : Moving). unreadBytes (bufferOf (o .device) (o .bytes)) ≡ cond (lacksRoom (length src) (bufferOf d io)) (unreadBytes (bufferOf d io)) (unreadBytes (bufferOf d io) ++ src) in
-          let e : P (leaving (answer 0) 0 d (writtenAll 0 src (bufferOf d io))) = rw (max-eq-right zero-le) at (unread-writtenAll 0 src (bufferOf d io) (sound d io w)) in
+          let e : P (movingTo (answer 0) 0 d (writtenAll 0 src (bufferOf d io))) = rw (max-eq-right zero-le) at (unread-writtenAll 0 src (bufferOf d io) (sound d io w)) in
           subst P (sym (data-done 4 d io io _ w h)) (of-picked P (lacksRoom (length src) (bufferOf d io)) (λ _. e) (λ _. e))
 
 -- ---- the bus
@@ -302,20 +302,20 @@ module _ (d : Device) (io : List ℕ) (w : Whole (numbersOf d) (length io)) wher
 module _ (d : Device) (io : List ℕ) where
   -- "it does not empty the buffer": the marks stay, and so do the unread bytes.
   pub reset-keeps : bufferOf (resetCall d io .device) io ≡ bufferOf d io
-  unfolding resetCall entering
+  unfolding resetCall handlingOfReset
   reset-keeps = either d io (λ (o : Handling). bufferOf (o .device) io ≡ bufferOf d io) refl (λ _. refl)
 
-  pub reset-done : Whole (numbersOf d) (length io) → resetCall d io ≡ entering d
+  pub reset-done : Whole (numbersOf d) (length io) → resetCall d io ≡ handlingOfReset d
   unfolding resetCall
   reset-done w = passes d io w _ _
 
   pub reset-whole : Whole (numbersOf d) (length io) → Whole (numbersOf (resetCall d io .device)) (length io)
-  unfolding resetCall entering
+  unfolding resetCall handlingOfReset
   reset-whole w = either d io (λ (o : Handling). Whole (numbersOf (o .device)) (length io)) w (whole-entered d io)
 
   module _ (q : Request) where
-    pub by-request : (P : Handling → Type 0) → ((a : Answering) (bytes : List ℕ) → P (handling a Kept bytes d)) → (eqb (q .requesttype) 0xA1 ≡ true → eqb (q .request) 0xFF ≡ true → P (entering d)) → P (controlCall d io q)
-    unfolding controlCall served
+    pub by-request : (P : Handling → Type 0) → ((a : Answering) (bytes : List ℕ) → P (handling a Kept bytes d)) → (eqb (q .requesttype) 0xA1 ≡ true → eqb (q .request) 0xFF ≡ true → P (handlingOfReset d)) → P (controlCall d io q)
+    unfolding controlCall handlingOfRequest
     by-request P p e =
         either d io P (p (answer 10) [])
         (λ _. of-picked P (eqb (q .requesttype) 0xA1)
@@ -323,11 +323,11 @@ module _ (d : Device) (io : List ℕ) where
         (λ _. p (answer 0) []))
 
     pub control-keeps : bufferOf (controlCall d io q .device) io ≡ bufferOf d io
-    unfolding entering
+    unfolding handlingOfReset
     control-keeps = by-request (λ (o : Handling). bufferOf (o .device) io ≡ bufferOf d io) (λ _ _. refl) (λ _ _. refl)
 
     pub control-whole : Whole (numbersOf d) (length io) → Whole (numbersOf (controlCall d io q .device)) (length io)
-    unfolding entering
+    unfolding handlingOfReset
     control-whole w = by-request (λ (o : Handling). Whole (numbersOf (o .device)) (length io)) (λ _ _. w) (λ _ _. whole-entered d io w)
 
     -- A request that does not count changes nothing.
@@ -347,11 +347,11 @@ module _ (d : Device) (io : List ℕ) (w : Whole (numbersOf d) (length io)) wher
   unfolding commandCall
   command-done h = passes d io w _ _ ∙ rw h
 
-  pub step-done : isOffered d ≡ true → stepCall d io ≡ offering (d .wrapper .lun) (plainCall (blockOf (d .wrapper)))
-  unfolding stepCall
+  pub step-done : isOffered d ≡ true → commandStepCall d io ≡ steppingOfDecoding (d .wrapper .lun) (plainCall (blockOf (d .wrapper)))
+  unfolding commandStepCall
   step-done h = passes d io w _ _ ∙ rw h
 
   -- 13: "decoding an empty block"
-  pub step-empty : isOffered d ≡ true → d .wrapper .blocklength ≡ 0 → stepCall d io ≡ stepping (answer 13) []
-  unfolding blockOf offering plainCall decodeCall
+  pub step-empty : isOffered d ≡ true → d .wrapper .blocklength ≡ 0 → commandStepCall d io ≡ stepping (answer 13) []
+  unfolding blockOf steppingOfDecoding plainCall decodeCall
   step-empty h e = step-done h ∙ rw e

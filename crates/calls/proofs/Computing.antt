@@ -4,10 +4,10 @@ use Rattle.scsi.proofs.Computing as scsi
 use Rattle.device.proofs.Computing as device
 use Rattle.calls.specs.Checks.{isIn}
 use Rattle.calls.specs.Status.{takesStatus, withFigure, acceptedStatus, setStatusCall}
-use Rattle.calls.specs.Data.{worksIn, readOut, limited, writeIn, writeAllIn}
-use Rattle.calls.specs.Bus.{entering, resetCall, served, controlCall}
-use Rattle.calls.specs.Command.{isShown, commandCall, isOffered, offering, blockOf, stepCall}
+use Rattle.calls.specs.Data.{worksIn, readFrom, limited, writeIn, writeAllIn}
+use Rattle.calls.specs.Bus.{handlingOfReset, resetCall, handlingOfRequest, controlCall}
+use Rattle.calls.specs.Command.{isShown, commandCall, isOffered, steppingOfDecoding, blockOf, commandStepCall}
 
 unfoldable pub computing : Unit {0}
-unfolding isIn takesStatus withFigure acceptedStatus setStatusCall worksIn readOut limited writeIn writeAllIn entering resetCall served controlCall isShown commandCall isOffered offering blockOf stepCall wrapper.computing scsi.computing device.computing
+unfolding isIn takesStatus withFigure acceptedStatus setStatusCall worksIn readFrom limited writeIn writeAllIn handlingOfReset resetCall handlingOfRequest controlCall isShown commandCall isOffered steppingOfDecoding blockOf commandStepCall wrapper.computing scsi.computing device.computing
 computing = tt

@@ -12,7 +12,7 @@ use borrow.Author.Tests.{eq-eqb, ne-eqb, le-leb, lt-leb}
 use Rattle.fields.specs.Overlay.{overlay}
 use Rattle.fields.proofs.Bools.{not-true, not-false}
 use Rattle.buffer.specs.declared.Marks.{Marks}
-use Rattle.buffer.specs.Buffer.{Buffer, buffer, fitting, written, lacksRoom, writtenAll, ready, given, readOff}
+use Rattle.buffer.specs.Buffer.{Buffer, buffer, fitting, written, lacksRoom, writtenAll, ready, readyBytes, readOff}
 use Rattle.buffer.specs.Inner.Buffer.{Sound, Leaves}
 use Rattle.answers.specs.declared.Answer.the-variants.{Done, IoBufferOverflow, InvalidState, BrokenRecord, StatusRefused, EmptyBlock}
 use Rattle.answers.specs.declared.Stalls.the-variants.{Unstalled}
@@ -46,11 +46,11 @@ use Rattle.calls.specs.declared.Handled.{Handled}
 use Rattle.calls.specs.declared.command.Shown.{Shown}
 use Rattle.calls.specs.declared.command.Step.{Step}
 use Rattle.calls.specs.Checks.{isIn, bufferOf}
-use Rattle.calls.specs.Status.{stating, statedOf, takesStatus, withFigure, acceptedStatus, setStatusCall}
+use Rattle.calls.specs.Status.{stating, statingOf, takesStatus, withFigure, acceptedStatus, setStatusCall}
 use Rattle.calls.specs.Inner.Returned.{refuses, unmoved, movesTo, keeps, enters0, hides, offersNone}
-use Rattle.calls.specs.Data.{Moving, movedOf, worksIn, leaving, readOut, limited, writeIn, writeAllIn}
-use Rattle.calls.specs.Bus.{handledOf, entering, resetCall, served, controlCall}
-use Rattle.calls.specs.Command.{shownOf, showing, isShown, commandCall, offered, steppedOf, stepping, isOffered, offering, blockOf, stepCall}
+use Rattle.calls.specs.Data.{Moving, movingOf, worksIn, movingTo, readFrom, limited, writeIn, writeAllIn}
+use Rattle.calls.specs.Bus.{handlingOf, handlingOfReset, resetCall, handlingOfRequest, controlCall}
+use Rattle.calls.specs.Command.{showingOf, showing, isShown, commandCall, offered, steppingOf, stepping, isOffered, steppingOfDecoding, blockOf, commandStepCall}
 
 -- ---- the record
 
@@ -99,7 +99,7 @@ module _ (s : ℕ) where
   takes-in-7 n m k = rw (ne-eqb _ _ n, ne-eqb _ _ m, ne-eqb _ _ k)
 
 module _ (d : Device) (f : FirmwareStatus) {s : StatusByte} (h : csw.answerOf s ≡ csw.statusCall (f .status)) where
-  pub figure-refused : s ≡ Refused → {r : Stated} → r ≡ refuses d StatusRefused → statedOf r ≡ acceptedStatus d f
+  pub figure-refused : s ≡ Refused → {r : Stated} → r ≡ refuses d StatusRefused → statingOf r ≡ acceptedStatus d f
   unfolding acceptedStatus
   figure-refused k e = rw (e, lt-leb _ _ (status-above (f .status) (sym (ap csw.answerOf k) ∙ h)))
 
@@ -112,28 +112,28 @@ module _ (d : Device) (f : FirmwareStatus) {s : StatusByte} (h : csw.answerOf s 
       rw (le-leb _ _ (known .0), he, hr, same)
 
 module _ (d : Device) (io : List ℕ) (f : FirmwareStatus) {b : Bool} (h : b ≡ not (isWhole (numbersOf d) (length io))) where
-  pub status-broken : b ≡ true → {r : Stated} → r ≡ refuses d BrokenRecord → statedOf r ≡ setStatusCall d io f
+  pub status-broken : b ≡ true → {r : Stated} → r ≡ refuses d BrokenRecord → statingOf r ≡ setStatusCall d io f
   unfolding setStatusCall
   status-broken q e = rw e (breaks d io h _ _ q)
 
   module _ (q : b ≡ false) {n : ℕ} (hn : n ≡ stateNumber (d .state)) {t : Bool} (ht : t ≡ takesStatus n) where
-    pub status-taken : t ≡ true → (r : Stated) → statedOf r ≡ acceptedStatus d f → statedOf r ≡ setStatusCall d io f
+    pub status-taken : t ≡ true → (r : Stated) → statingOf r ≡ acceptedStatus d f → statingOf r ≡ setStatusCall d io f
     unfolding setStatusCall
     status-taken p r e = goes-on d io h _ q (rw (← hn, ← ht, p) e)
 
-    pub status-elsewhere : t ≡ false → {r : Stated} → r ≡ refuses d StatusRefused → statedOf r ≡ setStatusCall d io f
+    pub status-elsewhere : t ≡ false → {r : Stated} → r ≡ refuses d StatusRefused → statingOf r ≡ setStatusCall d io f
     unfolding setStatusCall
     status-elsewhere p e = rw e (goes-on d io h _ q (rw (← hn, ← ht, p)))
 
 -- ---- data
 
 module _ (state : ℕ) (d : Device) (io bytes : List ℕ) (done : Moving) {b : Bool} (h : b ≡ not (isWhole (numbersOf d) (length io))) where
-  pub data-broken : b ≡ true → {r : Moved} → r ≡ unmoved d BrokenRecord → movedOf r bytes ≡ worksIn state d io bytes done
+  pub data-broken : b ≡ true → {r : Moved} → r ≡ unmoved d BrokenRecord → movingOf r bytes ≡ worksIn state d io bytes done
   unfolding worksIn
   data-broken q e = rw e (breaks d io h _ _ q)
 
   module _ (q : b ≡ false) {t : Bool} (ht : t ≡ isIn state d) where
-    pub data-elsewhere : t ≡ false → {r : Moved} → r ≡ unmoved d InvalidState → movedOf r bytes ≡ worksIn state d io bytes done
+    pub data-elsewhere : t ≡ false → {r : Moved} → r ≡ unmoved d InvalidState → movingOf r bytes ≡ worksIn state d io bytes done
     unfolding worksIn
     data-elsewhere p e = rw e (goes-on d io h _ q (rw (← ht, p)))
 
@@ -142,8 +142,8 @@ module _ (state : ℕ) (d : Device) (io bytes : List ℕ) (done : Moving) {b : B
     data-done p e = goes-on d io h _ q (rw (← ht, p) e)
 
 pub reads : (d : Device) (s : Buffer) (dst : List ℕ) {n : ℕ} {m : Marks} {l : List ℕ} {r : Moved} → n ≡ ready (length dst) s → Leaves (buffer (s .bytes) m) (readOff (length dst) s)
-    → l ≡ overlay dst 0 (given (length dst) s) → r ≡ movesTo d m Done n → movedOf r l ≡ readOut d s dst
-unfolding readOut
+    → l ≡ overlay dst 0 (readyBytes (length dst) s) → r ≡ movesTo d m Done n → movingOf r l ≡ readFrom d s dst
+unfolding readFrom
 reads d s dst hn hm hl hr = rw (hr, hn, ap (λ (t : Buffer). t .marks) (hm .same), hl)
 
 -- `n` is the smaller of left and the source's length: these are the first `n` bytes of the source.
@@ -161,11 +161,11 @@ module _ (left : Left) (src : List ℕ) {n : ℕ} (h : n ≡ min (left .0) (leng
       ∙ take-length (take a src)
 
 -- Equal buffers give the same result of a write.
-left-by : (a : Answering) (count : ℕ) (d : Device) {io : List ℕ} {m : Marks} {t : Buffer} → Leaves (buffer io m) t → leaving a count d (buffer io m) ≡ leaving a count d t
-left-by a count d h = ap (leaving a count d) (h .same)
+left-by : (a : Answering) (count : ℕ) (d : Device) {io : List ℕ} {m : Marks} {t : Buffer} → Leaves (buffer io m) t → movingTo a count d (buffer io m) ≡ movingTo a count d t
+left-by a count d h = ap (movingTo a count d) (h .same)
 
 pub writes : (d : Device) (s : Buffer) (src : List ℕ) {n k : ℕ} {m : Marks} {io : List ℕ} {r : Moved} → n ≡ min (d .left .0) (length src)
-    → k ≡ fitting (length (take n src)) s → Leaves (buffer io m) (written (take n src) s) → r ≡ movesTo d m Done k → movedOf r io ≡ writeIn d s (limited (d .left) src)
+    → k ≡ fitting (length (take n src)) s → Leaves (buffer io m) (written (take n src) s) → r ≡ movesTo d m Done k → movingOf r io ≡ writeIn d s (limited (d .left) src)
 unfolding writeIn
 writes d s src {n} {k} {m} {io} hn hk hm hr =
     let e : take n src ≡ limited (d .left) src = cut (d .left) src hn in
@@ -181,34 +181,34 @@ module _ (d : Device) (s : Buffer) (src : List ℕ) {b : Bool} (hb : b ≡ not (
   lacks {x} q = flipped (lacksRoom (length src) s) x (sym q ∙ rw (max-eq-right zero-le) at hb)
 
   module _ {m : Marks} {io : List ℕ} (hm : Leaves (buffer io m) (writtenAll 0 src s)) {r : Moved} where
-    pub writes-all : b ≡ true → r ≡ movesTo d m Done (length src) → movedOf r io ≡ writeAllIn d s src
+    pub writes-all : b ≡ true → r ≡ movesTo d m Done (length src) → movingOf r io ≡ writeAllIn d s src
     unfolding writeAllIn
     writes-all q hr = rw (hr, ← lacks q) (left-by (answer 0) (length src) d hm)
 
-    pub overflows : b ≡ false → r ≡ movesTo d m IoBufferOverflow 0 → movedOf r io ≡ writeAllIn d s src
+    pub overflows : b ≡ false → r ≡ movesTo d m IoBufferOverflow 0 → movingOf r io ≡ writeAllIn d s src
     unfolding writeAllIn
     overflows q hr = rw (hr, ← lacks q) (left-by (answer 1) 0 d hm)
 
 -- ---- the bus
 
 module _ (d : Device) (io : List ℕ) {b : Bool} (h : b ≡ not (isWhole (numbersOf d) (length io))) where
-  pub reset-broken : b ≡ true → {r : Handled} → r ≡ keeps d BrokenRecord Nothing → handledOf r ≡ resetCall d io
+  pub reset-broken : b ≡ true → {r : Handled} → r ≡ keeps d BrokenRecord Nothing → handlingOf r ≡ resetCall d io
   unfolding resetCall
   reset-broken q e = rw e (breaks d io h _ _ q)
 
-  pub resets : b ≡ false → {r : Handled} → r ≡ enters0 d → handledOf r ≡ resetCall d io
-  unfolding resetCall entering
+  pub resets : b ≡ false → {r : Handled} → r ≡ enters0 d → handlingOf r ≡ resetCall d io
+  unfolding resetCall handlingOfReset
   resets q e = rw e (goes-on d io h _ q refl)
 
-  pub control-broken : (q : Request) → b ≡ true → {r : Handled} → r ≡ keeps d BrokenRecord Nothing → handledOf r ≡ controlCall d io q
+  pub control-broken : (q : Request) → b ≡ true → {r : Handled} → r ≡ keeps d BrokenRecord Nothing → handlingOf r ≡ controlCall d io q
   unfolding controlCall
   control-broken q p e = rw e (breaks d io h _ _ p)
 
-  pub control-counts : (q : Request) → b ≡ false → q .requesttype ≡ 0xA1 → (r : Handled) → handledOf r ≡ served (q .request) d → handledOf r ≡ controlCall d io q
+  pub control-counts : (q : Request) → b ≡ false → q .requesttype ≡ 0xA1 → (r : Handled) → handlingOf r ≡ handlingOfRequest (q .request) d → handlingOf r ≡ controlCall d io q
   unfolding controlCall
   control-counts q p a r e = goes-on d io h _ p (rw (eq-eqb _ _ a) e)
 
-  pub control-else : (q : Request) → b ≡ false → (q .requesttype ≡ 0xA1 → ⊥) → {r : Handled} → r ≡ keeps d Done Nothing → handledOf r ≡ controlCall d io q
+  pub control-else : (q : Request) → b ≡ false → (q .requesttype ≡ 0xA1 → ⊥) → {r : Handled} → r ≡ keeps d Done Nothing → handlingOf r ≡ controlCall d io q
   unfolding controlCall
   control-else q p a e = rw e (goes-on d io h _ p (rw (ne-eqb _ _ a)))
 
@@ -216,27 +216,27 @@ pub enters : (d : Device) {e : Device} → e ≡ entering0 d → _≡_ {A = Hand
 enters d h = rw h
 
 module _ (q : ℕ) (d : Device) {r : Handled} where
-  pub serves-FF : q ≡ 0xFF → r ≡ enters0 d → handledOf r ≡ served q d
-  unfolding served entering
+  pub serves-FF : q ≡ 0xFF → r ≡ enters0 d → handlingOf r ≡ handlingOfRequest q d
+  unfolding handlingOfRequest handlingOfReset
   serves-FF a e = rw (e, eq-eqb _ _ a)
 
-  pub serves-FE : (q ≡ 0xFF → ⊥) → q ≡ 0xFE → r ≡ keeps d Done (MaxLun (d .fixed .maxlun)) → handledOf r ≡ served q d
-  unfolding served
+  pub serves-FE : (q ≡ 0xFF → ⊥) → q ≡ 0xFE → r ≡ keeps d Done (MaxLun (d .fixed .maxlun)) → handlingOf r ≡ handlingOfRequest q d
+  unfolding handlingOfRequest
   serves-FE n a e = rw (e, ne-eqb _ _ n, eq-eqb _ _ a)
 
-  pub serves-else : (q ≡ 0xFF → ⊥) → (q ≡ 0xFE → ⊥) → r ≡ keeps d Done Nothing → handledOf r ≡ served q d
-  unfolding served
+  pub serves-else : (q ≡ 0xFF → ⊥) → (q ≡ 0xFE → ⊥) → r ≡ keeps d Done Nothing → handlingOf r ≡ handlingOfRequest q d
+  unfolding handlingOfRequest
   serves-else n m e = rw (e, ne-eqb _ _ n, ne-eqb _ _ m)
 
 -- ---- the command
 
 module _ (d : Device) (io : List ℕ) {b : Bool} (h : b ≡ not (isWhole (numbersOf d) (length io))) where
-  pub command-broken : b ≡ true → {r : Shown} → r ≡ hides BrokenRecord → shownOf r ≡ commandCall d io
+  pub command-broken : b ≡ true → {r : Shown} → r ≡ hides BrokenRecord → showingOf r ≡ commandCall d io
   unfolding commandCall
   command-broken q e = rw e (breaks d io h _ _ q)
 
   module _ (q : b ≡ false) {t : Bool} (ht : t ≡ isIn 0 d) where
-    pub command-hidden : t ≡ true → {r : Shown} → r ≡ hides Done → shownOf r ≡ commandCall d io
+    pub command-hidden : t ≡ true → {r : Shown} → r ≡ hides Done → showingOf r ≡ commandCall d io
     unfolding commandCall isShown
     command-hidden p e = rw e (goes-on d io h _ q (rw (← ht, p)))
 
@@ -244,18 +244,18 @@ module _ (d : Device) (io : List ℕ) {b : Bool} (h : b ≡ not (isWhole (number
     unfolding commandCall isShown
     command-shown p = goes-on d io h _ q (rw (← ht, p))
 
-  pub step-broken : b ≡ true → {r : Step} → r ≡ offersNone BrokenRecord → steppedOf r ≡ stepCall d io
-  unfolding stepCall
+  pub step-broken : b ≡ true → {r : Step} → r ≡ offersNone BrokenRecord → steppingOf r ≡ commandStepCall d io
+  unfolding commandStepCall
   step-broken q e = rw e (breaks d io h _ _ q)
 
   module _ (q : b ≡ false) {t : Bool} (ht : t ≡ isOffered d) where
-    pub step-offers : t ≡ true → (r : Step) → steppedOf r ≡ offering (d .wrapper .lun) (plainCall (take (d .wrapper .blocklength) (d .wrapper .block)))
-        → steppedOf r ≡ stepCall d io
-    unfolding stepCall blockOf
+    pub step-offers : t ≡ true → (r : Step) → steppingOf r ≡ steppingOfDecoding (d .wrapper .lun) (plainCall (take (d .wrapper .blocklength) (d .wrapper .block)))
+        → steppingOf r ≡ commandStepCall d io
+    unfolding commandStepCall blockOf
     step-offers p r hr = goes-on d io h _ q (rw (← ht, p) hr)
 
-    pub step-offers-not : t ≡ false → {r : Step} → r ≡ offersNone Done → steppedOf r ≡ stepCall d io
-    unfolding stepCall
+    pub step-offers-not : t ≡ false → {r : Step} → r ≡ offersNone Done → steppingOf r ≡ commandStepCall d io
+    unfolding commandStepCall
     step-offers-not p e = rw e (goes-on d io h _ q (rw (← ht, p)))
 
 module _ (d : Device) {t : Bool} (ht : t ≡ isIn 0 d) where
@@ -268,12 +268,12 @@ module _ (d : Device) {t : Bool} (ht : t ≡ isIn 0 d) where
   offers-by p e = rw (← ht, p, e)
 
 module _ (lun : ℕ) (block : List ℕ) {c : Decoded} (h : answerOf c ≡ plainCall block) where
-  pub decodes-none : c ≡ scsi.Empty → {r : Step} → r ≡ offersNone EmptyBlock → steppedOf r ≡ offering lun (plainCall block)
-  unfolding offering
+  pub decodes-none : c ≡ scsi.Empty → {r : Step} → r ≡ offersNone EmptyBlock → steppingOf r ≡ steppingOfDecoding lun (plainCall block)
+  unfolding steppingOfDecoding
   decodes-none k e = rw (← h, k, e)
 
-  pub decodes : {x : ScsiCommand} → c ≡ scsi.Command x → stepping (answer 0) (offered lun x ∷ []) ≡ offering lun (plainCall block)
-  unfolding offering
+  pub decodes : {x : ScsiCommand} → c ≡ scsi.Command x → stepping (answer 0) (offered lun x ∷ []) ≡ steppingOfDecoding lun (plainCall block)
+  unfolding steppingOfDecoding
   decodes k = rw (← h, k)
 
 pub ruleset ways = (judges, stands, block-fits, sound-then, takes-in-2, takes-in-4, takes-in-5, takes-in-7, figure-refused, figure-taken, status-broken, status-taken, status-elsewhere, data-broken, data-elsewhere, data-done, reads, writes, writes-all, overflows, enters, reset-broken, resets, control-broken, control-counts, control-else, serves-FF, serves-FE, serves-else, command-broken, command-hidden, command-shown, step-broken, step-offers, step-offers-not, offers-not, offers-by, decodes-none, decodes)

@@ -15,10 +15,10 @@ use Rattle.calls.specs.declared.command.Shown.{Shown}
 use Rattle.calls.specs.declared.command.Offer.{Offer}
 use Rattle.calls.specs.declared.command.Offer.the-variants as offer
 use Rattle.calls.specs.declared.command.Step.{Step}
-use Rattle.calls.specs.Status.{Stating, statedOf}
-use Rattle.calls.specs.Data.{Moving, movedOf}
-use Rattle.calls.specs.Bus.{Handling, replied, handledOf}
-use Rattle.calls.specs.Command.{Showing, shownOf, Offered, offers, Stepping, steppedOf}
+use Rattle.calls.specs.Status.{Stating, statingOf}
+use Rattle.calls.specs.Data.{Moving, movingOf}
+use Rattle.calls.specs.Bus.{Handling, replied, handlingOf}
+use Rattle.calls.specs.Command.{Showing, showingOf, Offered, offeredOf, Stepping, steppingOf}
 use Rattle.calls.proofs.set_status.Kinds as set-status-kinds
 use Rattle.calls.proofs.set_status.Reads as set-status
 use Rattle.calls.proofs.read_data.Kinds as read-data-kinds
@@ -42,17 +42,17 @@ use Rattle.calls.proofs.command.command_step.Reads as command-step
 abbrev unstated : Stating → Stated
 unstated o = record { device = o .device; answer = named (o .answer) }
 
-unstated-stated : (x : Stated) → unstated (statedOf x) ≡ x
+unstated-stated : (x : Stated) → unstated (statingOf x) ≡ x
 unstated-stated x = rw (named-answer (x .answer))
 
 -- This is the result of a read or write, without the bytes.
 abbrev unmoved : Moving → Moved
 unmoved o = record { device = o .device; report = record { answer = named (o .answer); count = o .count } }
 
-unmoved-moved : (x : Moved) (b : List ℕ) → unmoved (movedOf x b) ≡ x
+unmoved-moved : (x : Moved) (b : List ℕ) → unmoved (movingOf x b) ≡ x
 unmoved-moved x b = rw (named-answer (x .report .answer))
 
-moved-once : (x y : Moved) (b c : List ℕ) {o : Moving} → movedOf x b ≡ o → movedOf y c ≡ o → (x ≡ y) × (b ≡ c)
+moved-once : (x y : Moved) (b c : List ℕ) {o : Moving} → movingOf x b ≡ o → movingOf y c ≡ o → (x ≡ y) × (b ≡ c)
 moved-once x y b c p q =
     let e = p ∙ sym q in
     (sym (unmoved-moved x b) ∙ ap unmoved e ∙ unmoved-moved y c, ap (λ (o : Moving). o .bytes) e)
@@ -70,14 +70,14 @@ unreplied-replied (reply.MaxLun n) = refl
 abbrev unhandled : Handling → Handled
 unhandled o = record { device = o .device; report = record { answer = named (o .answer); stalls = o .stalls; reply = unreplied (o .bytes) } }
 
-unhandled-handled : (x : Handled) → unhandled (handledOf x) ≡ x
+unhandled-handled : (x : Handled) → unhandled (handlingOf x) ≡ x
 unhandled-handled x = rw (named-answer (x .report .answer), unreplied-replied (x .report .reply))
 
 -- This is the result of the call that shows the command.
 abbrev unshown : Showing → Shown
 unshown o = record { answer = named (o .answer); shown = o .shown; lun = o .lun; blocklength = o .blocklength; block = o .block }
 
-unshown-shown : (x : Shown) → unshown (shownOf x) ≡ x
+unshown-shown : (x : Shown) → unshown (showingOf x) ≡ x
 unshown-shown x = rw (named-answer (x .answer))
 
 -- In the result of a step, the list determines the offer.
@@ -85,7 +85,7 @@ unoffered : List Offered → Offer
 unoffered [] = offer.Nothing
 unoffered (o ∷ os) = offer.Command (o .lun) (o .command)
 
-unoffered-offered : (x : Offer) → unoffered (offers x) ≡ x
+unoffered-offered : (x : Offer) → unoffered (offeredOf x) ≡ x
 unfolding unoffered
 unoffered-offered offer.Nothing = refl
 unoffered-offered (offer.Command lun c) = refl
@@ -93,13 +93,13 @@ unoffered-offered (offer.Command lun c) = refl
 abbrev unstepped : Stepping → Step
 unstepped o = record { answer = named (o .answer); offer = unoffered (o .offers) }
 
-unstepped-stepped : (x : Step) → unstepped (steppedOf x) ≡ x
+unstepped-stepped : (x : Step) → unstepped (steppingOf x) ≡ x
 unstepped-stepped x = rw (named-answer (x .answer), unoffered-offered (x .offer))
 
 -- ---- the calls
 
 pub set-status-only : Only 1 set-status-kinds.ps set-status-kinds.r set-status.Post (λ κs s. tt {0})
-set-status-only κs a x y s t p q = (once statedOf unstated unstated-stated x y p q, refl)
+set-status-only κs a x y s t p q = (once statingOf unstated unstated-stated x y p q, refl)
 
 pub read-data-only : Only 2 read-data-kinds.ps read-data-kinds.r read-data.Post (λ κs s. now (s .1 .0))
 read-data-only κs a x y s t p q = moved-once x y _ _ p q
@@ -111,13 +111,13 @@ pub try-write-data-all-only : Only 2 try-write-data-all-kinds.ps try-write-data-
 try-write-data-all-only κs a x y s t p q = moved-once x y _ _ p q
 
 pub reset-only : Only 1 reset-kinds.ps reset-kinds.r reset.Post (λ κs s. tt {0})
-reset-only κs a x y s t p q = (once handledOf unhandled unhandled-handled x y p q, refl)
+reset-only κs a x y s t p q = (once handlingOf unhandled unhandled-handled x y p q, refl)
 
 pub control-only : Only 1 control-kinds.ps control-kinds.r control.Post (λ κs s. tt {0})
-control-only κs a x y s t p q = (once handledOf unhandled unhandled-handled x y p q, refl)
+control-only κs a x y s t p q = (once handlingOf unhandled unhandled-handled x y p q, refl)
 
 pub command-only : Only 1 command-kinds.ps command-kinds.r command.Post (λ κs s. tt {0})
-command-only κs a x y s t p q = (once shownOf unshown unshown-shown x y p q, refl)
+command-only κs a x y s t p q = (once showingOf unshown unshown-shown x y p q, refl)
 
 pub command-step-only : Only 1 command-step-kinds.ps command-step-kinds.r command-step.Post (λ κs s. tt {0})
-command-step-only κs a x y s t p q = (once steppedOf unstepped unstepped-stepped x y p q, refl)
+command-step-only κs a x y s t p q = (once steppingOf unstepped unstepped-stepped x y p q, refl)

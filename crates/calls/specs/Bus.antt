@@ -31,21 +31,21 @@ abbrev pub handling : Answering → Stalls → List ℕ → Device → Handling
 handling a stalls bytes d = record { answer = a; stalls = stalls; bytes = bytes; device = d }
 
 -- This reads what the code returned, `r`, as such a record.
-abbrev pub handledOf : Handled → Handling
-handledOf r = handling (answerOf (r .report .answer)) (r .report .stalls) (replied (r .report .reply)) (r .device)
+abbrev pub handlingOf : Handled → Handling
+handlingOf r = handling (answerOf (r .report .answer)) (r .report .stalls) (replied (r .report .reply)) (r .device)
 
 -- The record `d` enters 0, with the answer 0. "Entering 0 clears status and left and unstalls both"
-unfoldable pub entering : Device → Handling
-entering d = handling (answer 0) Unstalled [] (entering0 d)
+unfoldable pub handlingOfReset : Device → Handling
+handlingOfReset d = handling (answer 0) Unstalled [] (entering0 d)
 
 -- This is a reset, for any record `d` over any IO buffer `io`. "Reset enters 0."
 unfoldable pub resetCall : Device → List ℕ → Handling
-resetCall d io = unlessBroken d io (handling (answer 10) Kept [] d) (entering d)
+resetCall d io = unlessBroken d io (handling (answer 10) Kept [] d) (handlingOfReset d)
 
 -- A control request with the number `request` counts: "0xFF enters 0, 0xFE answers max LUN". Any other changes nothing.
-unfoldable pub served : ℕ → Device → Handling
-served request d =
-    cond (eqb request 0xFF) (entering d)
+unfoldable pub handlingOfRequest : ℕ → Device → Handling
+handlingOfRequest request d =
+    cond (eqb request 0xFF) (handlingOfReset d)
     (cond (eqb request 0xFE) (handling (answer 0) Kept (d .fixed .maxlun ∷ []) d) (handling (answer 0) Kept [] d))
 
 -- This is the control request `q`, for any record `d` over any IO buffer `io`. "A control request counts only if device to host, class
@@ -53,4 +53,4 @@ served request d =
 unfoldable pub controlCall : Device → List ℕ → Request → Handling
 controlCall d io q =
     unlessBroken d io (handling (answer 10) Kept [] d)
-    (cond (eqb (q .requesttype) 0xA1) (served (q .request) d) (handling (answer 0) Kept [] d))
+    (cond (eqb (q .requesttype) 0xA1) (handlingOfRequest (q .request) d) (handling (answer 0) Kept [] d))

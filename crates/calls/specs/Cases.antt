@@ -19,9 +19,9 @@ use Rattle.device.specs.Create.{fixed, newDevice}
 use Rattle.calls.specs.declared.FirmwareStatus.{FirmwareStatus}
 use Rattle.calls.specs.declared.Request.{Request}
 use Rattle.calls.specs.Status.{setStatusCall}
-use Rattle.calls.specs.Data.{readCall, writeCall, writeAllCall}
+use Rattle.calls.specs.Data.{readDataCall, writeDataCall, writeDataAllCall}
 use Rattle.calls.specs.Bus.{resetCall, controlCall}
-use Rattle.calls.specs.Command.{showing, offered, stepping, commandCall, stepCall}
+use Rattle.calls.specs.Command.{showing, offered, stepping, commandCall, commandStepCall}
 
 -- This device has P 8, max LUN 3 and an IO buffer of 32 bytes, three of which are unread. L is 512, and 2 bytes are left. The command is
 -- 12 01 80 00 FF, for LUN 1; `state` and `blocklength` are given.
@@ -57,23 +57,23 @@ table =
     -- 10 comes first: the lent buffer is a byte short.
     ∷ case (setStatusCall (device DataTransferToHost 5) (replicate 31 5) (figure 3 500) .answer) (answer 10)
     -- Three bytes are unread: a destination of two gets two, and one of five gets three.
-    ∷ case (readCall (device DataTransferFromHost 5) io (8 ∷ 8 ∷ []) .count) 2
-    ∷ case (readCall (device DataTransferFromHost 5) io (8 ∷ 8 ∷ []) .bytes) (2 ∷ 3 ∷ [])
-    ∷ case (readCall (device DataTransferFromHost 5) io (replicate 5 8) .count) 3
-    ∷ case (readCall (device DataTransferFromHost 5) io (replicate 5 8) .bytes) (2 ∷ 3 ∷ 4 ∷ 8 ∷ 8 ∷ [])
-    ∷ case (readCall (device DataTransferFromHost 5) io (replicate 5 8) .device .marks) (at 4 4)
-    ∷ case (readCall (device DataTransferToHost 5) io (8 ∷ 8 ∷ [])) (record { answer = answer 3; count = 0; device = device DataTransferToHost 5; bytes = 8 ∷ 8 ∷ [] })
+    ∷ case (readDataCall (device DataTransferFromHost 5) io (8 ∷ 8 ∷ []) .count) 2
+    ∷ case (readDataCall (device DataTransferFromHost 5) io (8 ∷ 8 ∷ []) .bytes) (2 ∷ 3 ∷ [])
+    ∷ case (readDataCall (device DataTransferFromHost 5) io (replicate 5 8) .count) 3
+    ∷ case (readDataCall (device DataTransferFromHost 5) io (replicate 5 8) .bytes) (2 ∷ 3 ∷ 4 ∷ 8 ∷ 8 ∷ [])
+    ∷ case (readDataCall (device DataTransferFromHost 5) io (replicate 5 8) .device .marks) (at 4 4)
+    ∷ case (readDataCall (device DataTransferToHost 5) io (8 ∷ 8 ∷ [])) (record { answer = answer 3; count = 0; device = device DataTransferToHost 5; bytes = 8 ∷ 8 ∷ [] })
     -- Two bytes are left: of a source of three, `write_data` takes two, and `try_write_data_all` takes three.
-    ∷ case (writeCall (device DataTransferToHost 5) io (6 ∷ 7 ∷ 8 ∷ []) .count) 2
-    ∷ case (writeCall (device DataTransferToHost 5) io (6 ∷ 7 ∷ 8 ∷ []) .bytes) (1 ∷ 2 ∷ 3 ∷ 4 ∷ 6 ∷ 7 ∷ replicate 26 5)
-    ∷ case (writeAllCall (device DataTransferToHost 5) io (6 ∷ 7 ∷ 8 ∷ []) .count) 3
-    ∷ case (writeAllCall (device DataTransferToHost 5) io (6 ∷ 7 ∷ 8 ∷ []) .device .marks) (at 1 7)
+    ∷ case (writeDataCall (device DataTransferToHost 5) io (6 ∷ 7 ∷ 8 ∷ []) .count) 2
+    ∷ case (writeDataCall (device DataTransferToHost 5) io (6 ∷ 7 ∷ 8 ∷ []) .bytes) (1 ∷ 2 ∷ 3 ∷ 4 ∷ 6 ∷ 7 ∷ replicate 26 5)
+    ∷ case (writeDataAllCall (device DataTransferToHost 5) io (6 ∷ 7 ∷ 8 ∷ []) .count) 3
+    ∷ case (writeDataAllCall (device DataTransferToHost 5) io (6 ∷ 7 ∷ 8 ∷ []) .device .marks) (at 1 7)
     -- 29 bytes fit after the move, and 30 do not: the move stays.
-    ∷ case (writeAllCall (device DataTransferToHost 5) io (replicate 29 6) .bytes) (2 ∷ 3 ∷ 4 ∷ replicate 29 6)
-    ∷ case (writeAllCall (device DataTransferToHost 5) io (replicate 30 6) .answer) (answer 1)
-    ∷ case (writeAllCall (device DataTransferToHost 5) io (replicate 30 6) .count) 0
-    ∷ case (writeAllCall (device DataTransferToHost 5) io (replicate 30 6) .device .marks) (at 0 3)
-    ∷ case (writeAllCall (device DataTransferToHost 5) io (replicate 30 6) .bytes) (2 ∷ 3 ∷ 4 ∷ 4 ∷ replicate 28 5)
+    ∷ case (writeDataAllCall (device DataTransferToHost 5) io (replicate 29 6) .bytes) (2 ∷ 3 ∷ 4 ∷ replicate 29 6)
+    ∷ case (writeDataAllCall (device DataTransferToHost 5) io (replicate 30 6) .answer) (answer 1)
+    ∷ case (writeDataAllCall (device DataTransferToHost 5) io (replicate 30 6) .count) 0
+    ∷ case (writeDataAllCall (device DataTransferToHost 5) io (replicate 30 6) .device .marks) (at 0 3)
+    ∷ case (writeDataAllCall (device DataTransferToHost 5) io (replicate 30 6) .bytes) (2 ∷ 3 ∷ 4 ∷ 4 ∷ replicate 28 5)
     -- A reset keeps the marks and clears left.
     ∷ case (resetCall (device DataTransferToHost 5) io .device .state) CommandTransfer
     ∷ case (resetCall (device DataTransferToHost 5) io .device .marks) (at 1 4)
@@ -85,9 +85,9 @@ table =
     -- A command is shown in every state but 0. It is offered while no status is present.
     ∷ case (commandCall (device CommandTransferInvalid 5) io) (showing (device CommandTransferInvalid 5 .wrapper))
     ∷ case (commandCall (device CommandTransfer 5) io .shown) false
-    ∷ case (stepCall (device DataTransferToHost 5) io) (stepping (answer 0) (offered 1 (Inquiry true 128 255) ∷ []))
-    ∷ case (stepCall (withStatus (Present PhaseError (record { 0 = 0 })) (device DataTransferToHost 5)) io) (stepping (answer 0) [])
-    ∷ case (stepCall (device CommandTransfer 5) io) (stepping (answer 0) [])
+    ∷ case (commandStepCall (device DataTransferToHost 5) io) (stepping (answer 0) (offered 1 (Inquiry true 128 255) ∷ []))
+    ∷ case (commandStepCall (withStatus (Present PhaseError (record { 0 = 0 })) (device DataTransferToHost 5)) io) (stepping (answer 0) [])
+    ∷ case (commandStepCall (device CommandTransfer 5) io) (stepping (answer 0) [])
     -- 13: the block is empty.
-    ∷ case (stepCall (device CommandTransferInvalid 0) io) (stepping (answer 13) [])
+    ∷ case (commandStepCall (device CommandTransferInvalid 0) io) (stepping (answer 13) [])
     ∷ []

@@ -5,7 +5,7 @@ use mathlib.Core.List.{List, [], _∷_, map}
 use lib.ListN.{take, replicate}
 use Rattle.answers.specs.Answers.{Answering, answer, answerOf}
 use Rattle.scsi.specs.declared.ScsiCommand.{ScsiCommand}
-use Rattle.scsi.specs.Decoding.{Answering as Decoding, plainCall}
+use Rattle.scsi.specs.Decoding.{Decoding, plainCall}
 use Rattle.wrapper.specs.declared.Wrapper.{Wrapper}
 use Rattle.device.specs.declared.Device.{Device}
 use Rattle.device.specs.Device.{isPresent}
@@ -28,8 +28,8 @@ pub record Showing : Type 0 where
   pub block : List ℕ
 
 -- This reads what the code returned, `r`, as such a record.
-abbrev pub shownOf : Shown → Showing
-shownOf r = record { answer = answerOf (r .answer); shown = r .shown; lun = r .lun; blocklength = r .blocklength; block = r .block }
+abbrev pub showingOf : Shown → Showing
+showingOf r = record { answer = answerOf (r .answer); shown = r .shown; lun = r .lun; blocklength = r .blocklength; block = r .block }
 
 -- The command of the wrapper `w` is shown, with the answer 0.
 abbrev pub showing : Wrapper → Showing
@@ -58,9 +58,9 @@ abbrev pub offered : ℕ → ScsiCommand → Offered
 offered lun c = record { lun = lun; command = c }
 
 -- A step of the code offers nothing, or one command; here that is a list.
-abbrev pub offers : Offer → List Offered
-offers Nothing = []
-offers (Command lun c) = offered lun c ∷ []
+abbrev pub offeredOf : Offer → List Offered
+offeredOf Nothing = []
+offeredOf (Command lun c) = offered lun c ∷ []
 
 -- The command step gives the answer and what it offers.
 pub record Stepping : Type 0 where
@@ -71,8 +71,8 @@ abbrev pub stepping : Answering → List Offered → Stepping
 stepping a os = record { answer = a; offers = os }
 
 -- This reads what the code returned, `r`, as such a record.
-abbrev pub steppedOf : Step → Stepping
-steppedOf r = stepping (answerOf (r .answer)) (offers (r .offer))
+abbrev pub steppingOf : Step → Stepping
+steppingOf r = stepping (answerOf (r .answer)) (offeredOf (r .offer))
 
 -- "the command step offers it when no status is present": `d` is the record, and the command must be shown too.
 unfoldable pub isOffered : Device → Bool
@@ -80,15 +80,15 @@ isOffered d = isShown d && not (isPresent (d .status))
 
 -- Decoding gave `o`: its command, if there is one, is offered with this `lun`. The answer is that of decoding; 13 is "decoding an empty
 -- block".
-unfoldable pub offering : ℕ → Decoding → Stepping
-offering lun o = stepping (answer (o .answer)) (map (offered lun) (o .commands))
+unfoldable pub steppingOfDecoding : ℕ → Decoding → Stepping
+steppingOfDecoding lun o = stepping (answer (o .answer)) (map (offered lun) (o .commands))
 
 -- This is the command block of the wrapper `w`: as many bytes as its block length says.
 unfoldable pub blockOf : Wrapper → List ℕ
 blockOf w = take (w .blocklength) (w .block)
 
 -- This is the command step, for any record `d` over any IO buffer `io`. "nothing offered gives 0".
-unfoldable pub stepCall : Device → List ℕ → Stepping
-stepCall d io =
+unfoldable pub commandStepCall : Device → List ℕ → Stepping
+commandStepCall d io =
     unlessBroken d io (stepping (answer 10) [])
-    (cond (isOffered d) (offering (d .wrapper .lun) (plainCall (blockOf (d .wrapper)))) (stepping (answer 0) []))
+    (cond (isOffered d) (steppingOfDecoding (d .wrapper .lun) (plainCall (blockOf (d .wrapper)))) (stepping (answer 0) []))

@@ -4,7 +4,7 @@ use mathlib.Core.Bool.{cond}
 use mathlib.Core.List.{List}
 use lib.ListN.{length, take}
 use Rattle.fields.specs.Overlay.{overlay}
-use Rattle.buffer.specs.Buffer.{Buffer, fitting, written, lacksRoom, writtenAll, ready, given, readOff}
+use Rattle.buffer.specs.Buffer.{Buffer, fitting, written, lacksRoom, writtenAll, ready, readyBytes, readOff}
 use Rattle.answers.specs.Answers.{Answering, answer, answerOf}
 use Rattle.wrapper.specs.declared.counters.Left.{Left}
 use Rattle.device.specs.declared.Device.{Device}
@@ -25,8 +25,8 @@ abbrev pub moving : Answering → ℕ → Device → List ℕ → Moving
 moving a count d bytes = record { answer = a; count = count; device = d; bytes = bytes }
 
 -- This reads what the code returned, `r`, with the `bytes` of that slice after it, as such a record.
-abbrev pub movedOf : Moved → List ℕ → Moving
-movedOf r bytes = moving (answerOf (r .report .answer)) (r .report .count) (r .device) bytes
+abbrev pub movingOf : Moved → List ℕ → Moving
+movingOf r bytes = moving (answerOf (r .report .answer)) (r .report .count) (r .device) bytes
 
 -- A call works only in the state with the number `state`, where it gives `done`. In any other the answer is 3, "read or write call in
 -- another state", and `bytes`, like the record `d`, are "all as before". 10 is checked first, over the IO buffer `io`.
@@ -36,16 +36,16 @@ worksIn state d io bytes done =
     (cond (isIn state d) done (moving (answer 3) 0 d bytes))
 
 -- A write leaves the buffer `t`: its marks go into the record `d`, and its bytes are the IO buffer.
-abbrev pub leaving : Answering → ℕ → Device → Buffer → Moving
-leaving a count d t = moving a count (withMarks (t .marks) d) (t .bytes)
+abbrev pub movingTo : Answering → ℕ → Device → Buffer → Moving
+movingTo a count d t = moving a count (withMarks (t .marks) d) (t .bytes)
 
 -- The first unread bytes of the buffer `s` go to the front of the destination `dst`, as many as it holds; the rest of `dst` stays.
-unfoldable pub readOut : Device → Buffer → List ℕ → Moving
-readOut d s dst = moving (answer 0) (ready (length dst) s) (withMarks (readOff (length dst) s .marks) d) (overlay dst 0 (given (length dst) s))
+unfoldable pub readFrom : Device → Buffer → List ℕ → Moving
+readFrom d s dst = moving (answer 0) (ready (length dst) s) (withMarks (readOff (length dst) s .marks) d) (overlay dst 0 (readyBytes (length dst) s))
 
 -- This is `read_data` into `dst`, for any record `d` over any IO buffer `io`. "`read_data` works in 7"
-abbrev pub readCall : Device → List ℕ → List ℕ → Moving
-readCall d io dst = worksIn 7 d io dst (readOut d (bufferOf d io) dst)
+abbrev pub readDataCall : Device → List ℕ → List ℕ → Moving
+readDataCall d io dst = worksIn 7 d io dst (readFrom d (bufferOf d io) dst)
 
 -- "`write_data` in 4, at most `left` bytes a call": of the source `src`, only the first `left` bytes are taken.
 unfoldable pub limited : Left → List ℕ → List ℕ
@@ -53,17 +53,17 @@ limited left src = take (left .0) src
 
 -- As many of the bytes `ys` as fit are written into the buffer `s`.
 unfoldable pub writeIn : Device → Buffer → List ℕ → Moving
-writeIn d s ys = leaving (answer 0) (fitting (length ys) s) d (written ys s)
+writeIn d s ys = movingTo (answer 0) (fitting (length ys) s) d (written ys s)
 
 -- This is `write_data` from `src`, for any record `d` over any IO buffer `io`.
-abbrev pub writeCall : Device → List ℕ → List ℕ → Moving
-writeCall d io src = worksIn 4 d io io (writeIn d (bufferOf d io) (limited (d .left) src))
+abbrev pub writeDataCall : Device → List ℕ → List ℕ → Moving
+writeDataCall d io src = worksIn 4 d io io (writeIn d (bufferOf d io) (limited (d .left) src))
 
 -- All of `src` is written into the buffer `s`. If it does not fit, nothing is written, and the answer is 1: "room, after moving, is below
 -- .. the source (`try_write_data_all`)"; "state and move reached stay".
 unfoldable pub writeAllIn : Device → Buffer → List ℕ → Moving
-writeAllIn d s src = cond (lacksRoom (length src) s) (leaving (answer 1) 0 d (writtenAll 0 src s)) (leaving (answer 0) (length src) d (writtenAll 0 src s))
+writeAllIn d s src = cond (lacksRoom (length src) s) (movingTo (answer 1) 0 d (writtenAll 0 src s)) (movingTo (answer 0) (length src) d (writtenAll 0 src s))
 
 -- This is `try_write_data_all` from `src`, for any record `d` over any IO buffer `io`. "`try_write_data_all` in 4, not limited by `left`"
-abbrev pub writeAllCall : Device → List ℕ → List ℕ → Moving
-writeAllCall d io src = worksIn 4 d io io (writeAllIn d (bufferOf d io) src)
+abbrev pub writeDataAllCall : Device → List ℕ → List ℕ → Moving
+writeDataAllCall d io src = worksIn 4 d io io (writeAllIn d (bufferOf d io) src)

@@ -23,8 +23,8 @@ abbrev pub stating : Answering → Device → Stating
 stating a d = record { answer = a; device = d }
 
 -- This reads what the code returned, `r`, as such a record.
-abbrev pub statedOf : Stated → Stating
-statedOf r = stating (answerOf (r .answer)) (r .device)
+abbrev pub statingOf : Stated → Stating
+statingOf r = stating (answerOf (r .answer)) (r .device)
 
 -- "`set_status` is accepted in 2, 4, 5, 7": `state` is the number of the state.
 unfoldable pub takesStatus : ℕ → Bool

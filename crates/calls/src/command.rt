@@ -10,7 +10,7 @@ ghost use mathlib.Core.Path.{_≡_};
 ghost use Prim.Native.Nat.{_≤_};
 ghost use lib.ListN.{take};
 ghost use Rattle.scsi.specs.Decoding.{plainCall};
-ghost use Rattle.calls.specs.Command.{shownOf, commandCall, steppedOf, isOffered, offering, stepCall};
+ghost use Rattle.calls.specs.Command.{showingOf, commandCall, steppingOf, isOffered, steppingOfDecoding, commandStepCall};
 ghost use Rattle.calls.specs.Inner.Returned.{hides, offersNone};
 
 // The call that shows the command gives the answer, whether a command is shown, its LUN, and its block: the first `blocklength` bytes of
@@ -51,7 +51,7 @@ fn hidden(answer: Answer) -> Shown
 
 // The command is shown in every state but 0.
 pub fn command(device: Device, io: &[u8]) -> Shown
-    ensures { λ r. ⌜ shownOf r ≡ commandCall device (now (io .entry)) ⌝ }
+    ensures { λ r. ⌜ showingOf r ≡ commandCall device (now (io .entry)) ⌝ }
 {
     if broken(device, io.len()) {
         return hidden(Answer::BrokenRecord);
@@ -83,7 +83,7 @@ fn nothing(answer: Answer) -> Step
 // The first `blocklength` bytes of `block` are decoded, and the command is offered with this `lun`.
 fn decoded(lun: u8, blocklength: u8, block: [u8; 16]) -> Step
     requires { ⌜ blocklength ≤ 16 ⌝ }
-    ensures { λ r. ⌜ steppedOf r ≡ offering lun (plainCall (take blocklength block)) ⌝ }
+    ensures { λ r. ⌜ steppingOf r ≡ steppingOfDecoding lun (plainCall (take blocklength block)) ⌝ }
 {
     let n = blocklength as usize;
     let d = scsi::decode(&block[..n]);
@@ -109,7 +109,7 @@ fn offers(device: Device) -> bool
 
 // The command step offers the command, decoded, while the firmware has set no status for it.
 pub fn command_step(device: Device, io: &[u8]) -> Step
-    ensures { λ r. ⌜ steppedOf r ≡ stepCall device (now (io .entry)) ⌝ }
+    ensures { λ r. ⌜ steppingOf r ≡ commandStepCall device (now (io .entry)) ⌝ }
 {
     if broken(device, io.len()) {
         return nothing(Answer::BrokenRecord);

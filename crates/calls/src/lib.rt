@@ -25,10 +25,10 @@ ghost use Prim.Native.Nat.{min};
 ghost use Rattle.device.specs.Device.{numbersOf, withStatus};
 ghost use Rattle.device.specs.Broken.{isWhole};
 ghost use Rattle.calls.specs.Checks.{isIn};
-ghost use Rattle.calls.specs.Status.{statedOf, takesStatus, acceptedStatus, setStatusCall};
+ghost use Rattle.calls.specs.Status.{statingOf, takesStatus, acceptedStatus, setStatusCall};
 ghost use Rattle.calls.specs.Inner.Returned.{refuses, unmoved, movesTo, keeps, enters0};
-ghost use Rattle.calls.specs.Data.{movedOf, readCall, writeCall, writeAllCall};
-ghost use Rattle.calls.specs.Bus.{handledOf, served, resetCall, controlCall};
+ghost use Rattle.calls.specs.Data.{movingOf, readDataCall, writeDataCall, writeDataAllCall};
+ghost use Rattle.calls.specs.Bus.{handlingOf, handlingOfRequest, resetCall, controlCall};
 
 // The firmware gives a status byte and its figure: how many bytes it dealt with.
 pub struct FirmwareStatus {
@@ -137,7 +137,7 @@ fn untaken(device: Device, answer: Answer) -> Stated
 
 // The state accepts a status; a status byte above 2 is still refused.
 fn accept(device: Device, given: FirmwareStatus) -> Stated
-    ensures { λ r. ⌜ statedOf r ≡ acceptedStatus device given ⌝ }
+    ensures { λ r. ⌜ statingOf r ≡ acceptedStatus device given ⌝ }
 {
     let byte = status_of(given.status);
     match byte {
@@ -156,7 +156,7 @@ fn accept(device: Device, given: FirmwareStatus) -> Stated
 
 // The firmware sets the status of the command; a later one replaces the earlier.
 pub fn set_status(device: Device, io: &[u8], given: FirmwareStatus) -> Stated
-    ensures { λ r. ⌜ statedOf r ≡ setStatusCall device (now (io .entry)) given ⌝ }
+    ensures { λ r. ⌜ statingOf r ≡ setStatusCall device (now (io .entry)) given ⌝ }
 {
     if broken(device, io.len()) {
         return untaken(device, Answer::BrokenRecord);
@@ -200,7 +200,7 @@ fn left_at(device: Device, marks: Marks, answer: Answer, count: usize) -> Moved
 
 // The first unread bytes go to `dst`, as many as it holds.
 pub fn read_data(device: Device, dst: &mut [u8], io: &[u8]) -> Moved
-    ensures { λ r. ⌜ movedOf r (now (dst .exit)) ≡ readCall device (now (io .entry)) (now (dst .entry)) ⌝ }
+    ensures { λ r. ⌜ movingOf r (now (dst .exit)) ≡ readDataCall device (now (io .entry)) (now (dst .entry)) ⌝ }
 {
     if broken(device, io.len()) {
         return refused(device, Answer::BrokenRecord);
@@ -216,7 +216,7 @@ pub fn read_data(device: Device, dst: &mut [u8], io: &[u8]) -> Moved
 
 // The first bytes of `src` go into the buffer: as many as fit, and no more than are left.
 pub fn write_data(device: Device, io: &mut [u8], src: &[u8]) -> Moved
-    ensures { λ r. ⌜ movedOf r (now (io .exit)) ≡ writeCall device (now (io .entry)) (now (src .entry)) ⌝ }
+    ensures { λ r. ⌜ movingOf r (now (io .exit)) ≡ writeDataCall device (now (io .entry)) (now (src .entry)) ⌝ }
 {
     if broken(device, io.len()) {
         return refused(device, Answer::BrokenRecord);
@@ -234,7 +234,7 @@ pub fn write_data(device: Device, io: &mut [u8], src: &[u8]) -> Moved
 
 // All of `src` goes into the buffer, or nothing; left does not limit it.
 pub fn try_write_data_all(device: Device, io: &mut [u8], src: &[u8]) -> Moved
-    ensures { λ r. ⌜ movedOf r (now (io .exit)) ≡ writeAllCall device (now (io .entry)) (now (src .entry)) ⌝ }
+    ensures { λ r. ⌜ movingOf r (now (io .exit)) ≡ writeDataAllCall device (now (io .entry)) (now (src .entry)) ⌝ }
 {
     if broken(device, io.len()) {
         return refused(device, Answer::BrokenRecord);
@@ -294,7 +294,7 @@ fn enter(device: Device) -> Handled
 
 // The bus was reset.
 pub fn reset(device: Device, io: &[u8]) -> Handled
-    ensures { λ r. ⌜ handledOf r ≡ resetCall device (now (io .entry)) ⌝ }
+    ensures { λ r. ⌜ handlingOf r ≡ resetCall device (now (io .entry)) ⌝ }
 {
     if broken(device, io.len()) {
         return kept(device, Answer::BrokenRecord, Reply::Nothing);
@@ -304,7 +304,7 @@ pub fn reset(device: Device, io: &[u8]) -> Handled
 
 // The control request counts; only its number, `request`, decides.
 fn serve(device: Device, request: u8) -> Handled
-    ensures { λ r. ⌜ handledOf r ≡ served request device ⌝ }
+    ensures { λ r. ⌜ handlingOf r ≡ handlingOfRequest request device ⌝ }
 {
     if request == 0xFF {
         return enter(device);
@@ -317,7 +317,7 @@ fn serve(device: Device, request: u8) -> Handled
 
 // A control request counts only if it goes from device to host, is a class request, and is for an interface.
 pub fn control(device: Device, io: &[u8], request: Request) -> Handled
-    ensures { λ r. ⌜ handledOf r ≡ controlCall device (now (io .entry)) request ⌝ }
+    ensures { λ r. ⌜ handlingOf r ≡ controlCall device (now (io .entry)) request ⌝ }
 {
     if broken(device, io.len()) {
         return kept(device, Answer::BrokenRecord, Reply::Nothing);

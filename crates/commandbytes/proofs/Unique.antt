@@ -5,15 +5,15 @@ use mathlib.Core.List.{List}
 use Prim.Native.Nat.{ℕ}
 use denote.Ref.{now}
 use Rattle.fields.proofs.Only.{Only}
-use Rattle.commandbytes.specs.Command.{Shown, shows}
+use Rattle.commandbytes.specs.Command.{CommandOutcome, commandOutcome}
 use Rattle.commandbytes.proofs.command.Kinds as command-kinds
 use Rattle.commandbytes.proofs.command.Reads as command
 use Rattle.commandbytes.proofs.command_step.Kinds as command-step-kinds
 use Rattle.commandbytes.proofs.command_step.Reads as command-step
 
 -- What a call leaves tells its result, and what the caller lent for the command.
-pub shown-once : {n k : ℕ} {l m : List ℕ} → shows n l ≡ shows k m → (n ≡ k) × (l ≡ m)
-shown-once e = (ap (λ (o : Shown). o .result) e, ap (λ (o : Shown). o .lent) e)
+pub shown-once : {n k : ℕ} {l m : List ℕ} → commandOutcome n l ≡ commandOutcome k m → (n ≡ k) × (l ≡ m)
+shown-once e = (ap (λ (o : CommandOutcome). o .result) e, ap (λ (o : CommandOutcome). o .lent) e)
 
 -- The record is lent only for reading.
 pub command-only : Only 3 command-kinds.ps command-kinds.r command.Post (λ κs s. now (s .1 .1 .0))

@@ -12,13 +12,13 @@ use scsi::numbers::put_command;
 ghost use mathlib.Core.Path.{_≡_};
 ghost use lib.ListN.{length};
 ghost use Rattle.answers.specs.Answers.{answerOf};
-ghost use Rattle.calls.specs.Command.{shownOf, offers};
-ghost use Rattle.commandbytes.specs.Command.{shows, shown, commandOn, offered, stepOn};
+ghost use Rattle.calls.specs.Command.{showingOf, offeredOf};
+ghost use Rattle.commandbytes.specs.Command.{commandOutcome, commandOutcomeOf, commandOn, commandOutcomeOfStep, commandStepOn};
 
 // Puts the block of a command that is shown into the lent bytes `block`.
 fn show(c: Shown, block: &mut [u8]) -> u64
     requires { ⌜ length (now block) ≡ 16 ⌝ }
-    ensures { λ x. ⌜ shows x (now (block .exit)) ≡ shown (now (block .entry)) (shownOf c) ⌝ }
+    ensures { λ x. ⌜ commandOutcome x (now (block .exit)) ≡ commandOutcomeOf (now (block .entry)) (showingOf c) ⌝ }
 {
     let answer = c.answer;
     let bytes = c.block;
@@ -32,7 +32,7 @@ fn show(c: Shown, block: &mut [u8]) -> u64
 
 // Shows the command: its block goes into `block`, its LUN and the block length into the result.
 pub fn command(record: &[u8], io: &[u8], block: &mut [u8]) -> u64
-    ensures { λ x. ⌜ shows x (now (block .exit)) ≡ commandOn (now («record» .entry)) (now (io .entry)) (now (block .entry)) ⌝ }
+    ensures { λ x. ⌜ commandOutcome x (now (block .exit)) ≡ commandOn (now («record» .entry)) (now (io .entry)) (now (block .entry)) ⌝ }
 {
     if block.len() != 16 {
         return 10;
@@ -47,7 +47,7 @@ pub fn command(record: &[u8], io: &[u8], block: &mut [u8]) -> u64
 // Puts a command that is offered into the six lent numbers `command`.
 fn offer(s: Step, command: &mut [u64]) -> u64
     requires { ⌜ length (now command) ≡ 6 ⌝ }
-    ensures { λ x. ⌜ shows x (now (command .exit)) ≡ offered (answerOf (s .answer) .number) (now (command .entry)) (offers (s .offer)) ⌝ }
+    ensures { λ x. ⌜ commandOutcome x (now (command .exit)) ≡ commandOutcomeOfStep (answerOf (s .answer) .number) (now (command .entry)) (offeredOf (s .offer)) ⌝ }
 {
     let answer = s.answer;
     let number = answer_number(answer);
@@ -63,7 +63,7 @@ fn offer(s: Step, command: &mut [u64]) -> u64
 
 // Offers the command, decoded: its numbers go into `command`, its LUN into the result.
 pub fn command_step(record: &[u8], io: &[u8], command: &mut [u64]) -> u64
-    ensures { λ x. ⌜ shows x (now (command .exit)) ≡ stepOn (now («record» .entry)) (now (io .entry)) (now (command .entry)) ⌝ }
+    ensures { λ x. ⌜ commandOutcome x (now (command .exit)) ≡ commandStepOn (now («record» .entry)) (now (io .entry)) (now (command .entry)) ⌝ }
 {
     if command.len() != 6 {
         return 10;

@@ -15,21 +15,21 @@ use Rattle.device.specs.Device.{numbersOf, withMarks}
 use Rattle.device.specs.Broken.{Whole}
 use Rattle.device.proofs.Wholly.{size-most}
 use Rattle.calls.specs.declared.Moved.{Moved}
-use Rattle.calls.specs.Data.{Moving, moving, movedOf, readCall, writeCall, writeAllCall}
+use Rattle.calls.specs.Data.{Moving, moving, movingOf, readDataCall, writeDataCall, writeDataAllCall}
 use Rattle.calls.proofs.After.{Tells10, read-tells, read-keeps, read-whole, read-within, write-tells, write-keeps, write-whole, write-within, write-all-tells, write-all-keeps, write-all-whole, write-all-within}
 use Rattle.recordbytes.specs.Record.{isKnown, deviceAt, storeMarks, storeDevice}
 use Rattle.recordbytes.proofs.Stored.{Known, is-known}
 use Rattle.recordbytes.proofs.Parts.{device-kept, marks-alone}
-use Rattle.border.specs.Word.{word, plain}
+use Rattle.border.specs.Word.{word, answerWord}
 use Rattle.border.specs.Record.{onDevice}
 use Rattle.border.proofs.Lending.{known-then, long-then, unknown, made}
-use Rattle.databytes.specs.Data.{moves, moved, readOn, writeOn, writeAllOn}
-use Rattle.databytes.specs.Inner.Data.{Storable, is10}
+use Rattle.databytes.specs.Data.{dataOutcome, dataOutcomeOf, readDataOn, writeDataOn, writeDataAllOn}
+use Rattle.databytes.specs.Inner.Data.{StorableMove, is10}
 
 -- ---- what is stored
 
 -- The marks of a whole device fit into 32 bits, and so does a count that is not above its write mark.
-fits : (m : Moved) (len : ℕ) → Whole (numbersOf (m .device)) len → m .report .count ≤ m .device .marks .write → Storable m
+fits : (m : Moved) (len : ℕ) → Whole (numbersOf (m .device)) len → m .report .count ≤ m .device .marks .write → StorableMove m
 fits m len w h =
     let most = size-most (numbersOf (m .device)) len w in
     record { read = omega (arith, w .order, w .within, most); write = omega (arith, w .within, most); count = omega (arith, h, w .within, most) }
@@ -41,7 +41,7 @@ module _ (m : Moved) {n : ℕ} (en : n ≡ answerOf (m .report .answer) .number)
   done-is : (n ≡ 10 → ⊥) → is10 m ≡ false
   done-is q = ne-eqb _ _ (λ e. q (en ∙ e))
 
-  module _ (q : n ≡ 10 → ⊥) (f : is10 m ≡ false → Storable m) where
+  module _ (q : n ≡ 10 → ⊥) (f : is10 m ≡ false → StorableMove m) where
     pub read-small : m .device .marks .read < 2 ^ 32
     read-small = f (done-is q) .read
 
@@ -52,11 +52,11 @@ module _ (m : Moved) {n : ℕ} (en : n ≡ answerOf (m .report .answer) .number)
     count-small = f (done-is q) .count
 
   -- The result, and the record's bytes.
-  pub tells-10 : n ≡ 10 → 10 ≡ cond (is10 m) (plain 10) (word (answerOf (m .report .answer) .number) 0 0 0 (m .report .count))
+  pub tells-10 : n ≡ 10 → 10 ≡ cond (is10 m) (answerWord 10) (word (answerOf (m .report .answer) .number) 0 0 0 (m .report .count))
   unfolding word
   tells-10 q = rw (refused-is q)
 
-  pub counts : (n ≡ 10 → ⊥) → {k x : ℕ} → k ≡ m .report .count → x ≡ word n 0 0 0 k → x ≡ cond (is10 m) (plain 10) (word (answerOf (m .report .answer) .number) 0 0 0 (m .report .count))
+  pub counts : (n ≡ 10 → ⊥) → {k x : ℕ} → k ≡ m .report .count → x ≡ word n 0 0 0 k → x ≡ cond (is10 m) (answerWord 10) (word (answerOf (m .report .answer) .number) 0 0 0 (m .report .count))
   counts q ek ex = rw (done-is q, ← en, ← ek) ex
 
   pub stays : (r : List ℕ) → n ≡ 10 → r ≡ cond (is10 m) r (storeMarks (m .device .marks) r)
@@ -68,46 +68,46 @@ module _ (m : Moved) {n : ℕ} (en : n ≡ answerOf (m .report .answer) .number)
 -- ---- a call
 
 -- What the call by value returned is 10 just where its definition says 10.
-same-10 : (m : Moved) (b : List ℕ) {o : Moving} → movedOf m b ≡ o → eqb (o .answer .number) 10 ≡ is10 m
+same-10 : (m : Moved) (b : List ℕ) {o : Moving} → movingOf m b ≡ o → eqb (o .answer .number) 10 ≡ is10 m
 same-10 m b to = sym (ap (λ (x : Moving). eqb (x .answer .number) 10) to)
 
 -- A record that the call refused stays; of any other only the marks changed.
 module _ (r bytes io : List ℕ) (known : Known r) (o : Moving) (tells : Tells10 (deviceAt r) io bytes o) (keeps : withMarks (deviceAt r .marks) (o .device) ≡ deviceAt r)
-    (m : Moved) (b : List ℕ) (to : movedOf m b ≡ o) {x : ℕ} {l : List ℕ}
-    (ex : x ≡ cond (is10 m) (plain 10) (word (answerOf (m .report .answer) .number) 0 0 0 (m .report .count))) (el : l ≡ cond (is10 m) r (storeMarks (m .device .marks) r)) where
-  refused-comes : is10 m ≡ true → moves x l b ≡ moved r o
+    (m : Moved) (b : List ℕ) (to : movingOf m b ≡ o) {x : ℕ} {l : List ℕ}
+    (ex : x ≡ cond (is10 m) (answerWord 10) (word (answerOf (m .report .answer) .number) 0 0 0 (m .report .count))) (el : l ≡ cond (is10 m) r (storeMarks (m .device .marks) r)) where
+  refused-comes : is10 m ≡ true → dataOutcome x l b ≡ dataOutcomeOf r o
   refused-comes ten =
       let is : o ≡ moving (answer 10) 0 (deviceAt r) bytes = tells .broken (same-10 m b to ∙ ten) in
       let stays : b ≡ bytes = ap (λ (y : Moving). y .bytes) (to ∙ is) in
-      rw (ex, el, ten, stays) (ap (λ (z : List ℕ). moves (plain 10) z bytes) (sym (device-kept r known)) ∙ ap (moved r) (sym is))
+      rw (ex, el, ten, stays) (ap (λ (z : List ℕ). dataOutcome (answerWord 10) z bytes) (sym (device-kept r known)) ∙ ap (dataOutcomeOf r) (sym is))
 
-  done-comes : is10 m ≡ false → moves x l b ≡ moved r o
+  done-comes : is10 m ≡ false → dataOutcome x l b ≡ dataOutcomeOf r o
   done-comes other =
       let alone : m .device ≡ withMarks (m .device .marks) (deviceAt r) =
       ap (λ (y : Moving). withMarks (m .device .marks) (withMarks (deviceAt r .marks) (y .device))) to ∙ ap (withMarks (m .device .marks)) keeps in
       let kept : storeMarks (m .device .marks) r ≡ storeDevice (m .device) r = sym (marks-alone r known (m .device .marks)) ∙ ap (λ (d : Device). storeDevice d r) (sym alone) in
-      rw (ex, el, other, kept) (ap (moved r) to)
+      rw (ex, el, other, kept) (ap (dataOutcomeOf r) to)
 
-  comes : moves x l b ≡ moved r o
+  comes : dataOutcome x l b ≡ dataOutcomeOf r o
   comes = cases (is10 m) refused-comes done-comes
 
 module _ (r io dst : List ℕ) {k : Bool} (ek : k ≡ isKnown r) where
-  pub read-unknown : not k ≡ true → moves 10 r dst ≡ readOn r io dst
-  unfolding readOn word
-  read-unknown q = unknown r ek (moves (plain 10) r dst) (λ (d : Device). moved r (readCall d io dst)) q
+  pub read-unknown : not k ≡ true → dataOutcome 10 r dst ≡ readDataOn r io dst
+  unfolding readDataOn word
+  read-unknown q = unknown r ek (dataOutcome (answerWord 10) r dst) (λ (d : Device). dataOutcomeOf r (readDataCall d io dst)) q
 
-  module _ (q : not k ≡ false) (m : Moved) (dst′ : List ℕ) {d : Device} (ed : d ≡ deviceAt r) (em : movedOf m dst′ ≡ readCall d io dst) where
-    read-is : movedOf m dst′ ≡ readCall (deviceAt r) io dst
+  module _ (q : not k ≡ false) (m : Moved) (dst′ : List ℕ) {d : Device} (ed : d ≡ deviceAt r) (em : movingOf m dst′ ≡ readDataCall d io dst) where
+    read-is : movingOf m dst′ ≡ readDataCall (deviceAt r) io dst
     read-is = rw ed at em
 
-    pub read-made : {x : ℕ} {l : List ℕ} → (x ≡ cond (is10 m) (plain 10) (word (answerOf (m .report .answer) .number) 0 0 0 (m .report .count))) × (l ≡ cond (is10 m) r (storeMarks (m .device .marks) r)) → moves x l dst′ ≡ readOn r io dst
-    unfolding readOn
+    pub read-made : {x : ℕ} {l : List ℕ} → (x ≡ cond (is10 m) (answerWord 10) (word (answerOf (m .report .answer) .number) 0 0 0 (m .report .count))) × (l ≡ cond (is10 m) r (storeMarks (m .device .marks) r)) → dataOutcome x l dst′ ≡ readDataOn r io dst
+    unfolding readDataOn
     read-made e =
         let test = known-then r ek q in
-        comes r dst io (is-known r test) (readCall (deviceAt r) io dst) (read-tells (deviceAt r) io dst) (read-keeps (deviceAt r) io dst) m dst′ read-is (e .0) (e .1)
-        ∙ made r (moves (plain 10) r dst) (λ (d : Device). moved r (readCall d io dst)) test
+        comes r dst io (is-known r test) (readDataCall (deviceAt r) io dst) (read-tells (deviceAt r) io dst) (read-keeps (deviceAt r) io dst) m dst′ read-is (e .0) (e .1)
+        ∙ made r (dataOutcome (answerWord 10) r dst) (λ (d : Device). dataOutcomeOf r (readDataCall d io dst)) test
 
-    pub read-fits : is10 m ≡ false → Storable m
+    pub read-fits : is10 m ≡ false → StorableMove m
     read-fits other =
         let whole = read-tells (deviceAt r) io dst .whole (same-10 m dst′ read-is ∙ other) in
         fits m (length io)
@@ -115,22 +115,22 @@ module _ (r io dst : List ℕ) {k : Bool} (ek : k ≡ isKnown r) where
         (subst (λ (o : Moving). o .count ≤ o .device .marks .write) (sym read-is) (read-within (deviceAt r) io dst whole))
 
 module _ (r io src : List ℕ) {k : Bool} (ek : k ≡ isKnown r) where
-  pub write-unknown : not k ≡ true → moves 10 r io ≡ writeOn r io src
-  unfolding writeOn word
-  write-unknown q = unknown r ek (moves (plain 10) r io) (λ (d : Device). moved r (writeCall d io src)) q
+  pub write-unknown : not k ≡ true → dataOutcome 10 r io ≡ writeDataOn r io src
+  unfolding writeDataOn word
+  write-unknown q = unknown r ek (dataOutcome (answerWord 10) r io) (λ (d : Device). dataOutcomeOf r (writeDataCall d io src)) q
 
-  module _ (q : not k ≡ false) (m : Moved) (io′ : List ℕ) {d : Device} (ed : d ≡ deviceAt r) (em : movedOf m io′ ≡ writeCall d io src) where
-    write-is : movedOf m io′ ≡ writeCall (deviceAt r) io src
+  module _ (q : not k ≡ false) (m : Moved) (io′ : List ℕ) {d : Device} (ed : d ≡ deviceAt r) (em : movingOf m io′ ≡ writeDataCall d io src) where
+    write-is : movingOf m io′ ≡ writeDataCall (deviceAt r) io src
     write-is = rw ed at em
 
-    pub write-made : {x : ℕ} {l : List ℕ} → (x ≡ cond (is10 m) (plain 10) (word (answerOf (m .report .answer) .number) 0 0 0 (m .report .count))) × (l ≡ cond (is10 m) r (storeMarks (m .device .marks) r)) → moves x l io′ ≡ writeOn r io src
-    unfolding writeOn
+    pub write-made : {x : ℕ} {l : List ℕ} → (x ≡ cond (is10 m) (answerWord 10) (word (answerOf (m .report .answer) .number) 0 0 0 (m .report .count))) × (l ≡ cond (is10 m) r (storeMarks (m .device .marks) r)) → dataOutcome x l io′ ≡ writeDataOn r io src
+    unfolding writeDataOn
     write-made e =
         let test = known-then r ek q in
-        comes r io io (is-known r test) (writeCall (deviceAt r) io src) (write-tells (deviceAt r) io src) (write-keeps (deviceAt r) io src) m io′ write-is (e .0) (e .1)
-        ∙ made r (moves (plain 10) r io) (λ (d : Device). moved r (writeCall d io src)) test
+        comes r io io (is-known r test) (writeDataCall (deviceAt r) io src) (write-tells (deviceAt r) io src) (write-keeps (deviceAt r) io src) m io′ write-is (e .0) (e .1)
+        ∙ made r (dataOutcome (answerWord 10) r io) (λ (d : Device). dataOutcomeOf r (writeDataCall d io src)) test
 
-    pub write-fits : is10 m ≡ false → Storable m
+    pub write-fits : is10 m ≡ false → StorableMove m
     write-fits other =
         let whole = write-tells (deviceAt r) io src .whole (same-10 m io′ write-is ∙ other) in
         fits m (length io′)
@@ -138,22 +138,22 @@ module _ (r io src : List ℕ) {k : Bool} (ek : k ≡ isKnown r) where
         (subst (λ (o : Moving). o .count ≤ o .device .marks .write) (sym write-is) (write-within (deviceAt r) io src))
 
 module _ (r io src : List ℕ) {k : Bool} (ek : k ≡ isKnown r) where
-  pub write-all-unknown : not k ≡ true → moves 10 r io ≡ writeAllOn r io src
-  unfolding writeAllOn word
-  write-all-unknown q = unknown r ek (moves (plain 10) r io) (λ (d : Device). moved r (writeAllCall d io src)) q
+  pub write-all-unknown : not k ≡ true → dataOutcome 10 r io ≡ writeDataAllOn r io src
+  unfolding writeDataAllOn word
+  write-all-unknown q = unknown r ek (dataOutcome (answerWord 10) r io) (λ (d : Device). dataOutcomeOf r (writeDataAllCall d io src)) q
 
-  module _ (q : not k ≡ false) (m : Moved) (io′ : List ℕ) {d : Device} (ed : d ≡ deviceAt r) (em : movedOf m io′ ≡ writeAllCall d io src) where
-    write-all-is : movedOf m io′ ≡ writeAllCall (deviceAt r) io src
+  module _ (q : not k ≡ false) (m : Moved) (io′ : List ℕ) {d : Device} (ed : d ≡ deviceAt r) (em : movingOf m io′ ≡ writeDataAllCall d io src) where
+    write-all-is : movingOf m io′ ≡ writeDataAllCall (deviceAt r) io src
     write-all-is = rw ed at em
 
-    pub write-all-made : {x : ℕ} {l : List ℕ} → (x ≡ cond (is10 m) (plain 10) (word (answerOf (m .report .answer) .number) 0 0 0 (m .report .count))) × (l ≡ cond (is10 m) r (storeMarks (m .device .marks) r)) → moves x l io′ ≡ writeAllOn r io src
-    unfolding writeAllOn
+    pub write-all-made : {x : ℕ} {l : List ℕ} → (x ≡ cond (is10 m) (answerWord 10) (word (answerOf (m .report .answer) .number) 0 0 0 (m .report .count))) × (l ≡ cond (is10 m) r (storeMarks (m .device .marks) r)) → dataOutcome x l io′ ≡ writeDataAllOn r io src
+    unfolding writeDataAllOn
     write-all-made e =
         let test = known-then r ek q in
-        comes r io io (is-known r test) (writeAllCall (deviceAt r) io src) (write-all-tells (deviceAt r) io src) (write-all-keeps (deviceAt r) io src) m io′ write-all-is (e .0) (e .1)
-        ∙ made r (moves (plain 10) r io) (λ (d : Device). moved r (writeAllCall d io src)) test
+        comes r io io (is-known r test) (writeDataAllCall (deviceAt r) io src) (write-all-tells (deviceAt r) io src) (write-all-keeps (deviceAt r) io src) m io′ write-all-is (e .0) (e .1)
+        ∙ made r (dataOutcome (answerWord 10) r io) (λ (d : Device). dataOutcomeOf r (writeDataAllCall d io src)) test
 
-    pub write-all-fits : is10 m ≡ false → Storable m
+    pub write-all-fits : is10 m ≡ false → StorableMove m
     write-all-fits other =
         let whole = write-all-tells (deviceAt r) io src .whole (same-10 m io′ write-all-is ∙ other) in
         fits m (length io′)

@@ -3,35 +3,35 @@
 use Prim.Native.Nat.{ℕ}
 use mathlib.Core.List.{List}
 use Rattle.device.specs.declared.Device.{Device}
-use Rattle.calls.specs.Data.{Moving, readCall, writeCall, writeAllCall}
+use Rattle.calls.specs.Data.{Moving, readDataCall, writeDataCall, writeDataAllCall}
 use Rattle.recordbytes.specs.Record.{storeDevice}
-use Rattle.border.specs.Word.{word, plain}
+use Rattle.border.specs.Word.{word, answerWord}
 use Rattle.border.specs.Record.{onDevice}
 
 -- `result` is what the call returns, and `bytes` are the record's bytes as it leaves them. `into` is what the call may write to, as it
--- leaves it: the destination of a read, the IO buffer of a write. `moves` makes such a record of the three.
-pub record Moved : Type 0 where
+-- leaves it: the destination of a read, the IO buffer of a write. `dataOutcome` makes such a record of the three.
+pub record DataOutcome : Type 0 where
   pub result : ℕ
   pub bytes : List ℕ
   pub into : List ℕ
 
-abbrev pub moves : ℕ → List ℕ → List ℕ → Moved
-moves result bytes into = record { result = result; bytes = bytes; into = into }
+abbrev pub dataOutcome : ℕ → List ℕ → List ℕ → DataOutcome
+dataOutcome result bytes into = record { result = result; bytes = bytes; into = into }
 
 -- What a call over the record's bytes `r` returns and leaves where the call by value gives `o`: answer and count are put into one
 -- number, and the device is stored in `r`.
-abbrev pub moved : List ℕ → Moving → Moved
-moved r o = moves (word (o .answer .number) 0 0 0 (o .count)) (storeDevice (o .device) r) (o .bytes)
+abbrev pub dataOutcomeOf : List ℕ → Moving → DataOutcome
+dataOutcomeOf r o = dataOutcome (word (o .answer .number) 0 0 0 (o .count)) (storeDevice (o .device) r) (o .bytes)
 
 -- `read_data` into the destination `dst`, over the record's bytes `r` and the IO buffer `io`. Bytes that are no record are refused with
 -- 10, and everything stays as it was.
-unfoldable pub readOn : List ℕ → List ℕ → List ℕ → Moved
-readOn r io dst = onDevice r (moves (plain 10) r dst) (λ (d : Device). moved r (readCall d io dst))
+unfoldable pub readDataOn : List ℕ → List ℕ → List ℕ → DataOutcome
+readDataOn r io dst = onDevice r (dataOutcome (answerWord 10) r dst) (λ (d : Device). dataOutcomeOf r (readDataCall d io dst))
 
 -- `write_data` of the source `src`, over the record's bytes `r` and the IO buffer `io`; refused in the same way.
-unfoldable pub writeOn : List ℕ → List ℕ → List ℕ → Moved
-writeOn r io src = onDevice r (moves (plain 10) r io) (λ (d : Device). moved r (writeCall d io src))
+unfoldable pub writeDataOn : List ℕ → List ℕ → List ℕ → DataOutcome
+writeDataOn r io src = onDevice r (dataOutcome (answerWord 10) r io) (λ (d : Device). dataOutcomeOf r (writeDataCall d io src))
 
 -- `try_write_data_all` of the source `src`, over the record's bytes `r` and the IO buffer `io`; refused in the same way.
-unfoldable pub writeAllOn : List ℕ → List ℕ → List ℕ → Moved
-writeAllOn r io src = onDevice r (moves (plain 10) r io) (λ (d : Device). moved r (writeAllCall d io src))
+unfoldable pub writeDataAllOn : List ℕ → List ℕ → List ℕ → DataOutcome
+writeDataAllOn r io src = onDevice r (dataOutcome (answerWord 10) r io) (λ (d : Device). dataOutcomeOf r (writeDataAllCall d io src))

@@ -12,15 +12,15 @@ ghost use lib.ListN.{length};
 ghost use Rattle.answers.specs.Answers.{answerOf};
 ghost use Rattle.recordbytes.specs.Layout.{recordSize};
 ghost use Rattle.recordbytes.specs.Record.{storeMarks};
-ghost use Rattle.border.specs.Word.{word, plain};
-ghost use Rattle.databytes.specs.Data.{moves, readOn, writeOn, writeAllOn};
-ghost use Rattle.databytes.specs.Inner.Data.{Storable, is10};
+ghost use Rattle.border.specs.Word.{word, answerWord};
+ghost use Rattle.databytes.specs.Data.{dataOutcome, readDataOn, writeDataOn, writeDataAllOn};
+ghost use Rattle.databytes.specs.Inner.Data.{StorableMove, is10};
 
 // Stores the marks in the record, and puts answer and count into one number. A broken record stays as it is: only the marks of a whole
 // record are known to fit into their places.
 fn moved(record: &mut [u8], m: Moved) -> u64
-    requires { ⌜ (length (now «record») ≡ recordSize) × (is10 m ≡ false → Storable m) ⌝ }
-    ensures { λ x. ⌜ (x ≡ cond (is10 m) (plain 10) (word (answerOf (m .report .answer) .number) 0 0 0 (m .report .count))) × (now («record» .exit) ≡ cond (is10 m) (now («record» .entry)) (storeMarks (m .device .marks) (now («record» .entry)))) ⌝ }
+    requires { ⌜ (length (now «record») ≡ recordSize) × (is10 m ≡ false → StorableMove m) ⌝ }
+    ensures { λ x. ⌜ (x ≡ cond (is10 m) (answerWord 10) (word (answerOf (m .report .answer) .number) 0 0 0 (m .report .count))) × (now («record» .exit) ≡ cond (is10 m) (now («record» .entry)) (storeMarks (m .device .marks) (now («record» .entry)))) ⌝ }
 {
     let report = m.report;
     let answer = report.answer;
@@ -36,7 +36,7 @@ fn moved(record: &mut [u8], m: Moved) -> u64
 
 // Reads unread bytes of `io` into `dst`.
 pub fn read_data(record: &mut [u8], io: &[u8], dst: &mut [u8]) -> u64
-    ensures { λ x. ⌜ moves x (now («record» .exit)) (now (dst .exit)) ≡ readOn (now («record» .entry)) (now (io .entry)) (now (dst .entry)) ⌝ }
+    ensures { λ x. ⌜ dataOutcome x (now («record» .exit)) (now (dst .exit)) ≡ readDataOn (now («record» .entry)) (now (io .entry)) (now (dst .entry)) ⌝ }
 {
     if !known(record) {
         return 10;
@@ -47,7 +47,7 @@ pub fn read_data(record: &mut [u8], io: &[u8], dst: &mut [u8]) -> u64
 
 // Writes bytes of `src` into `io`, as many as fit and at most as many as are left.
 pub fn write_data(record: &mut [u8], io: &mut [u8], src: &[u8]) -> u64
-    ensures { λ x. ⌜ moves x (now («record» .exit)) (now (io .exit)) ≡ writeOn (now («record» .entry)) (now (io .entry)) (now (src .entry)) ⌝ }
+    ensures { λ x. ⌜ dataOutcome x (now («record» .exit)) (now (io .exit)) ≡ writeDataOn (now («record» .entry)) (now (io .entry)) (now (src .entry)) ⌝ }
 {
     if !known(record) {
         return 10;
@@ -58,7 +58,7 @@ pub fn write_data(record: &mut [u8], io: &mut [u8], src: &[u8]) -> u64
 
 // Writes all of `src` into `io`, or none of it.
 pub fn try_write_data_all(record: &mut [u8], io: &mut [u8], src: &[u8]) -> u64
-    ensures { λ x. ⌜ moves x (now («record» .exit)) (now (io .exit)) ≡ writeAllOn (now («record» .entry)) (now (io .entry)) (now (src .entry)) ⌝ }
+    ensures { λ x. ⌜ dataOutcome x (now («record» .exit)) (now (io .exit)) ≡ writeDataAllOn (now («record» .entry)) (now (io .entry)) (now (src .entry)) ⌝ }
 {
     if !known(record) {
         return 10;

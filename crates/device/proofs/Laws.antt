@@ -11,13 +11,13 @@ use Rattle.answers.specs.Answers.{Answering, answer, answerOf}
 use Rattle.ring.specs.declared.State.{State}
 use Rattle.ring.specs.declared.State.the-variants.{CommandTransfer}
 use Rattle.wrapper.specs.declared.Wrapper.{Wrapper}
-use Rattle.wrapper.specs.Wrapper.{blank}
+use Rattle.wrapper.specs.Wrapper.{noWrapper}
 use Rattle.device.specs.declared.Fixed.{Fixed}
 use Rattle.device.specs.declared.Device.{Device}
 use Rattle.device.specs.declared.Numbers.{Numbers}
 use Rattle.device.specs.declared.Status.the-variants.{Absent}
 use Rattle.device.specs.Device.{isPresent}
-use Rattle.device.specs.Create.{isPacketSize, creation, newDevice, noDevice, createdOf, createCall}
+use Rattle.device.specs.Create.{isPacketSize, creationChecks, newDevice, noDevice, creationOf, createCall}
 use Rattle.device.specs.Broken.{commandFits, statusFits, isWhole}
 
 -- ---- the packet size
@@ -42,51 +42,51 @@ module _ (p : ℕ) where
 -- ---- creation
 
 module _ (f : Fixed) where
-  pub gives-2 : 15 < f .maxlun → answer 2 ≡ answer (creation f)
-  unfolding creation
+  pub gives-2 : 15 < f .maxlun → answer 2 ≡ answer (creationChecks f)
+  unfolding creationChecks
   gives-2 h = rw (lt-ltb _ _ h)
 
   module _ (a : f .maxlun ≤ 15) where
-    pub gives-5 : f .size < 31 → answer 5 ≡ answer (creation f)
-    unfolding creation
+    pub gives-5 : f .size < 31 → answer 5 ≡ answer (creationChecks f)
+    unfolding creationChecks
     gives-5 h = rw (le-ltb _ _ a, lt-ltb _ _ h)
 
     module _ (b : 31 ≤ f .size) where
-      pub gives-5-too : f .size < f .packetsize → answer 5 ≡ answer (creation f)
-      unfolding creation
+      pub gives-5-too : f .size < f .packetsize → answer 5 ≡ answer (creationChecks f)
+      unfolding creationChecks
       gives-5-too h = rw (le-ltb _ _ a, le-ltb _ _ b, lt-ltb _ _ h)
 
       module _ (c : f .packetsize ≤ f .size) {r : Bool} (h : r ≡ isPacketSize (f .packetsize)) where
-        pub gives-8 : not r ≡ true → answer 8 ≡ answer (creation f)
-        unfolding creation
+        pub gives-8 : not r ≡ true → answer 8 ≡ answer (creationChecks f)
+        unfolding creationChecks
         gives-8 e = rw (le-ltb _ _ a, le-ltb _ _ b, le-ltb _ _ c, ← h, not-true r e)
 
-        pub gives-9 : not r ≡ false → 65536 < f .size → answer 9 ≡ answer (creation f)
-        unfolding creation
+        pub gives-9 : not r ≡ false → 65536 < f .size → answer 9 ≡ answer (creationChecks f)
+        unfolding creationChecks
         gives-9 e l = rw (le-ltb _ _ a, le-ltb _ _ b, le-ltb _ _ c, ← h, not-false r e, lt-ltb _ _ l)
 
-        pub gives-0 : not r ≡ false → f .size ≤ 65536 → answer 0 ≡ answer (creation f)
-        unfolding creation
+        pub gives-0 : not r ≡ false → f .size ≤ 65536 → answer 0 ≡ answer (creationChecks f)
+        unfolding creationChecks
         gives-0 e l = rw (le-ltb _ _ a, le-ltb _ _ b, le-ltb _ _ c, ← h, not-false r e, le-ltb _ _ l)
 
   -- The answer says whether there is a device.
-  module _ (a : Answer) (h : answerOf a ≡ answer (creation f)) {n : ℕ} (k : n ≡ answerOf a .number) where
-    numbered : n ≡ creation f
+  module _ (a : Answer) (h : answerOf a ≡ answer (creationChecks f)) {n : ℕ} (k : n ≡ answerOf a .number) where
+    numbered : n ≡ creationChecks f
     numbered = k ∙ ap (λ (x : Answering). x .number) h
 
-    pub creates : eqb n 0 ≡ eqb (creation f) 0
+    pub creates : eqb n 0 ≡ eqb (creationChecks f) 0
     creates = ap (λ (x : ℕ). eqb x 0) numbered
 
     module _ {d : Device} where
-      pub makes : n ≡ 0 → d ≡ newDevice f → createdOf (record { answer = a; device = d }) ≡ createCall f
+      pub makes : n ≡ 0 → d ≡ newDevice f → creationOf (record { answer = a; device = d }) ≡ createCall f
       unfolding createCall
-      makes q e = rw (h, e, eq-eqb (creation f) 0 (sym numbered ∙ q))
+      makes q e = rw (h, e, eq-eqb (creationChecks f) 0 (sym numbered ∙ q))
 
-      pub makes-none : (n ≡ 0 → ⊥) → d ≡ noDevice → createdOf (record { answer = a; device = d }) ≡ createCall f
+      pub makes-none : (n ≡ 0 → ⊥) → d ≡ noDevice → creationOf (record { answer = a; device = d }) ≡ createCall f
       unfolding createCall
-      makes-none q e = rw (h, e, ne-eqb (creation f) 0 (λ z. q (numbered ∙ z)))
+      makes-none q e = rw (h, e, ne-eqb (creationChecks f) 0 (λ z. q (numbered ∙ z)))
 
-pub news : (f : Fixed) {w : Wrapper} → w ≡ blank
+pub news : (f : Fixed) {w : Wrapper} → w ≡ noWrapper
     → _≡_ {A = Device} (record { fixed = f; state = CommandTransfer; marks = at 0 0; wrapper = w; status = Absent; left = record { 0 = 0 } }) (newDevice f)
 news f h = rw h
 
@@ -110,7 +110,7 @@ module _ (n : Numbers) (len : ℕ) where
   unfolding isWhole
   breaks-lent h = rw (ne-eqb _ _ h)
 
-  module _ (a : n .fixed .size ≡ len) {b : Bool} (hb : b ≡ eqb (creation (n .fixed)) 0) where
+  module _ (a : n .fixed .size ≡ len) {b : Bool} (hb : b ≡ eqb (creationChecks (n .fixed)) 0) where
     pub breaks-creation : not b ≡ true → false ≡ isWhole n len
     unfolding isWhole
     breaks-creation q = rw (eq-eqb _ _ a, ← hb, not-true b q)

@@ -3,7 +3,7 @@ use mathlib.Core.Path.{_≡_, refl, sym, _∙_}
 use Rattle.fields.proofs.Only.{Only, once}
 use Rattle.answers.proofs.Unique.{named, named-answer}
 use Rattle.device.specs.declared.create.Created.{Created}
-use Rattle.device.specs.Create.{Creation, createdOf}
+use Rattle.device.specs.Create.{Creation, creationOf}
 use Rattle.device.proofs.present.Kinds as present-kinds
 use Rattle.device.proofs.present.Reads as present
 use Rattle.device.proofs.numbers_of.Kinds as numbers-of-kinds
@@ -22,7 +22,7 @@ use Rattle.device.proofs.create.create.Reads as create
 abbrev uncreated : Creation → Created
 uncreated c = record { answer = named (c .answer); device = c .device }
 
-uncreated-created : (x : Created) → uncreated (createdOf x) ≡ x
+uncreated-created : (x : Created) → uncreated (creationOf x) ≡ x
 uncreated-created x = rw (named-answer (x .answer))
 
 pub present-only : Only 0 present-kinds.ps present-kinds.r present.Post (λ κs s. tt {0})
@@ -44,4 +44,4 @@ pub none-only : Only 0 none-kinds.ps none-kinds.r none.Post (λ κs s. tt {0})
 none-only κs a x y s t p q = (p ∙ sym q, refl)
 
 pub create-only : Only 0 create-kinds.ps create-kinds.r create.Post (λ κs s. tt {0})
-create-only κs a x y s t p q = (once createdOf uncreated uncreated-created x y p q, refl)
+create-only κs a x y s t p q = (once creationOf uncreated uncreated-created x y p q, refl)

@@ -22,11 +22,11 @@ use Rattle.device.specs.declared.Fixed.{Fixed}
 use Rattle.device.specs.declared.Device.{Device}
 use Rattle.device.specs.declared.Numbers.{Numbers}
 use Rattle.device.specs.Device.{isPresent, numbersOf}
-use Rattle.device.specs.Create.{isPacketSize, creation}
+use Rattle.device.specs.Create.{isPacketSize, creationChecks}
 use Rattle.device.specs.Broken.{commandFits, statusFits, Whole, isWhole, unlessBroken}
 
 -- The tests give the rules as facts.
-whole-by : (n : Numbers) (len : ℕ) → eqb (n .fixed .size) len ≡ true → eqb (creation (n .fixed)) 0 ≡ true → isSound (n .fixed .size) (n .marks) ≡ true
+whole-by : (n : Numbers) (len : ℕ) → eqb (n .fixed .size) len ≡ true → eqb (creationChecks (n .fixed)) 0 ≡ true → isSound (n .fixed .size) (n .marks) ≡ true
     → commandFits (n .lun) (n .blocklength) ≡ true → statusFits (n .state) (isPresent (n .status)) ≡ true → Whole n len
 unfolding isSound commandFits
 whole-by n len a b c d f = record {
@@ -92,8 +92,8 @@ unviolated false false false true true h = absurd (omega (arith, h))
 unviolated false false false true false h = (refl, refl, refl, refl, refl)
 unviolated false false false false e h = absurd (omega (arith, h))
 
-rules : (f : Fixed) → creation f ≡ 0 → (ltb (f .size) 31 ≡ false) × (ltb (f .size) (f .packetsize) ≡ false) × (isPacketSize (f .packetsize) ≡ true) × (ltb 65536 (f .size) ≡ false) × (ltb 15 (f .maxlun) ≡ false)
-unfolding creation
+rules : (f : Fixed) → creationChecks f ≡ 0 → (ltb (f .size) 31 ≡ false) × (ltb (f .size) (f .packetsize) ≡ false) × (isPacketSize (f .packetsize) ≡ true) × (ltb 65536 (f .size) ≡ false) × (ltb 15 (f .maxlun) ≡ false)
+unfolding creationChecks
 rules f e = unviolated (ltb 15 (f .maxlun)) (ltb (f .size) 31) (ltb (f .size) (f .packetsize)) (isPacketSize (f .packetsize)) (ltb 65536 (f .size)) e
 
 module _ (n : Numbers) (len : ℕ) (w : Whole n len) where
@@ -127,11 +127,11 @@ packet-bounds p h =
     (or-true (eqb p 32) _ (within p 32 (omega arith) (omega arith)) (within p 64 (omega arith) (omega arith)))) h
 
 -- The numbers that creation accepts are small: P and max LUN fit into a byte, and the size into 32 bits.
-pub packet-below : (f : Fixed) → creation f ≡ 0 → f .packetsize < 256
+pub packet-below : (f : Fixed) → creationChecks f ≡ 0 → f .packetsize < 256
 packet-below f e = omega (arith, packet-bounds (f .packetsize) (rules f e .2) .1)
 
-pub lun-below : (f : Fixed) → creation f ≡ 0 → f .maxlun < 256
+pub lun-below : (f : Fixed) → creationChecks f ≡ 0 → f .maxlun < 256
 lun-below f e = omega (arith, ltb-false 15 (f .maxlun) (rules f e .4))
 
-pub size-below : (f : Fixed) → creation f ≡ 0 → f .size < 2 ^ 32
+pub size-below : (f : Fixed) → creationChecks f ≡ 0 → f .size < 2 ^ 32
 size-below f e = omega (arith, ltb-false 65536 (f .size) (rules f e .3))

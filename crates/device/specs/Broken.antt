@@ -11,7 +11,7 @@ use Rattle.ring.specs.declared.State.the-variants.{CommandTransfer, CommandTran
 use Rattle.device.specs.declared.Device.{Device}
 use Rattle.device.specs.declared.Numbers.{Numbers}
 use Rattle.device.specs.Device.{isPresent, numbersOf}
-use Rattle.device.specs.Create.{creation}
+use Rattle.device.specs.Create.{creationChecks}
 
 -- `lun` and `blocklength` are in their bounds. A record is broken by "block length above 16; LUN above 15".
 unfoldable pub commandFits : ℕ → ℕ → Bool
@@ -36,7 +36,7 @@ pub record Whole (n : Numbers) (len : ℕ) : Type 0 where
   -- "the lent IO buffer's length differs from the recorded one"
   pub lent : n .fixed .size ≡ len
   -- "a creation rule is violated"
-  pub created : creation (n .fixed) ≡ 0
+  pub created : creationChecks (n .fixed) ≡ 0
   -- "read mark above write mark or write mark above the length"
   pub order : n .marks .read ≤ n .marks .write
   pub within : n .marks .write ≤ n .fixed .size
@@ -48,7 +48,7 @@ pub record Whole (n : Numbers) (len : ℕ) : Type 0 where
 unfoldable pub isWhole : Numbers → ℕ → Bool
 isWhole n len =
     eqb (n .fixed .size) len
-    && (eqb (creation (n .fixed)) 0
+    && (eqb (creationChecks (n .fixed)) 0
     && (isSound (n .fixed .size) (n .marks)
     && (commandFits (n .lun) (n .blocklength)
     && statusFits (n .state) (isPresent (n .status)))))

@@ -14,7 +14,7 @@ use Rattle.device.specs.declared.Status.{Status}
 use Rattle.device.specs.declared.Status.the-variants.{Absent, Present}
 use Rattle.device.specs.declared.Numbers.{Numbers}
 use Rattle.device.specs.Device.{numbersOf}
-use Rattle.device.specs.Create.{fixed, creation, newDevice, noDevice, createCall}
+use Rattle.device.specs.Create.{fixed, creationChecks, newDevice, noDevice, createCall}
 use Rattle.device.specs.Broken.{isWhole}
 
 -- "Create: max LUN 15 yes, 16 with buffer 0 gives 2*; buffer 30 gives 5, 31 with P 8 yes*"
@@ -27,8 +27,8 @@ starred =
     ∷ []
 
 -- This record has P 8, max LUN 0 and an IO buffer of 31 bytes, and the parts that are given; nothing is left.
-abbrev record-of : State → Status → Marks → ℕ → ℕ → Numbers
-record-of state status marks lun blocklength = record { fixed = fixed 8 0 31; state = state; marks = marks; tag = 0; lun = lun; blocklength = blocklength; status = status; left = record { 0 = 0 } }
+abbrev numbersIn : State → Status → Marks → ℕ → ℕ → Numbers
+numbersIn state status marks lun blocklength = record { fixed = fixed 8 0 31; state = state; marks = marks; tag = 0; lun = lun; blocklength = blocklength; status = status; left = record { 0 = 0 } }
 
 -- This status says that the command passed, with residue 0.
 abbrev passed : Status
@@ -42,26 +42,26 @@ sized p maxlun size = isWhole (numbersOf (newDevice (fixed p maxlun size))) size
 unfoldable pub ours : List Case
 ours =
     -- "63 with P 64 gives 5; P 24 gives 8; 65,537 gives 9", and the order of the rules
-    case (creation (fixed 64 0 63)) 5
-    ∷ case (creation (fixed 24 0 64)) 8
-    ∷ case (creation (fixed 64 0 65537)) 9
-    ∷ case (creation (fixed 24 0 65537)) 8
-    ∷ case (creation (fixed 24 0 23)) 5
-    ∷ case (creation (fixed 64 0 65536)) 0
-    ∷ case (creation (fixed 65600 0 65536)) 5
-    ∷ case (creation (fixed 264 0 65536)) 8
+    case (creationChecks (fixed 64 0 63)) 5
+    ∷ case (creationChecks (fixed 24 0 64)) 8
+    ∷ case (creationChecks (fixed 64 0 65537)) 9
+    ∷ case (creationChecks (fixed 24 0 65537)) 8
+    ∷ case (creationChecks (fixed 24 0 23)) 5
+    ∷ case (creationChecks (fixed 64 0 65536)) 0
+    ∷ case (creationChecks (fixed 65600 0 65536)) 5
+    ∷ case (creationChecks (fixed 264 0 65536)) 8
     -- a record that is whole, and then each way to be broken
-    ∷ case (isWhole (record-of DataTransferToHost Absent (at 3 31) 15 16) 31) true
-    ∷ case (isWhole (record-of DataTransferToHost Absent (at 3 31) 15 16) 32) false
-    ∷ case (isWhole (record-of DataTransferToHost Absent (at 4 3) 15 16) 31) false
-    ∷ case (isWhole (record-of DataTransferToHost Absent (at 3 32) 15 16) 31) false
-    ∷ case (isWhole (record-of DataTransferToHost Absent (at 3 31) 16 16) 31) false
-    ∷ case (isWhole (record-of DataTransferToHost Absent (at 3 31) 15 17) 31) false
-    ∷ case (isWhole (record-of CommandTransfer passed (at 0 0) 0 0) 31) false
-    ∷ case (isWhole (record-of CommandTransferInvalid passed (at 0 0) 0 0) 31) false
-    ∷ case (isWhole (record-of StatusTransfer Absent (at 0 0) 0 0) 31) false
-    ∷ case (isWhole (record-of DataTransferToHostEnding Absent (at 0 0) 0 0) 31) false
-    ∷ case (isWhole (record-of DataTransferFromHostEnding Absent (at 0 0) 0 0) 31) false
+    ∷ case (isWhole (numbersIn DataTransferToHost Absent (at 3 31) 15 16) 31) true
+    ∷ case (isWhole (numbersIn DataTransferToHost Absent (at 3 31) 15 16) 32) false
+    ∷ case (isWhole (numbersIn DataTransferToHost Absent (at 4 3) 15 16) 31) false
+    ∷ case (isWhole (numbersIn DataTransferToHost Absent (at 3 32) 15 16) 31) false
+    ∷ case (isWhole (numbersIn DataTransferToHost Absent (at 3 31) 16 16) 31) false
+    ∷ case (isWhole (numbersIn DataTransferToHost Absent (at 3 31) 15 17) 31) false
+    ∷ case (isWhole (numbersIn CommandTransfer passed (at 0 0) 0 0) 31) false
+    ∷ case (isWhole (numbersIn CommandTransferInvalid passed (at 0 0) 0 0) 31) false
+    ∷ case (isWhole (numbersIn StatusTransfer Absent (at 0 0) 0 0) 31) false
+    ∷ case (isWhole (numbersIn DataTransferToHostEnding Absent (at 0 0) 0 0) 31) false
+    ∷ case (isWhole (numbersIn DataTransferFromHostEnding Absent (at 0 0) 0 0) 31) false
     -- "a creation rule is violated": each rule in turn
     ∷ case (sized 8 15 31) true
     ∷ case (sized 8 16 31) false

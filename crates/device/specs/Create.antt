@@ -5,7 +5,7 @@ use lib.Dec.{eqb, ltb}
 use Rattle.buffer.specs.Buffer.{at}
 use Rattle.answers.specs.Answers.{Answering, answer, answerOf}
 use Rattle.ring.specs.declared.State.the-variants.{CommandTransfer}
-use Rattle.wrapper.specs.Wrapper.{blank}
+use Rattle.wrapper.specs.Wrapper.{noWrapper}
 use Rattle.device.specs.declared.Status.the-variants.{Absent}
 use Rattle.device.specs.declared.Fixed.{Fixed}
 use Rattle.device.specs.declared.Device.{Device}
@@ -21,15 +21,15 @@ fixed p maxlun size = record { packetsize = p; maxlun = maxlun; size = size }
 
 -- Creation with the numbers `f` gives this answer: 2 "max LUN above 15", 5 "buffer below 31 or below P", 8 "P not in the domain", 9
 -- "buffer above 65,536", and otherwise 0.
-unfoldable pub creation : Fixed → ℕ
-creation f =
+unfoldable pub creationChecks : Fixed → ℕ
+creationChecks f =
     cond (ltb 15 (f .maxlun)) 2
     (cond (ltb (f .size) 31 || ltb (f .size) (f .packetsize)) 5
     (cond (isPacketSize (f .packetsize)) (cond (ltb 65536 (f .size)) 9 0) 8))
 
 -- A new device with the numbers `f` waits for a wrapper. Until the first one comes, tag, L, LUN and block are 0.
 abbrev pub newDevice : Fixed → Device
-newDevice f = record { fixed = f; state = CommandTransfer; marks = at 0 0; wrapper = blank; status = Absent; left = record { 0 = 0 } }
+newDevice f = record { fixed = f; state = CommandTransfer; marks = at 0 0; wrapper = noWrapper; status = Absent; left = record { 0 = 0 } }
 
 -- "no device" is a record in which every number is 0.
 abbrev pub noDevice : Device
@@ -41,9 +41,9 @@ pub record Creation : Type 0 where
   pub device : Device
 
 -- This reads what the code returned, `r`, as such a record.
-abbrev pub createdOf : Created → Creation
-createdOf r = record { answer = answerOf (r .answer); device = r .device }
+abbrev pub creationOf : Created → Creation
+creationOf r = record { answer = answerOf (r .answer); device = r .device }
 
 -- This is creation with any numbers `f`.
 unfoldable pub createCall : Fixed → Creation
-createCall f = record { answer = answer (creation f); device = cond (eqb (creation f) 0) (newDevice f) noDevice }
+createCall f = record { answer = answer (creationChecks f); device = cond (eqb (creationChecks f) 0) (newDevice f) noDevice }

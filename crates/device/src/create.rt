@@ -10,7 +10,7 @@ use wrapper::counters::Left;
 ghost use mathlib.Core.Path.{_≡_};
 ghost use lib.Dec.{eqb};
 ghost use Rattle.answers.specs.Answers.{answer, answerOf};
-ghost use Rattle.device.specs.Create.{isPacketSize, creation, newDevice, noDevice, createdOf, createCall};
+ghost use Rattle.device.specs.Create.{isPacketSize, creationChecks, newDevice, noDevice, creationOf, createCall};
 
 // Creation gives an answer and a device. With any answer but 0 there is no device, and every number of this one is 0.
 pub struct Created {
@@ -36,7 +36,7 @@ pub fn is_packet_size(p: usize) -> bool
 
 // This is the answer for the first creation rule that is violated, or 0.
 fn judged(fixed: Fixed) -> Answer
-    ensures { λ r. ⌜ answerOf r ≡ answer (creation fixed) ⌝ }
+    ensures { λ r. ⌜ answerOf r ≡ answer (creationChecks fixed) ⌝ }
 {
     if 15 < fixed.maxlun {
         return Answer::InvalidMaxLun;
@@ -58,7 +58,7 @@ fn judged(fixed: Fixed) -> Answer
 
 // A device may have these numbers if no creation rule is violated.
 pub(crate) fn creatable(fixed: Fixed) -> bool
-    ensures { λ r. ⌜ r ≡ eqb (creation fixed) 0 ⌝ }
+    ensures { λ r. ⌜ r ≡ eqb (creationChecks fixed) 0 ⌝ }
 {
     answer_number(judged(fixed)) == 0
 }
@@ -91,7 +91,7 @@ pub fn none() -> Device
 
 // A device is created with these numbers, or refused.
 pub fn create(fixed: Fixed) -> Created
-    ensures { λ r. ⌜ createdOf r ≡ createCall fixed ⌝ }
+    ensures { λ r. ⌜ creationOf r ≡ createCall fixed ⌝ }
 {
     let answer = judged(fixed);
     if answer_number(answer) == 0 {

@@ -5,10 +5,10 @@ use Rattle.recordbytes.proofs.Computing as recordbytes
 use Rattle.border.specs.Word.{word}
 use Rattle.border.specs.Record.{onDevice}
 use Rattle.ringbytes.specs.Poll.{pollOn}
-use Rattle.databytes.specs.Data.{readOn, writeOn, writeAllOn}
-use Rattle.callbytes.specs.Calls.{createOn, statusOn, resetOn, controlOn}
-use Rattle.commandbytes.specs.Command.{commandOn, stepOn}
+use Rattle.databytes.specs.Data.{readDataOn, writeDataOn, writeDataAllOn}
+use Rattle.callbytes.specs.Calls.{createOn, setStatusOn, resetOn, controlOn}
+use Rattle.commandbytes.specs.Command.{commandOn, commandStepOn}
 
 unfoldable pub computing : Unit {0}
-unfolding word onDevice createOn statusOn resetOn controlOn readOn writeOn writeAllOn pollOn commandOn stepOn bbb.computing calls.computing recordbytes.computing
+unfolding word onDevice createOn setStatusOn resetOn controlOn readDataOn writeDataOn writeDataAllOn pollOn commandOn commandStepOn bbb.computing calls.computing recordbytes.computing
 computing = tt

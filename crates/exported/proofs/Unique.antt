@@ -7,9 +7,9 @@ use Prim.Native.Nat.{ℕ}
 use denote.Ref.{now}
 use Rattle.fields.proofs.Only.{Only}
 use Rattle.scsi.proofs.Unique as scsi
-use Rattle.ringbytes.specs.Poll.{polls}
+use Rattle.ringbytes.specs.Poll.{pollOutcome}
 use Rattle.ringbytes.proofs.Unique.{polled-once}
-use Rattle.databytes.specs.Data.{moves}
+use Rattle.databytes.specs.Data.{dataOutcome}
 use Rattle.databytes.proofs.Unique.{moved-once}
 use Rattle.callbytes.proofs.Unique.{left-once}
 use Rattle.commandbytes.proofs.Unique.{shown-once}
@@ -46,13 +46,13 @@ souk-create-only κs a x y s t p q = left-once (p ∙ sym q)
 pub souk-set-status-only : Only 2 souk-set-status-kinds.ps souk-set-status-kinds.r souk-set-status.Post (λ κs s. now (s .0))
 souk-set-status-only κs a x y s t p q = left-once (p ∙ sym q)
 
-pub souk-read-data-only : Only 3 souk-read-data-kinds.ps souk-read-data-kinds.r souk-read-data.Post (λ κs s. moves 0 (now (s .0)) (now (s .1 .1 .0)))
+pub souk-read-data-only : Only 3 souk-read-data-kinds.ps souk-read-data-kinds.r souk-read-data.Post (λ κs s. dataOutcome 0 (now (s .0)) (now (s .1 .1 .0)))
 souk-read-data-only κs a x y s t p q = moved-once (p ∙ sym q)
 
-pub souk-write-data-only : Only 3 souk-write-data-kinds.ps souk-write-data-kinds.r souk-write-data.Post (λ κs s. moves 0 (now (s .0)) (now (s .1 .0)))
+pub souk-write-data-only : Only 3 souk-write-data-kinds.ps souk-write-data-kinds.r souk-write-data.Post (λ κs s. dataOutcome 0 (now (s .0)) (now (s .1 .0)))
 souk-write-data-only κs a x y s t p q = moved-once (p ∙ sym q)
 
-pub souk-try-write-data-all-only : Only 3 souk-try-write-data-all-kinds.ps souk-try-write-data-all-kinds.r souk-try-write-data-all.Post (λ κs s. moves 0 (now (s .0)) (now (s .1 .0)))
+pub souk-try-write-data-all-only : Only 3 souk-try-write-data-all-kinds.ps souk-try-write-data-all-kinds.r souk-try-write-data-all.Post (λ κs s. dataOutcome 0 (now (s .0)) (now (s .1 .0)))
 souk-try-write-data-all-only κs a x y s t p q = moved-once (p ∙ sym q)
 
 pub souk-reset-only : Only 2 souk-reset-kinds.ps souk-reset-kinds.r souk-reset.Post (λ κs s. now (s .0))
@@ -77,5 +77,5 @@ souk-decode-told-only κs a x y s t p q = scsi.shown-once (p ∙ sym q)
 pub souk-verdict-only : Only 1 souk-verdict-kinds.ps souk-verdict-kinds.r souk-verdict.Post (λ κs s. tt {0})
 souk-verdict-only κs a x y s t p q = (p ∙ sym q, refl)
 
-pub souk-poll-only : Only 5 souk-poll-kinds.ps souk-poll-kinds.r souk-poll.Post (λ κs s. polls 0 (now (s .0)) (now (s .1 .0)) (now (s .1 .1 .0)))
+pub souk-poll-only : Only 5 souk-poll-kinds.ps souk-poll-kinds.r souk-poll.Post (λ κs s. pollOutcome 0 (now (s .0)) (now (s .1 .0)) (now (s .1 .1 .0)))
 souk-poll-only κs a x y s t p q = polled-once (p ∙ sym q)

@@ -12,10 +12,10 @@ use Rattle.calls.specs.declared.Request.{Request}
 use Rattle.device.specs.Create.{fixed}
 use Rattle.recordbytes.specs.Record.{newRecord}
 use Rattle.border.specs.Word.{word}
-use Rattle.ringbytes.specs.Poll.{polls, pollOn}
-use Rattle.databytes.specs.Data.{moves, readOn, writeOn, writeAllOn}
-use Rattle.callbytes.specs.Calls.{leaves, createOn, statusOn, resetOn, controlOn}
-use Rattle.commandbytes.specs.Command.{shows, commandOn, stepOn}
+use Rattle.ringbytes.specs.Poll.{pollOutcome, pollOn}
+use Rattle.databytes.specs.Data.{dataOutcome, readDataOn, writeDataOn, writeDataAllOn}
+use Rattle.callbytes.specs.Calls.{callOutcome, createOn, setStatusOn, resetOn, controlOn}
+use Rattle.commandbytes.specs.Command.{commandOutcome, commandOn, commandStepOn}
 
 -- The command block 12 01 80 00 FF, an inquiry for a page, in the 16 bytes that a record has for a block.
 abbrev block : List ℕ
@@ -31,10 +31,10 @@ bytes state present read write left residue status =
     ++ block
 
 -- Such a record in the state with the number `state`, with three bytes unread, two left and no status.
-abbrev in-state : ℕ → List ℕ
-in-state state = bytes state 0 1 4 2 0 0
+abbrev recordIn : ℕ → List ℕ
+recordIn state = bytes state 0 1 4 2 0 0
 
--- The IO buffer of the cases. With the marks of `in-state`, the bytes 2, 3 and 4 are unread.
+-- The IO buffer of the cases. With the marks of `recordIn`, the bytes 2, 3 and 4 are unread.
 abbrev io : List ℕ
 io = 1 ∷ 2 ∷ 3 ∷ 4 ∷ replicate 27 5
 
@@ -56,56 +56,56 @@ table =
     -- Each part of a result has its place.
     case (word 7 5 2 1 3) 0x0000000301020507
     -- Creation with 64, 0 and 64 makes a record, of 52 bytes only. 01's refusals come before the one for the length, and the bytes stay.
-    ∷ case (createOn (replicate 52 9) (fixed 64 0 64)) (leaves 0 (64 ∷ 0 ∷ 0 ∷ 0 ∷ 64 ∷ replicate 47 0))
-    ∷ case (createOn (replicate 51 9) (fixed 64 0 64)) (leaves 10 (replicate 51 9))
-    ∷ case (createOn (replicate 52 9) (fixed 8 16 0)) (leaves 2 (replicate 52 9))
-    ∷ case (createOn [] (fixed 8 16 0)) (leaves 2 [])
+    ∷ case (createOn (replicate 52 9) (fixed 64 0 64)) (callOutcome 0 (64 ∷ 0 ∷ 0 ∷ 0 ∷ 64 ∷ replicate 47 0))
+    ∷ case (createOn (replicate 51 9) (fixed 64 0 64)) (callOutcome 10 (replicate 51 9))
+    ∷ case (createOn (replicate 52 9) (fixed 8 16 0)) (callOutcome 2 (replicate 52 9))
+    ∷ case (createOn [] (fixed 8 16 0)) (callOutcome 2 [])
     -- A record that is whole; then one with a number for no state, for no flag, for no status and for no direction; 53 bytes, and none;
     -- an IO buffer of another length.
     ∷ case (answered (bytes 8 1 1 4 2 0 2) 31) 0x0000000000020000
     ∷ case (answered (bytes 9 1 1 4 2 0 2) 31) 10
     ∷ case (answered (bytes 8 2 1 4 2 0 2) 31) 10
     ∷ case (answered (bytes 8 1 1 4 2 0 3) 31) 10
-    ∷ case (answered (overlay (in-state 4) 25 (3 ∷ [])) 31) 10
-    ∷ case (answered (in-state 4 ++ 0 ∷ []) 31) 10
+    ∷ case (answered (overlay (recordIn 4) 25 (3 ∷ [])) 31) 10
+    ∷ case (answered (recordIn 4 ++ 0 ∷ []) 31) 10
     ∷ case (answered [] 31) 10
-    ∷ case (answered (in-state 4) 32) 10
+    ∷ case (answered (recordIn 4) 32) 10
     -- A status stores the flag, the residue 512 - 500 and the byte. Refused with 12 or with 10 it stores nothing.
-    ∷ case (statusOn (in-state 4) io (figure 2 500)) (leaves 0 (bytes 4 1 1 4 2 12 2))
-    ∷ case (statusOn (in-state 4) io (figure 3 500)) (leaves 12 (in-state 4))
-    ∷ case (statusOn (bytes 9 1 1 4 2 12 2) io (figure 0 512)) (leaves 10 (bytes 9 1 1 4 2 12 2))
-    ∷ case (statusOn (in-state 4) (replicate 30 5) (figure 2 500)) (leaves 10 (in-state 4))
-    ∷ case (statusOn [] io (figure 2 500)) (leaves 10 [])
+    ∷ case (setStatusOn (recordIn 4) io (figure 2 500)) (callOutcome 0 (bytes 4 1 1 4 2 12 2))
+    ∷ case (setStatusOn (recordIn 4) io (figure 3 500)) (callOutcome 12 (recordIn 4))
+    ∷ case (setStatusOn (bytes 9 1 1 4 2 12 2) io (figure 0 512)) (callOutcome 10 (bytes 9 1 1 4 2 12 2))
+    ∷ case (setStatusOn (recordIn 4) (replicate 30 5) (figure 2 500)) (callOutcome 10 (recordIn 4))
+    ∷ case (setStatusOn [] io (figure 2 500)) (callOutcome 10 [])
     -- A read of two of three bytes gives the count from bit 32 on, and stores the read mark. In another state it is refused with 3.
-    ∷ case (readOn (in-state 7) io (8 ∷ 8 ∷ [])) (moves 0x0000000200000000 (bytes 7 0 3 4 2 0 0) (2 ∷ 3 ∷ []))
-    ∷ case (readOn (in-state 4) io (8 ∷ 8 ∷ [])) (moves 3 (in-state 4) (8 ∷ 8 ∷ []))
-    ∷ case (readOn (in-state 9) io (8 ∷ 8 ∷ [])) (moves 10 (in-state 9) (8 ∷ 8 ∷ []))
+    ∷ case (readDataOn (recordIn 7) io (8 ∷ 8 ∷ [])) (dataOutcome 0x0000000200000000 (bytes 7 0 3 4 2 0 0) (2 ∷ 3 ∷ []))
+    ∷ case (readDataOn (recordIn 4) io (8 ∷ 8 ∷ [])) (dataOutcome 3 (recordIn 4) (8 ∷ 8 ∷ []))
+    ∷ case (readDataOn (recordIn 9) io (8 ∷ 8 ∷ [])) (dataOutcome 10 (recordIn 9) (8 ∷ 8 ∷ []))
     -- Two bytes are left. Of three bytes `souk_write_data` takes two, and `souk_try_write_data_all` takes all. 29 bytes have no room:
     -- that gives 1, and the move stays.
-    ∷ case (writeOn (in-state 4) io (6 ∷ 7 ∷ 8 ∷ [])) (moves 0x0000000200000000 (bytes 4 0 1 6 2 0 0) (1 ∷ 2 ∷ 3 ∷ 4 ∷ 6 ∷ 7 ∷ replicate 25 5))
-    ∷ case (writeAllOn (in-state 4) io (6 ∷ 7 ∷ 8 ∷ [])) (moves 0x0000000300000000 (bytes 4 0 1 7 2 0 0) (1 ∷ 2 ∷ 3 ∷ 4 ∷ 6 ∷ 7 ∷ 8 ∷ replicate 24 5))
-    ∷ case (writeAllOn (in-state 4) io (replicate 29 6)) (moves 1 (bytes 4 0 0 3 2 0 0) (2 ∷ 3 ∷ 4 ∷ 4 ∷ replicate 27 5))
-    ∷ case (writeOn (in-state 9) io (6 ∷ [])) (moves 10 (in-state 9) io)
+    ∷ case (writeDataOn (recordIn 4) io (6 ∷ 7 ∷ 8 ∷ [])) (dataOutcome 0x0000000200000000 (bytes 4 0 1 6 2 0 0) (1 ∷ 2 ∷ 3 ∷ 4 ∷ 6 ∷ 7 ∷ replicate 25 5))
+    ∷ case (writeDataAllOn (recordIn 4) io (6 ∷ 7 ∷ 8 ∷ [])) (dataOutcome 0x0000000300000000 (bytes 4 0 1 7 2 0 0) (1 ∷ 2 ∷ 3 ∷ 4 ∷ 6 ∷ 7 ∷ 8 ∷ replicate 24 5))
+    ∷ case (writeDataAllOn (recordIn 4) io (replicate 29 6)) (dataOutcome 1 (bytes 4 0 0 3 2 0 0) (2 ∷ 3 ∷ 4 ∷ 4 ∷ replicate 27 5))
+    ∷ case (writeDataOn (recordIn 9) io (6 ∷ [])) (dataOutcome 10 (recordIn 9) io)
     -- A reset asks for `U`, and stores the state, left and the flag. The residue and the status byte stay.
-    ∷ case (resetOn (newRecord (fixed 8 3 31)) io) (leaves 0x0000000000020000 (newRecord (fixed 8 3 31)))
-    ∷ case (resetOn (bytes 4 1 1 4 2 12 2) io) (leaves 0x0000000000020000 (bytes 0 0 1 4 0 12 2))
-    ∷ case (resetOn (in-state 9) io) (leaves 10 (in-state 9))
+    ∷ case (resetOn (newRecord (fixed 8 3 31)) io) (callOutcome 0x0000000000020000 (newRecord (fixed 8 3 31)))
+    ∷ case (resetOn (bytes 4 1 1 4 2 12 2) io) (callOutcome 0x0000000000020000 (bytes 0 0 1 4 0 12 2))
+    ∷ case (resetOn (recordIn 9) io) (callOutcome 10 (recordIn 9))
     -- A1 FE gives the flag 1 and max LUN; A1 FF is a reset; 21 FF does not count.
-    ∷ case (controlOn (in-state 4) io (request 0xA1 0xFE)) (leaves 0x0000000301000000 (in-state 4))
-    ∷ case (controlOn (in-state 4) io (request 0xA1 0xFF)) (resetOn (in-state 4) io)
-    ∷ case (controlOn (in-state 4) io (request 0x21 0xFF)) (leaves 0 (in-state 4))
-    ∷ case (controlOn (in-state 9) io (request 0xA1 0xFE)) (leaves 10 (in-state 9))
+    ∷ case (controlOn (recordIn 4) io (request 0xA1 0xFE)) (callOutcome 0x0000000301000000 (recordIn 4))
+    ∷ case (controlOn (recordIn 4) io (request 0xA1 0xFF)) (resetOn (recordIn 4) io)
+    ∷ case (controlOn (recordIn 4) io (request 0x21 0xFF)) (callOutcome 0 (recordIn 4))
+    ∷ case (controlOn (recordIn 9) io (request 0xA1 0xFE)) (callOutcome 10 (recordIn 9))
     -- A command gives LUN, flag and block length. In 0 nothing is shown. 15 lent bytes are refused with 10.
-    ∷ case (commandOn (in-state 4) io (replicate 16 0)) (shows 0x0000000501000100 block)
-    ∷ case (commandOn (in-state 0) io (replicate 16 8)) (shows 0 (replicate 16 8))
-    ∷ case (commandOn (in-state 4) io (replicate 15 8)) (shows 10 (replicate 15 8))
-    ∷ case (commandOn (in-state 9) io (replicate 16 8)) (shows 10 (replicate 16 8))
+    ∷ case (commandOn (recordIn 4) io (replicate 16 0)) (commandOutcome 0x0000000501000100 block)
+    ∷ case (commandOn (recordIn 0) io (replicate 16 8)) (commandOutcome 0 (replicate 16 8))
+    ∷ case (commandOn (recordIn 4) io (replicate 15 8)) (commandOutcome 10 (replicate 15 8))
+    ∷ case (commandOn (recordIn 9) io (replicate 16 8)) (commandOutcome 10 (replicate 16 8))
     -- The command step gives LUN and flag, and the inquiry in six numbers. After a status nothing is offered. Seven lent numbers are
     -- refused with 10.
-    ∷ case (stepOn (in-state 4) io (replicate 6 0)) (shows 0x0000000001000100 (1 ∷ 1 ∷ 128 ∷ 255 ∷ 0 ∷ 0 ∷ []))
-    ∷ case (stepOn (bytes 4 1 1 4 2 12 2) io (replicate 6 8)) (shows 0 (replicate 6 8))
-    ∷ case (stepOn (in-state 4) io (replicate 7 8)) (shows 10 (replicate 7 8))
-    ∷ case (stepOn (in-state 9) io (replicate 6 8)) (shows 10 (replicate 6 8))
+    ∷ case (commandStepOn (recordIn 4) io (replicate 6 0)) (commandOutcome 0x0000000001000100 (1 ∷ 1 ∷ 128 ∷ 255 ∷ 0 ∷ 0 ∷ []))
+    ∷ case (commandStepOn (bytes 4 1 1 4 2 12 2) io (replicate 6 8)) (commandOutcome 0 (replicate 6 8))
+    ∷ case (commandStepOn (recordIn 4) io (replicate 7 8)) (commandOutcome 10 (replicate 7 8))
+    ∷ case (commandStepOn (recordIn 9) io (replicate 6 8)) (commandOutcome 10 (replicate 6 8))
     ∷ []
 
 -- A poll with a packet buffer of 8 bytes of 9 in which the first OUT read offers `packet`, the second is busy, and IN does its part.
@@ -124,18 +124,18 @@ begun = 0x55 ∷ 0x53 ∷ 0x42 ∷ 0x43 ∷ 9 ∷ 0 ∷ 0 ∷ 0 ∷ 0 ∷ 0 ∷ 
 unfoldable pub polling : List Case
 polling =
     -- Three bytes are unread and two are left. They go out in 4 without a status, and in 6 with one; the read mark and left are stored.
-    case (pollOn (in-state 4) io (silent 8)) (polls 0x0000000300000000 (bytes 4 0 4 4 0 0 0) io (2 ∷ 3 ∷ 4 ∷ replicate 5 9))
-    ∷ case (pollOn (bytes 4 1 1 4 2 12 1) io (silent 8)) (polls 0x0000000300000000 (bytes 6 1 4 4 0 12 1) io (2 ∷ 3 ∷ 4 ∷ replicate 5 9))
+    case (pollOn (recordIn 4) io (silent 8)) (pollOutcome 0x0000000300000000 (bytes 4 0 4 4 0 0 0) io (2 ∷ 3 ∷ 4 ∷ replicate 5 9))
+    ∷ case (pollOn (bytes 4 1 1 4 2 12 1) io (silent 8)) (pollOutcome 0x0000000300000000 (bytes 6 1 4 4 0 12 1) io (2 ∷ 3 ∷ 4 ∷ replicate 5 9))
     -- One byte is unread and two are left: it is filled up to two bytes.
-    ∷ case (pollOn (bytes 6 1 3 4 2 12 1) io (silent 8)) (polls 0x0000000200000000 (bytes 6 1 5 5 0 12 1) (1 ∷ 2 ∷ 3 ∷ 4 ∷ 0xFF ∷ replicate 26 5) (4 ∷ 0xFF ∷ replicate 6 9))
+    ∷ case (pollOn (bytes 6 1 3 4 2 12 1) io (silent 8)) (pollOutcome 0x0000000200000000 (bytes 6 1 5 5 0 12 1) (1 ∷ 2 ∷ 3 ∷ 4 ∷ 0xFF ∷ replicate 26 5) (4 ∷ 0xFF ∷ replicate 6 9))
     -- A packet of data comes in: one packet is taken, and the write mark and left are stored.
-    ∷ case (pollOn (in-state 7) io (offering (6 ∷ 7 ∷ []))) (polls 0x0000000001000000 (bytes 7 0 1 6 0 0 0) (1 ∷ 2 ∷ 3 ∷ 4 ∷ 6 ∷ 7 ∷ replicate 25 5) (replicate 8 9))
+    ∷ case (pollOn (recordIn 7) io (offering (6 ∷ 7 ∷ []))) (pollOutcome 0x0000000001000000 (bytes 7 0 1 6 0 0 0) (1 ∷ 2 ∷ 3 ∷ 4 ∷ 6 ∷ 7 ∷ replicate 25 5) (replicate 8 9))
     -- The first eight bytes of the status go out, with the wrapper's tag.
-    ∷ case (pollOn (bytes 5 1 1 4 0 12 1) io (silent 8)) (polls 0x0000000800000000 (bytes 3 1 8 13 0 12 1) (0x55 ∷ 0x53 ∷ 0x42 ∷ 0x53 ∷ 7 ∷ 0 ∷ 0 ∷ 0 ∷ 12 ∷ 0 ∷ 0 ∷ 0 ∷ 1 ∷ replicate 18 5) (0x55 ∷ 0x53 ∷ 0x42 ∷ 0x53 ∷ 7 ∷ 0 ∷ 0 ∷ 0 ∷ []))
+    ∷ case (pollOn (bytes 5 1 1 4 0 12 1) io (silent 8)) (pollOutcome 0x0000000800000000 (bytes 3 1 8 13 0 12 1) (0x55 ∷ 0x53 ∷ 0x42 ∷ 0x53 ∷ 7 ∷ 0 ∷ 0 ∷ 0 ∷ 12 ∷ 0 ∷ 0 ∷ 0 ∷ 1 ∷ replicate 18 5) (0x55 ∷ 0x53 ∷ 0x42 ∷ 0x53 ∷ 7 ∷ 0 ∷ 0 ∷ 0 ∷ []))
     -- The last eight bytes of a wrapper come in: it is stored, and the device awaits its status in 5.
     ∷ case (pollOn (bytes 0 0 0 23 0 0 0) (begun ++ replicate 8 0) (offering (replicate 8 4)))
-    (polls 0x0000000001000000 ((8 ∷ 3 ∷ 5 ∷ 0 ∷ 31 ∷ 0 ∷ 0 ∷ 0 ∷ 31 ∷ 0 ∷ 0 ∷ 0 ∷ 31 ∷ 0 ∷ 0 ∷ 0 ∷ replicate 9 0) ++ (0 ∷ 2 ∷ 6 ∷ 9 ∷ replicate 7 0) ++ replicate 16 4) (begun ++ replicate 8 4) (replicate 8 9))
+    (pollOutcome 0x0000000001000000 ((8 ∷ 3 ∷ 5 ∷ 0 ∷ 31 ∷ 0 ∷ 0 ∷ 0 ∷ 31 ∷ 0 ∷ 0 ∷ 0 ∷ 31 ∷ 0 ∷ 0 ∷ 0 ∷ replicate 9 0) ++ (0 ∷ 2 ∷ 6 ∷ 9 ∷ replicate 7 0) ++ replicate 16 4) (begun ++ replicate 8 4) (replicate 8 9))
     -- 10 comes before 11. Either leaves everything as it was.
-    ∷ case (pollOn (in-state 9) io (silent 7)) (polls 10 (in-state 9) io (replicate 7 9))
-    ∷ case (pollOn (in-state 4) io (silent 7)) (polls 11 (in-state 4) io (replicate 7 9))
+    ∷ case (pollOn (recordIn 9) io (silent 7)) (pollOutcome 10 (recordIn 9) io (replicate 7 9))
+    ∷ case (pollOn (recordIn 4) io (silent 7)) (pollOutcome 11 (recordIn 4) io (replicate 7 9))
     ∷ []

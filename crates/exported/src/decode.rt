@@ -3,13 +3,13 @@ use scsi::numbers::decode_into;
 use scsi::numbers::decode_told_into;
 use wrapper::verdict::verdict_number;
 ghost use mathlib.Core.Path.{_≡_};
-ghost use Rattle.scsi.specs.Numbers.{shown, shownDecode, shownTold};
+ghost use Rattle.scsi.specs.Numbers.{decodeOutcome, shownDecode, shownTold};
 ghost use Rattle.wrapper.specs.Verdict.{verdictOf, verdictNumber};
 
 // Decodes `block` into the six numbers of `command`, without extended addressing.
 #[no_mangle]
 pub extern "C" fn souk_decode(block: &[u8], command: &mut [u64]) -> u32
-    ensures { λ x. ⌜ shown x (now (command .exit)) ≡ shownDecode (now (block .entry)) (now (command .entry)) ⌝ }
+    ensures { λ x. ⌜ decodeOutcome x (now (command .exit)) ≡ shownDecode (now (block .entry)) (now (command .entry)) ⌝ }
 {
     decode_into(block, command)
 }
@@ -17,7 +17,7 @@ pub extern "C" fn souk_decode(block: &[u8], command: &mut [u64]) -> u32
 // Decodes `block` in the same way; extended addressing is off where `extended` is 0 and on where it is 1.
 #[no_mangle]
 pub extern "C" fn souk_decode_told(block: &[u8], extended: u32, command: &mut [u64]) -> u32
-    ensures { λ x. ⌜ shown x (now (command .exit)) ≡ shownTold extended (now (block .entry)) (now (command .entry)) ⌝ }
+    ensures { λ x. ⌜ decodeOutcome x (now (command .exit)) ≡ shownTold extended (now (block .entry)) (now (command .entry)) ⌝ }
 {
     decode_told_into(block, extended, command)
 }

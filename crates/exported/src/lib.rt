@@ -10,15 +10,15 @@ use bbb::Turn;
 ghost use mathlib.Core.Path.{_≡_};
 ghost use Rattle.device.specs.Create.{fixed};
 ghost use Rattle.bbb.specs.Poll.{given};
-ghost use Rattle.ringbytes.specs.Poll.{polls, pollOn};
-ghost use Rattle.databytes.specs.Data.{moves, readOn, writeOn, writeAllOn};
-ghost use Rattle.callbytes.specs.Calls.{leaves, createOn, statusOn, resetOn, controlOn};
-ghost use Rattle.commandbytes.specs.Command.{shows, commandOn, stepOn};
+ghost use Rattle.ringbytes.specs.Poll.{pollOutcome, pollOn};
+ghost use Rattle.databytes.specs.Data.{dataOutcome, readDataOn, writeDataOn, writeDataAllOn};
+ghost use Rattle.callbytes.specs.Calls.{callOutcome, createOn, setStatusOn, resetOn, controlOn};
+ghost use Rattle.commandbytes.specs.Command.{commandOutcome, commandOn, commandStepOn};
 
 // Makes a new record.
 #[no_mangle]
 pub extern "C" fn souk_create(record: &mut [u8], packet_size: u32, max_lun: u8, size: u32) -> u32
-    ensures { λ x. ⌜ leaves x (now («record» .exit)) ≡ createOn (now («record» .entry)) (fixed «packet_size» «max_lun» size) ⌝ }
+    ensures { λ x. ⌜ callOutcome x (now («record» .exit)) ≡ createOn (now («record» .entry)) (fixed «packet_size» «max_lun» size) ⌝ }
 {
     callbytes::create::create(record, packet_size, max_lun, size)
 }
@@ -36,7 +36,7 @@ pub extern "C" fn souk_poll(
     second: u8,
     write: u8,
 ) -> u64
-    ensures { λ x. ⌜ polls x (now («record» .exit)) (now (io .exit)) (now (packet .exit)) ≡ pollOn (now («record» .entry)) (now (io .entry)) (given (now (packet .entry)) (now (one .entry)) (now (two .entry)) (record { first = first; second = second; write = write })) ⌝ }
+    ensures { λ x. ⌜ pollOutcome x (now («record» .exit)) (now (io .exit)) (now (packet .exit)) ≡ pollOn (now («record» .entry)) (now (io .entry)) (given (now (packet .entry)) (now (one .entry)) (now (two .entry)) (record { first = first; second = second; write = write })) ⌝ }
 {
     pollbytes::poll(
         record,
@@ -55,7 +55,7 @@ pub extern "C" fn souk_poll(
 // Sets the status that the host gets.
 #[no_mangle]
 pub extern "C" fn souk_set_status(record: &mut [u8], io: &[u8], status: u8, figure: u32) -> u32
-    ensures { λ x. ⌜ leaves x (now («record» .exit)) ≡ statusOn (now («record» .entry)) (now (io .entry)) (record { status = status; figure = figure }) ⌝ }
+    ensures { λ x. ⌜ callOutcome x (now («record» .exit)) ≡ setStatusOn (now («record» .entry)) (now (io .entry)) (record { status = status; figure = figure }) ⌝ }
 {
     callbytes::status::set_status(record, io, status, figure)
 }
@@ -63,7 +63,7 @@ pub extern "C" fn souk_set_status(record: &mut [u8], io: &[u8], status: u8, figu
 // Reads unread bytes of `io` into `dst`.
 #[no_mangle]
 pub extern "C" fn souk_read_data(record: &mut [u8], io: &[u8], dst: &mut [u8]) -> u64
-    ensures { λ x. ⌜ moves x (now («record» .exit)) (now (dst .exit)) ≡ readOn (now («record» .entry)) (now (io .entry)) (now (dst .entry)) ⌝ }
+    ensures { λ x. ⌜ dataOutcome x (now («record» .exit)) (now (dst .exit)) ≡ readDataOn (now («record» .entry)) (now (io .entry)) (now (dst .entry)) ⌝ }
 {
     databytes::read_data(record, io, dst)
 }
@@ -71,7 +71,7 @@ pub extern "C" fn souk_read_data(record: &mut [u8], io: &[u8], dst: &mut [u8]) -
 // Writes bytes of `src` into `io`, as many as fit and at most as many as are left.
 #[no_mangle]
 pub extern "C" fn souk_write_data(record: &mut [u8], io: &mut [u8], src: &[u8]) -> u64
-    ensures { λ x. ⌜ moves x (now («record» .exit)) (now (io .exit)) ≡ writeOn (now («record» .entry)) (now (io .entry)) (now (src .entry)) ⌝ }
+    ensures { λ x. ⌜ dataOutcome x (now («record» .exit)) (now (io .exit)) ≡ writeDataOn (now («record» .entry)) (now (io .entry)) (now (src .entry)) ⌝ }
 {
     databytes::write_data(record, io, src)
 }
@@ -79,7 +79,7 @@ pub extern "C" fn souk_write_data(record: &mut [u8], io: &mut [u8], src: &[u8]) 
 // Writes all of `src` into `io`, or none of it.
 #[no_mangle]
 pub extern "C" fn souk_try_write_data_all(record: &mut [u8], io: &mut [u8], src: &[u8]) -> u64
-    ensures { λ x. ⌜ moves x (now («record» .exit)) (now (io .exit)) ≡ writeAllOn (now («record» .entry)) (now (io .entry)) (now (src .entry)) ⌝ }
+    ensures { λ x. ⌜ dataOutcome x (now («record» .exit)) (now (io .exit)) ≡ writeDataAllOn (now («record» .entry)) (now (io .entry)) (now (src .entry)) ⌝ }
 {
     databytes::try_write_data_all(record, io, src)
 }
@@ -87,7 +87,7 @@ pub extern "C" fn souk_try_write_data_all(record: &mut [u8], io: &mut [u8], src:
 // Resets the device: it enters 0.
 #[no_mangle]
 pub extern "C" fn souk_reset(record: &mut [u8], io: &[u8]) -> u64
-    ensures { λ x. ⌜ leaves x (now («record» .exit)) ≡ resetOn (now («record» .entry)) (now (io .entry)) ⌝ }
+    ensures { λ x. ⌜ callOutcome x (now («record» .exit)) ≡ resetOn (now («record» .entry)) (now (io .entry)) ⌝ }
 {
     callbytes::bus::reset(record, io)
 }
@@ -95,7 +95,7 @@ pub extern "C" fn souk_reset(record: &mut [u8], io: &[u8]) -> u64
 // Handles the control request `request` with the bmRequestType `request_type`.
 #[no_mangle]
 pub extern "C" fn souk_control(record: &mut [u8], io: &[u8], request_type: u8, request: u8) -> u64
-    ensures { λ x. ⌜ leaves x (now («record» .exit)) ≡ controlOn (now («record» .entry)) (now (io .entry)) (record { requesttype = «request_type»; request = request }) ⌝ }
+    ensures { λ x. ⌜ callOutcome x (now («record» .exit)) ≡ controlOn (now («record» .entry)) (now (io .entry)) (record { requesttype = «request_type»; request = request }) ⌝ }
 {
     callbytes::bus::control(record, io, request_type, request)
 }
@@ -103,7 +103,7 @@ pub extern "C" fn souk_control(record: &mut [u8], io: &[u8], request_type: u8, r
 // Shows the command in the 16 bytes of `block`.
 #[no_mangle]
 pub extern "C" fn souk_command(record: &[u8], io: &[u8], block: &mut [u8]) -> u64
-    ensures { λ x. ⌜ shows x (now (block .exit)) ≡ commandOn (now («record» .entry)) (now (io .entry)) (now (block .entry)) ⌝ }
+    ensures { λ x. ⌜ commandOutcome x (now (block .exit)) ≡ commandOn (now («record» .entry)) (now (io .entry)) (now (block .entry)) ⌝ }
 {
     commandbytes::command(record, io, block)
 }
@@ -111,7 +111,7 @@ pub extern "C" fn souk_command(record: &[u8], io: &[u8], block: &mut [u8]) -> u6
 // Offers the command, decoded, in the six numbers of `command`.
 #[no_mangle]
 pub extern "C" fn souk_command_step(record: &[u8], io: &[u8], command: &mut [u64]) -> u64
-    ensures { λ x. ⌜ shows x (now (command .exit)) ≡ stepOn (now («record» .entry)) (now (io .entry)) (now (command .entry)) ⌝ }
+    ensures { λ x. ⌜ commandOutcome x (now (command .exit)) ≡ commandStepOn (now («record» .entry)) (now (io .entry)) (now (command .entry)) ⌝ }
 {
     commandbytes::command_step(record, io, command)
 }

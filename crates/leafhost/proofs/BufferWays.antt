@@ -10,24 +10,24 @@ use Rattle.buffer.specs.declared.Answer.{Answer}
 use Rattle.buffer.specs.declared.Answer.the-variants.{Done, Overflow, Broken}
 use Rattle.buffer.specs.Buffer.{Buffer, buffer}
 use Rattle.buffer.specs.Calls.{Answering, answerOf, readInto}
-use Rattle.leafhost.specs.Buffer.{host, markedBy, shown, hosted, hostInto}
-use Rattle.leafhost.specs.Inner.Buffer.{numberOf, marksOf}
+use Rattle.leafhost.specs.Buffer.{bufferOutcome, markedBy, bufferOutcomeOf, hosted, hostInto}
+use Rattle.leafhost.specs.Inner.Buffer.{answerNumber, marksOf}
 
 -- Three stores fill a list of three.
 pub three-stored : (l : List ℕ) (a b c : ℕ) → length l ≡ 3 → set (set (set l 0 a) 1 b) 2 c ≡ a ∷ b ∷ c ∷ []
 three-stored l a b c e = all-stored l (a ∷ b ∷ c ∷ []) e
 
 -- The caller sees an answer as its number, the bytes, and the three numbers.
-shown-answer : (m : Marks) (a : Answer) (b was : List ℕ) → shown was (answerOf m a b) ≡ host (numberOf a) b (marksOf a was)
-unfolding shown
+shown-answer : (m : Marks) (a : Answer) (b was : List ℕ) → bufferOutcomeOf was (answerOf m a b) ≡ bufferOutcome (answerNumber a) b (marksOf a was)
+unfolding bufferOutcomeOf
 shown-answer m (Done n t) b was = refl
 shown-answer m (Overflow t) b was = refl
 shown-answer m Broken b was = refl
 
 -- The caller has three numbers: m are its marks, a is the buffer's answer, and b are its bytes after the call.
 pub reports : (call : Buffer → Answering) (io marks : List ℕ) (m : Marks) (a : Answer) (b after : List ℕ) (r : ℕ)
-    → length marks ≡ 3 → m ≡ markedBy marks → answerOf m a b ≡ call (buffer io m) → r ≡ numberOf a → after ≡ marksOf a marks
-    → host r b after ≡ hosted call io marks
+    → length marks ≡ 3 → m ≡ markedBy marks → answerOf m a b ≡ call (buffer io m) → r ≡ answerNumber a → after ≡ marksOf a marks
+    → bufferOutcome r b after ≡ hosted call io marks
 unfolding hosted
 reports call io marks m a b after r e em et er ea = rw (eq-eqb _ _ e, ← em, ← et, shown-answer m a b marks, er, ea)
 
@@ -37,7 +37,7 @@ unfolding hostInto
 reads d io marks m e l em ee = rw (eq-eqb _ _ l, ← em) ee
 
 -- The caller does not have three numbers.
-pub refuses : (call : Buffer → Answering) (io marks : List ℕ) → (length marks ≡ 3 → ⊥) → host 10 io marks ≡ hosted call io marks
+pub refuses : (call : Buffer → Answering) (io marks : List ℕ) → (length marks ≡ 3 → ⊥) → bufferOutcome 10 io marks ≡ hosted call io marks
 unfolding hosted
 refuses call io marks n = rw (ne-eqb _ _ n)
 

@@ -6,8 +6,8 @@ use Prim.Native.Nat.{ℕ}
 use denote.Ref.{now}
 use Rattle.fields.proofs.Only.{Only}
 use Rattle.scsi.proofs.Unique.{shown-once}
-use Rattle.leafhost.specs.Buffer.{Host, host}
-use Rattle.leafhost.specs.Codecs.{Parse, parse, Status}
+use Rattle.leafhost.specs.Buffer.{BufferOutcome, bufferOutcome}
+use Rattle.leafhost.specs.Codecs.{ParseOutcome, parseOutcome, StatusOutcome}
 use Rattle.leafhost.proofs.linear.buffer_available.Kinds as available-kinds
 use Rattle.leafhost.proofs.linear.buffer_available.Reads as available
 use Rattle.leafhost.proofs.linear.buffer_clean.Kinds as clean-kinds
@@ -45,12 +45,12 @@ lent b m = record { first = b; second = m }
 
 -- What a call leaves determines its number, the bytes and the three numbers. For a call that
 -- only reads the bytes, `seen-marks` leaves them out.
-seen : {x y : ℕ} {b c m l : List ℕ} {h : Host} → host x b m ≡ h → host y c l ≡ h → (x ≡ y) × (lent b m ≡ lent c l)
+seen : {x y : ℕ} {b c m l : List ℕ} {h : BufferOutcome} → bufferOutcome x b m ≡ h → bufferOutcome y c l ≡ h → (x ≡ y) × (lent b m ≡ lent c l)
 seen p q =
     let e = p ∙ sym q in
-    (ap (λ (h : Host). h .number) e, ap (λ (h : Host). lent (h .bytes) (h .marks)) e)
+    (ap (λ (h : BufferOutcome). h .number) e, ap (λ (h : BufferOutcome). lent (h .bytes) (h .marks)) e)
 
-seen-marks : {x y : ℕ} {b c m l : List ℕ} {h : Host} → host x b m ≡ h → host y c l ≡ h → (x ≡ y) × (m ≡ l)
+seen-marks : {x y : ℕ} {b c m l : List ℕ} {h : BufferOutcome} → bufferOutcome x b m ≡ h → bufferOutcome y c l ≡ h → (x ≡ y) × (m ≡ l)
 seen-marks p q =
     let e = seen p q in
     (e .0, ap (λ (l : Lent). l .second) (e .1))
@@ -87,13 +87,13 @@ pub scsi-decode-told-only : Only 2 scsi-decode-told-kinds.ps scsi-decode-told-ki
 scsi-decode-told-only κs a x y s t p q = shown-once (p ∙ sym q)
 
 -- This looks at both lent slices; the number 0 only fills the record.
-pub wrapper-parse-only : Only 3 wrapper-parse-kinds.ps wrapper-parse-kinds.r wrapper-parse.Post (λ κs s. parse 0 (now (s .1 .0)) (now (s .1 .1 .0)))
+pub wrapper-parse-only : Only 3 wrapper-parse-kinds.ps wrapper-parse-kinds.r wrapper-parse.Post (λ κs s. parseOutcome 0 (now (s .1 .0)) (now (s .1 .1 .0)))
 wrapper-parse-only κs a x y s t p q =
     let e = p ∙ sym q in
-    (ap (λ (r : Parse). r .number) e, ap (λ (r : Parse). parse 0 (r .fields) (r .block)) e)
+    (ap (λ (r : ParseOutcome). r .number) e, ap (λ (r : ParseOutcome). parseOutcome 0 (r .fields) (r .block)) e)
 
 pub wrapper-status-only : Only 1 wrapper-status-kinds.ps wrapper-status-kinds.r wrapper-status.Post (λ κs s. now (s .1 .1 .1 .1 .0))
-wrapper-status-only κs a x y s t p q = (ap (λ (r : Status). r .number) (p ∙ sym q), ap (λ (r : Status). r .bytes) (p ∙ sym q))
+wrapper-status-only κs a x y s t p q = (ap (λ (r : StatusOutcome). r .number) (p ∙ sym q), ap (λ (r : StatusOutcome). r .bytes) (p ∙ sym q))
 
 pub wrapper-verdict-only : Only 1 wrapper-verdict-kinds.ps wrapper-verdict-kinds.r wrapper-verdict.Post (λ κs s. tt {0})
 wrapper-verdict-only κs a x y s t p q = (p ∙ sym q, refl)

@@ -14,25 +14,25 @@ unfoldable pub markedBy : List ℕ → Marks
 markedBy marks = at (getD marks 0 0) (getD marks 1 0)
 
 -- A call leaves this with its caller: `number` is the result, `bytes` are the bytes of the IO buffer, and `marks` are the three numbers.
--- `host` makes one from these three, `n`, `b` and `m`.
-pub record Host : Type 0 where
+-- `bufferOutcome` makes one from these three, `n`, `b` and `m`.
+pub record BufferOutcome : Type 0 where
   pub number : ℕ
   pub bytes : List ℕ
   pub marks : List ℕ
 
-abbrev pub host : ℕ → List ℕ → List ℕ → Host
-host n b m = record { number = n; bytes = b; marks = m }
+abbrev pub bufferOutcome : ℕ → List ℕ → List ℕ → BufferOutcome
+bufferOutcome n b m = record { number = n; bytes = b; marks = m }
 
 -- The caller sees this of the outcome `o`. Its numbers `was` stay if the answer is 10; otherwise they become the two marks and the count.
-unfoldable pub shown : List ℕ → Answering → Host
-shown was o =
-    host (o .answer) (o .leaves .bytes)
+unfoldable pub bufferOutcomeOf : List ℕ → Answering → BufferOutcome
+bufferOutcomeOf was o =
+    bufferOutcome (o .answer) (o .leaves .bytes)
     (cond (eqb (o .answer) 10) was (o .leaves .marks .read ∷ o .leaves .marks .write ∷ o .count ∷ []))
 
 -- The caller sees this of the buffer's call `call` on the bytes `io`, with its numbers `marks`. If these are not three, they are a broken
 -- record: the result is 10, and all is as before.
-unfoldable pub hosted : (Buffer → Answering) → List ℕ → List ℕ → Host
-hosted call io marks = cond (eqb (length marks) 3) (shown marks (call (buffer io (markedBy marks)))) (host 10 io marks)
+unfoldable pub hosted : (Buffer → Answering) → List ℕ → List ℕ → BufferOutcome
+hosted call io marks = cond (eqb (length marks) 3) (bufferOutcomeOf marks (call (buffer io (markedBy marks)))) (bufferOutcome 10 io marks)
 
 -- A read from the bytes `io` leaves this in the destination `d`. If the numbers `marks` are not three, `d` is as before.
 unfoldable pub hostInto : List ℕ → List ℕ → List ℕ → List ℕ

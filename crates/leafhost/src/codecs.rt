@@ -10,14 +10,14 @@ use wrapper::status::StatusByte;
 use wrapper::verdict::verdict_number;
 ghost use mathlib.Core.Path.{_≡_};
 ghost use lib.ListN.{length};
-ghost use Rattle.scsi.specs.Numbers.{shown, shownDecode, shownTold};
+ghost use Rattle.scsi.specs.Numbers.{decodeOutcome, shownDecode, shownTold};
 ghost use Rattle.wrapper.specs.Verdict.{verdictOf, verdictNumber};
-ghost use Rattle.leafhost.specs.Codecs.{numbers, parse, shownParse, status, shownStatus};
+ghost use Rattle.leafhost.specs.Codecs.{wrapperNumbers, parseOutcome, shownParse, statusOutcome, shownStatus};
 
 // Stores the five numbers of the wrapper `w` in `fields`.
 fn put_fields(fields: &mut [u32], w: Wrapper)
     requires { ⌜ length (now fields) ≡ 5 ⌝ }
-    ensures { λ _. ⌜ now (fields .exit) ≡ numbers w ⌝ }
+    ensures { λ _. ⌜ now (fields .exit) ≡ wrapperNumbers w ⌝ }
 {
     let direction = w.direction;
     fields[0] = w.tag;
@@ -31,7 +31,7 @@ fn put_fields(fields: &mut [u32], w: Wrapper)
 // block in `block`. The answer is 10 if other lengths are lent.
 #[no_mangle]
 pub extern "C" fn wrapper_parse(message: &[u8], fields: &mut [u32], block: &mut [u8]) -> u32
-    ensures { λ r. ⌜ parse r (now (fields .exit)) (now (block .exit)) ≡ shownParse (now (message .entry)) (now (fields .entry)) (now (block .entry)) ⌝ }
+    ensures { λ r. ⌜ parseOutcome r (now (fields .exit)) (now (block .exit)) ≡ shownParse (now (message .entry)) (now (fields .entry)) (now (block .entry)) ⌝ }
 {
     if fields.len() != 5 {
         return 10;
@@ -60,7 +60,7 @@ pub extern "C" fn wrapper_status(
     byte: u8,
     bytes: &mut [u8],
 ) -> u32
-    ensures { λ r. ⌜ status r (now (bytes .exit)) ≡ shownStatus tag length figure byte (now (bytes .entry)) ⌝ }
+    ensures { λ r. ⌜ statusOutcome r (now (bytes .exit)) ≡ shownStatus tag length figure byte (now (bytes .entry)) ⌝ }
 {
     if bytes.len() != in_status::SIZE {
         return 10;
@@ -89,7 +89,7 @@ pub extern "C" fn wrapper_verdict(message: &[u8], maxlun: u8) -> u32
 // is empty, and 10 if `command` does not have six numbers.
 #[no_mangle]
 pub extern "C" fn scsi_decode(block: &[u8], command: &mut [u64]) -> u32
-    ensures { λ r. ⌜ shown r (now (command .exit)) ≡ shownDecode (now (block .entry)) (now (command .entry)) ⌝ }
+    ensures { λ r. ⌜ decodeOutcome r (now (command .exit)) ≡ shownDecode (now (block .entry)) (now (command .entry)) ⌝ }
 {
     decode_into(block, command)
 }
@@ -98,7 +98,7 @@ pub extern "C" fn scsi_decode(block: &[u8], command: &mut [u64]) -> u32
 // answers 10; its other answers are those of `scsi_decode`.
 #[no_mangle]
 pub extern "C" fn scsi_decode_told(block: &[u8], extended: u32, command: &mut [u64]) -> u32
-    ensures { λ r. ⌜ shown r (now (command .exit)) ≡ shownTold extended (now (block .entry)) (now (command .entry)) ⌝ }
+    ensures { λ r. ⌜ decodeOutcome r (now (command .exit)) ≡ shownTold extended (now (block .entry)) (now (command .entry)) ⌝ }
 {
     decode_told_into(block, extended, command)
 }

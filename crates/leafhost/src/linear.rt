@@ -5,13 +5,13 @@ use buffer::Marks;
 ghost use mathlib.Core.Path.{_≡_};
 ghost use lib.ListN.{length};
 ghost use Rattle.buffer.specs.Calls.{availableCall, cleanCall, shiftCall, writeCall, writeAllCall, fillCall, readCall};
-ghost use Rattle.leafhost.specs.Buffer.{hosted, host, markedBy, hostInto};
-ghost use Rattle.leafhost.specs.Inner.Buffer.{marksOf, numberOf};
+ghost use Rattle.leafhost.specs.Buffer.{hosted, bufferOutcome, markedBy, hostInto};
+ghost use Rattle.leafhost.specs.Inner.Buffer.{marksOf, answerNumber};
 
 // Gives 01's number of the answer `a`, and stores the marks and the count in the caller's `marks`.
 fn report(marks: &mut [usize], a: Answer) -> u32
     requires { ⌜ length (now marks) ≡ 3 ⌝ }
-    ensures { λ r. ⌜ (r ≡ numberOf a) × (now (marks .exit) ≡ marksOf a (now (marks .entry))) ⌝ }
+    ensures { λ r. ⌜ (r ≡ answerNumber a) × (now (marks .exit) ≡ marksOf a (now (marks .entry))) ⌝ }
 {
     match a {
         Answer::Done(n, t) => {
@@ -44,7 +44,7 @@ fn marked(marks: &[usize]) -> Marks
 // Counts the unread bytes of `io`.
 #[no_mangle]
 pub extern "C" fn buffer_available(io: &[u8], marks: &mut [usize]) -> u32
-    ensures { λ r. ⌜ host r (now (io .entry)) (now (marks .exit)) ≡ hosted availableCall (now (io .entry)) (now (marks .entry)) ⌝ }
+    ensures { λ r. ⌜ bufferOutcome r (now (io .entry)) (now (marks .exit)) ≡ hosted availableCall (now (io .entry)) (now (marks .entry)) ⌝ }
 {
     if marks.len() == 3 {
         let a = buffer::available(io, marked(marks));
@@ -56,7 +56,7 @@ pub extern "C" fn buffer_available(io: &[u8], marks: &mut [usize]) -> u32
 // Empties the buffer `io`: both marks become 0.
 #[no_mangle]
 pub extern "C" fn buffer_clean(io: &[u8], marks: &mut [usize]) -> u32
-    ensures { λ r. ⌜ host r (now (io .entry)) (now (marks .exit)) ≡ hosted cleanCall (now (io .entry)) (now (marks .entry)) ⌝ }
+    ensures { λ r. ⌜ bufferOutcome r (now (io .entry)) (now (marks .exit)) ≡ hosted cleanCall (now (io .entry)) (now (marks .entry)) ⌝ }
 {
     if marks.len() == 3 {
         let a = buffer::clean(io, marked(marks));
@@ -68,7 +68,7 @@ pub extern "C" fn buffer_clean(io: &[u8], marks: &mut [usize]) -> u32
 // Moves the unread bytes of `io` to the front.
 #[no_mangle]
 pub extern "C" fn buffer_shift(io: &mut [u8], marks: &mut [usize]) -> u32
-    ensures { λ r. ⌜ host r (now (io .exit)) (now (marks .exit)) ≡ hosted shiftCall (now (io .entry)) (now (marks .entry)) ⌝ }
+    ensures { λ r. ⌜ bufferOutcome r (now (io .exit)) (now (marks .exit)) ≡ hosted shiftCall (now (io .entry)) (now (marks .entry)) ⌝ }
 {
     if marks.len() == 3 {
         let a = buffer::shift(io, marked(marks));
@@ -80,7 +80,7 @@ pub extern "C" fn buffer_shift(io: &mut [u8], marks: &mut [usize]) -> u32
 // Appends what fits of `src` to the unread bytes of `io`.
 #[no_mangle]
 pub extern "C" fn buffer_write(io: &mut [u8], marks: &mut [usize], src: &[u8]) -> u32
-    ensures { λ r. ⌜ host r (now (io .exit)) (now (marks .exit)) ≡ hosted (writeCall (now (src .entry))) (now (io .entry)) (now (marks .entry)) ⌝ }
+    ensures { λ r. ⌜ bufferOutcome r (now (io .exit)) (now (marks .exit)) ≡ hosted (writeCall (now (src .entry))) (now (io .entry)) (now (marks .entry)) ⌝ }
 {
     if marks.len() == 3 {
         let a = buffer::write(io, marked(marks), src);
@@ -97,7 +97,7 @@ pub extern "C" fn buffer_write_all(
     want: usize,
     src: &[u8],
 ) -> u32
-    ensures { λ r. ⌜ host r (now (io .exit)) (now (marks .exit)) ≡ hosted (writeAllCall want (now (src .entry))) (now (io .entry)) (now (marks .entry)) ⌝ }
+    ensures { λ r. ⌜ bufferOutcome r (now (io .exit)) (now (marks .exit)) ≡ hosted (writeAllCall want (now (src .entry))) (now (io .entry)) (now (marks .entry)) ⌝ }
 {
     if marks.len() == 3 {
         let a = buffer::write_all(io, marked(marks), want, src);
@@ -109,7 +109,7 @@ pub extern "C" fn buffer_write_all(
 // Appends the byte `v` to the unread bytes of `io`, as often as it fits and at most `n` times.
 #[no_mangle]
 pub extern "C" fn buffer_fill_up_to(io: &mut [u8], marks: &mut [usize], v: u8, n: usize) -> u32
-    ensures { λ r. ⌜ host r (now (io .exit)) (now (marks .exit)) ≡ hosted (fillCall v n) (now (io .entry)) (now (marks .entry)) ⌝ }
+    ensures { λ r. ⌜ bufferOutcome r (now (io .exit)) (now (marks .exit)) ≡ hosted (fillCall v n) (now (io .entry)) (now (marks .entry)) ⌝ }
 {
     if marks.len() == 3 {
         let a = buffer::fill_up_to(io, marked(marks), v, n);
@@ -121,7 +121,7 @@ pub extern "C" fn buffer_fill_up_to(io: &mut [u8], marks: &mut [usize], v: u8, n
 // Gives the first unread bytes of `io`, as many as `dst` holds, to the front of `dst`. After that they count as read.
 #[no_mangle]
 pub extern "C" fn buffer_read(io: &[u8], marks: &mut [usize], dst: &mut [u8]) -> u32
-    ensures { λ r. ⌜ (host r (now (io .entry)) (now (marks .exit)) ≡ hosted (readCall (length (now (dst .entry)))) (now (io .entry)) (now (marks .entry)))
+    ensures { λ r. ⌜ (bufferOutcome r (now (io .entry)) (now (marks .exit)) ≡ hosted (readCall (length (now (dst .entry)))) (now (io .entry)) (now (marks .entry)))
         × (now (dst .exit) ≡ hostInto (now (dst .entry)) (now (io .entry)) (now (marks .entry))) ⌝ }
 {
     if marks.len() == 3 {

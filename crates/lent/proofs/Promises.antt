@@ -7,7 +7,7 @@ use denote.Ref.{now}
 use Rattle.bbb.specs.Poll as Poll
 use Rattle.bbb.specs.Poll.{pollCall}
 use Rattle.calls.specs.Status.{setStatusCall}
-use Rattle.calls.specs.Data.{readCall, writeCall, writeAllCall}
+use Rattle.calls.specs.Data.{readDataCall, writeDataCall, writeDataAllCall}
 use Rattle.calls.specs.Bus.{resetCall, controlCall}
 use Rattle.lent.specs.Lent.{pollingWith, statingWith, movingWith, handlingWith}
 use Rattle.lent.proofs.Types.{device, turn, report, polled, firmware-status, answer, stated, count, moved, request, controlled, handled}
@@ -33,21 +33,21 @@ abbrev pub read-data-others : List (Kind 2)
 read-data-others = mutable 0 tt ∷ shared 1 tt ∷ []
 
 abbrev pub read-data-promise : Promise device count moved read-data-others
-read-data-promise κs d a d′ r z = movingWith d′ r (now (z .0)) ≡ readCall d (now (a .1 .0)) (now (a .0))
+read-data-promise κs d a d′ r z = movingWith d′ r (now (z .0)) ≡ readDataCall d (now (a .1 .0)) (now (a .0))
 
 -- io, src
 abbrev pub write-data-others : List (Kind 2)
 write-data-others = mutable 0 tt ∷ shared 1 tt ∷ []
 
 abbrev pub write-data-promise : Promise device count moved write-data-others
-write-data-promise κs d a d′ r z = movingWith d′ r (now (z .0)) ≡ writeCall d (now (a .0)) (now (a .1 .0))
+write-data-promise κs d a d′ r z = movingWith d′ r (now (z .0)) ≡ writeDataCall d (now (a .0)) (now (a .1 .0))
 
 -- io, src
 abbrev pub try-write-data-all-others : List (Kind 2)
 try-write-data-all-others = mutable 0 tt ∷ shared 1 tt ∷ []
 
 abbrev pub try-write-data-all-promise : Promise device count moved try-write-data-all-others
-try-write-data-all-promise κs d a d′ r z = movingWith d′ r (now (z .0)) ≡ writeAllCall d (now (a .0)) (now (a .1 .0))
+try-write-data-all-promise κs d a d′ r z = movingWith d′ r (now (z .0)) ≡ writeDataAllCall d (now (a .0)) (now (a .1 .0))
 
 -- io
 abbrev pub reset-others : List (Kind 1)

@@ -13,7 +13,7 @@ use device::Device;
 ghost use mathlib.Core.Path.{_≡_};
 ghost use Rattle.bbb.specs.Poll.{given, pollCall};
 ghost use Rattle.calls.specs.Status.{setStatusCall};
-ghost use Rattle.calls.specs.Data.{readCall, writeCall, writeAllCall};
+ghost use Rattle.calls.specs.Data.{readDataCall, writeDataCall, writeDataAllCall};
 ghost use Rattle.calls.specs.Bus.{resetCall, controlCall};
 ghost use Rattle.lent.specs.Lent.{pollingWith, statingWith, movingWith, handlingWith};
 
@@ -46,7 +46,7 @@ pub fn set_status(d: &mut Device, io: &[u8], given: FirmwareStatus) -> Answer
 
 // The first unread bytes go to `dst`.
 pub fn read_data(d: &mut Device, dst: &mut [u8], io: &[u8]) -> Count
-    ensures { λ r. ⌜ movingWith (now (d .exit)) r (now (dst .exit)) ≡ readCall (now (d .entry)) (now (io .entry)) (now (dst .entry)) ⌝ }
+    ensures { λ r. ⌜ movingWith (now (d .exit)) r (now (dst .exit)) ≡ readDataCall (now (d .entry)) (now (io .entry)) (now (dst .entry)) ⌝ }
 {
     let v = *d;
     let r = calls::read_data(v, dst, io);
@@ -56,7 +56,7 @@ pub fn read_data(d: &mut Device, dst: &mut [u8], io: &[u8]) -> Count
 
 // The first bytes of `src` go into the buffer: as many as fit, and no more than are left.
 pub fn write_data(d: &mut Device, io: &mut [u8], src: &[u8]) -> Count
-    ensures { λ r. ⌜ movingWith (now (d .exit)) r (now (io .exit)) ≡ writeCall (now (d .entry)) (now (io .entry)) (now (src .entry)) ⌝ }
+    ensures { λ r. ⌜ movingWith (now (d .exit)) r (now (io .exit)) ≡ writeDataCall (now (d .entry)) (now (io .entry)) (now (src .entry)) ⌝ }
 {
     let v = *d;
     let r = calls::write_data(v, io, src);
@@ -66,7 +66,7 @@ pub fn write_data(d: &mut Device, io: &mut [u8], src: &[u8]) -> Count
 
 // All of `src` goes into the buffer, or nothing.
 pub fn try_write_data_all(d: &mut Device, io: &mut [u8], src: &[u8]) -> Count
-    ensures { λ r. ⌜ movingWith (now (d .exit)) r (now (io .exit)) ≡ writeAllCall (now (d .entry)) (now (io .entry)) (now (src .entry)) ⌝ }
+    ensures { λ r. ⌜ movingWith (now (d .exit)) r (now (io .exit)) ≡ writeDataAllCall (now (d .entry)) (now (io .entry)) (now (src .entry)) ⌝ }
 {
     let v = *d;
     let r = calls::try_write_data_all(v, io, src);

@@ -19,7 +19,7 @@ use libc::STDOUT_FILENO;
 use ring::state_number;
 ghost use mathlib.Core.Path.{_≡_};
 ghost use Rattle.bbb.specs.Poll.{given, pollingOf, pollCall};
-ghost use Rattle.calls.specs.Status.{statedOf, setStatusCall};
+ghost use Rattle.calls.specs.Status.{statingOf, setStatusCall};
 
 // Lends the record to a poll and takes it back.
 fn poll(
@@ -42,7 +42,7 @@ fn poll(
 
 // Lends the record to a status and takes it back.
 fn set_status(mut device: Device, io: &[u8], given: FirmwareStatus) -> Stated
-    ensures { λ r. ⌜ statedOf r ≡ setStatusCall device (now (io .entry)) given ⌝ }
+    ensures { λ r. ⌜ statingOf r ≡ setStatusCall device (now (io .entry)) given ⌝ }
 {
     let r = lent::set_status(&mut device, io, given);
     let d = device;

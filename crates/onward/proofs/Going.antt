@@ -18,7 +18,7 @@ use Rattle.fields.specs.Field.{get}
 use Rattle.fields.specs.Overlay.{overlay}
 use Rattle.fields.proofs.Bools.{not-false, clash}
 use Rattle.buffer.specs.declared.Marks.{Marks}
-use Rattle.buffer.specs.Buffer.{Buffer, buffer, at, unread, unreadBytes, room, withRoom, appended, lacksRoom, writtenAll, ready, given, readOff}
+use Rattle.buffer.specs.Buffer.{Buffer, buffer, at, unread, unreadBytes, room, withRoom, appended, lacksRoom, writtenAll, ready, readyBytes, readOff}
 use Rattle.answers.specs.declared.Endpoint.the-variants.{Served}
 use Rattle.answers.specs.declared.Stalls.the-variants.{Kept}
 use Rattle.answers.specs.Answers.{answer, endpointOf}
@@ -33,17 +33,17 @@ use Rattle.packets.specs.Packets.{handed, readAnswer, takesOne, brought, receiv
 use Rattle.packets.proofs.Laws.{fills-none, answer-served}
 use Rattle.device.specs.declared.Device.{Device}
 use Rattle.device.specs.declared.Numbers.{Numbers}
-use Rattle.device.specs.Create.{fixed, isPacketSize, creation}
+use Rattle.device.specs.Create.{fixed, isPacketSize, creationChecks}
 use Rattle.device.specs.Device.{isPresent, numbersOf, inState, withMarks, withLeft}
 use Rattle.device.specs.Broken.{statusFits, Whole}
 use Rattle.device.proofs.Wholly.{whole-sound, size-most, packet-known, packet-bounds}
-use Rattle.bbb.specs.Poll.{Given, Polling, Fits, isFitting, point, sendBy, send, sendData, takeData, takeBy, offers, offeredBy, toHostEndingRule, toHostRule, fromHostRule, ruleIn, pollRule, pollCall}
+use Rattle.bbb.specs.Poll.{Given, Polling, Fits, isFitting, point, sendBy, send, sendData, takeData, takeBy, offeredPacket, offeredBy, toHostEndingRule, toHostRule, fromHostRule, ruleIn, pollRule, pollCall}
 use Rattle.bbb.proofs.Keeping.{call-done}
 use Rattle.recordbytes.specs.Layout as field
 use Rattle.recordbytes.specs.Record.{statusBy, statusAt, marksAt, wrapperAt, fixedAt, deviceAt, storeState, storeMarks, storeLeft}
 use Rattle.recordbytes.proofs.Stored.{known-is}
 use Rattle.border.specs.Word.{word}
-use Rattle.onward.specs.Inner.Onward.{Steady, Ready, sendsIn, Sending, MaySend, Taking, MayTake, bufferOf, SendsOn, TakesOn}
+use Rattle.onward.specs.Inner.Onward.{Steady, Ready, sendsIn, Sending, MaySend, Taking, MayTake, bufferOfNumbers, SendsOn, TakesOn}
 
 -- ---- the tests
 
@@ -64,8 +64,8 @@ module _ (state : ℕ) where
   unfolding sendsIn
   sends-known h = cases (eqb state 6) (λ e. omega (arith, eqb-true state 6 e)) (λ e. omega (arith, eqb-true state 4 (rw e at h)))
 
-created-by : (p maxlun size : ℕ) → isPacketSize p ≡ true → maxlun ≤ 15 → 64 ≤ size → size ≤ 65536 → creation (fixed p maxlun size) ≡ 0
-unfolding creation
+created-by : (p maxlun size : ℕ) → isPacketSize p ≡ true → maxlun ≤ 15 → 64 ≤ size → size ≤ 65536 → creationChecks (fixed p maxlun size) ≡ 0
+unfolding creationChecks
 created-by p maxlun size h a b c =
     rw (le-ltb 15 maxlun a, le-ltb size 31 (omega arith), le-ltb size p (omega (arith, packet-bounds p h .1)), h, le-ltb 65536 size c)
 
@@ -165,7 +165,7 @@ module _ (d : Device) (io : List ℕ) (g : Given) (w : Whole (numbersOf d) (leng
     sent = ready (d .fixed .packetsize) s;
     stalls = Kept;
     io = io;
-    packet = overlay (g .packet) 0 (given (d .fixed .packetsize) s);
+    packet = overlay (g .packet) 0 (readyBytes (d .fixed .packetsize) s);
   }
 
   module _ (h : Sending (numbersOf d) (g .turn .write)) where
@@ -226,7 +226,7 @@ module _ (d : Device) (io : List ℕ) (g : Given) (w : Whole (numbersOf d) (leng
 
   module _ (h : Taking (numbersOf d) (length io) (g .turn .first)) where
     from-host-takes : fromHostRule g (point d io 0 false) ≡ takenOn
-    unfolding fromHostRule takeData takeBy offers offeredBy received readAnswer takesOne brought handed endpointOf appended
+    unfolding fromHostRule takeData takeBy offeredPacket offeredBy received readAnswer takesOne brought handed endpointOf appended
     from-host-takes =
         let s : Buffer = buffer io (d .marks) in
         rw (ne-eqb (d .left .0) 0 (h .some), h .absent, h .served, roomy (d .fixed .packetsize) s (h .room) .1, takes-all (d .fixed .packetsize) s (g .one) (h .room) (f .first), ← in-7 (d .state) (eq-eqb _ _ (h .state)))
@@ -246,15 +246,15 @@ module _ (n : Numbers) (len : ℕ) (w : Whole n len) where
 
 -- A whole packet is unread, so a read takes all of it.
 module _ (n : Numbers) (io : List ℕ) (h : n .fixed .packetsize ≤ n .marks .write - n .marks .read) where
-  all-ready : n .fixed .packetsize ≡ ready (n .fixed .packetsize) (bufferOf n io)
+  all-ready : n .fixed .packetsize ≡ ready (n .fixed .packetsize) (bufferOfNumbers n io)
   unfolding ready
   all-ready = sym (min-eq-right h)
 
-  all-given : take (n .fixed .packetsize) (drop (n .marks .read) io) ≡ given (n .fixed .packetsize) (bufferOf n io)
-  unfolding given unreadBytes
+  all-given : take (n .fixed .packetsize) (drop (n .marks .read) io) ≡ readyBytes (n .fixed .packetsize) (bufferOfNumbers n io)
+  unfolding readyBytes unreadBytes
   all-given = rw (← all-ready) (sym (take-take (n .fixed .packetsize) (n .marks .write - n .marks .read) (drop (n .marks .read) io) h))
 
-  all-read : at (n .marks .read + n .fixed .packetsize) (n .marks .write) ≡ readOff (n .fixed .packetsize) (bufferOf n io) .marks
+  all-read : at (n .marks .read + n .fixed .packetsize) (n .marks .write) ≡ readOff (n .fixed .packetsize) (bufferOfNumbers n io) .marks
   unfolding readOff
   all-read = ap (λ (k : ℕ). at (n .marks .read + k) (n .marks .write)) all-ready
 
@@ -266,7 +266,7 @@ module _ (n : Numbers) (io : List ℕ) (h : n .fixed .packetsize ≤ n .marks .w
       let long : n .marks .read + n .fixed .packetsize - n .marks .read ≡ n .fixed .packetsize = omega arith in
       record {
         answer = ex ∙ ap (word 0 0 0 0) (ek ∙ all-ready);
-        bytes = el ∙ rw (eb, ea, ef) (ap (λ (m : Marks). storeLeft (fallen (n .left) (n .fixed .packetsize)) (storeMarks m (storeState DataTransferToHostEnding r))) all-read ∙ ap (λ (k : ℕ). storeLeft (fallen (n .left) k) (storeMarks (readOff (n .fixed .packetsize) (bufferOf n io) .marks) (storeState DataTransferToHostEnding r))) all-ready);
+        bytes = el ∙ rw (eb, ea, ef) (ap (λ (m : Marks). storeLeft (fallen (n .left) (n .fixed .packetsize)) (storeMarks m (storeState DataTransferToHostEnding r))) all-read ∙ ap (λ (k : ℕ). storeLeft (fallen (n .left) k) (storeMarks (readOff (n .fixed .packetsize) (bufferOfNumbers n io) .marks) (storeState DataTransferToHostEnding r))) all-ready);
         packet = ep ∙ ap (overlay p 0) (ap (λ (k : ℕ). take k (drop (n .marks .read) io)) long ∙ all-given);
       }
 

@@ -13,7 +13,7 @@ use Rattle.fields.proofs.Bools.{of-picked}
 use Rattle.fields.proofs.Overlay.{overlay-nothing}
 use Rattle.buffer.specs.declared.Marks.{Marks}
 use Rattle.buffer.specs.declared.marked.Put.{Put}
-use Rattle.buffer.specs.Buffer.{Buffer, buffer, at, unread, lacksRoom, writtenAll, filled, written, emptied, ready, given, readOff}
+use Rattle.buffer.specs.Buffer.{Buffer, buffer, at, unread, lacksRoom, writtenAll, filled, written, emptied, ready, readyBytes, readOff}
 use Rattle.buffer.specs.Inner.Buffer.{Sound, Leaves}
 use Rattle.buffer.proofs.Unread.{filled-none}
 use Rattle.answers.specs.declared.Answer.the-variants.{Done, IoBufferOverflow}
@@ -25,7 +25,7 @@ use Rattle.wrapper.specs.declared.counters.Left.{Left}
 use Rattle.wrapper.specs.declared.counters.Residue.{Residue}
 use Rattle.wrapper.specs.Status.{statusBytes}
 use Rattle.packets.specs.declared.Received.{Received}
-use Rattle.packets.specs.Packets.{handed, readAnswer, takesOne, brought, received, accepted, sendAnswer, sentCount, sentOff, sentInto, filledUp, withStatus}
+use Rattle.packets.specs.Packets.{handed, readAnswer, takesOne, brought, received, accepted, sendAnswer, sentCount, sentOff, sentInto, filledUp, statusWritten}
 use Rattle.packets.specs.Inner.Packets.{Reports, Reads, Sends}
 
 -- ---- how much moves
@@ -118,11 +118,11 @@ module _ (p : ℕ) (e : Endpoint) (s : Buffer) where
     off-nothing = rw (k, add-zero)
 
     pub into-nothing : (packet : List ℕ) → sentInto p e s packet ≡ packet
-    unfolding sentCount sentInto given
+    unfolding sentCount sentInto readyBytes
     into-nothing packet = rw k (overlay-nothing packet 0)
 
   module _ (packet : List ℕ) {b : Bool} (h : b ≡ serves e) where
-    pub sends-served : b ≡ true → {k : ℕ} {m : Marks} {l : List ℕ} → k ≡ ready p s → Leaves (buffer (s .bytes) m) (readOff p s) → l ≡ overlay packet 0 (given p s)
+    pub sends-served : b ≡ true → {k : ℕ} {m : Marks} {l : List ℕ} → k ≡ ready p s → Leaves (buffer (s .bytes) m) (readOff p s) → l ≡ overlay packet 0 (readyBytes p s)
         → Sends p e s packet (record { answer = Done; count = k; marks = m }) l
     unfolding sentCount sentOff sentInto accepted
     sends-served q hk hl hp =
@@ -148,8 +148,8 @@ module _ (p : ℕ) (left : Left) (s : Buffer) {w : ℕ} (hw : w ≡ min (left .0
       record { same = rw (none, filled-none 0xFF s); sound = g }
 
 pub puts-status : (tag : ℕ) (residue : Residue) (status : ℕ) (io : List ℕ) {ys : List ℕ} {m : Marks} {t : Buffer}
-    → ys ≡ statusBytes tag residue status → m ≡ at 0 0 → Leaves t (written ys (buffer io m)) → Leaves t (withStatus tag residue status (buffer io (at 0 0)))
-unfolding withStatus emptied
+    → ys ≡ statusBytes tag residue status → m ≡ at 0 0 → Leaves t (written ys (buffer io m)) → Leaves t (statusWritten tag residue status (buffer io (at 0 0)))
+unfolding statusWritten emptied
 puts-status tag residue status io hy hm h = rw (hy, hm) at h
 
 pub sound-clean : (io : List ℕ) {m : Marks} → m ≡ at 0 0 → Sound (buffer io m)

@@ -7,7 +7,7 @@ use Prim.Native.Nat.{ℕ, _-_, min}
 use lib.Dec.{eqb}
 use lib.ListN.{length}
 use Rattle.fields.specs.Overlay.{overlay}
-use Rattle.buffer.specs.Buffer.{Buffer, unread, lacksRoom, writtenAll, filled, written, emptied, ready, given, readOff}
+use Rattle.buffer.specs.Buffer.{Buffer, unread, lacksRoom, writtenAll, filled, written, emptied, ready, readyBytes, readOff}
 use Rattle.answers.specs.declared.Endpoint.{Endpoint}
 use Rattle.answers.specs.Answers.{Answering, answer, serves, answeredBy}
 use Rattle.wrapper.specs.declared.counters.Left.{Left}
@@ -57,7 +57,7 @@ sentOff p e s = readOff (accepted e p) s
 
 -- This is the packet buffer after the send; it was `packet`. "The packet buffer holds the sent bytes in front, the rest unchanged."
 unfoldable pub sentInto : ℕ → Endpoint → Buffer → List ℕ → List ℕ
-sentInto p e s packet = overlay packet 0 (given (accepted e p) s)
+sentInto p e s packet = overlay packet 0 (readyBytes (accepted e p) s)
 
 -- ---- what is written before it is sent
 
@@ -68,5 +68,5 @@ filledUp p left s = filled 0xFF (min (left .0) p - unread s) s
 
 -- The status with this `tag`, this `residue` and the number `status` is put into the buffer `s`: 3 "empties the buffer, writes the status
 -- into it".
-unfoldable pub withStatus : ℕ → Residue → ℕ → Buffer → Buffer
-withStatus tag residue status s = written (statusBytes tag residue status) (emptied s)
+unfoldable pub statusWritten : ℕ → Residue → ℕ → Buffer → Buffer
+statusWritten tag residue status s = written (statusBytes tag residue status) (emptied s)

@@ -17,7 +17,7 @@ ghost use Rattle.buffer.specs.Buffer.{buffer, at};
 ghost use Rattle.buffer.specs.Inner.Buffer.{Sound, Leaves};
 ghost use Rattle.answers.specs.Answers.{answerOf};
 ghost use Rattle.wrapper.specs.Status.{statusNumber};
-ghost use Rattle.packets.specs.Packets.{sendAnswer, filledUp, withStatus};
+ghost use Rattle.packets.specs.Packets.{sendAnswer, filledUp, statusWritten};
 ghost use Rattle.packets.specs.Inner.Packets.{Reports, Reads, Sends};
 
 // After OUT was asked for a packet, these are the answer, whether a packet was taken, how many bytes it brought, and the marks.
@@ -116,7 +116,7 @@ pub fn fill(io: &mut [u8], m: Marks, p: usize, left: Left) -> Marks
 
 // The buffer is emptied, and the status is written into it.
 pub fn put_status(io: &mut [u8], tag: u32, residue: Residue, status: CommandStatus) -> Marks
-    ensures { λ r. ⌜ Leaves (buffer (now (io .exit)) r) (withStatus tag residue (statusNumber status) (buffer (now (io .entry)) (at 0 0))) ⌝ }
+    ensures { λ r. ⌜ Leaves (buffer (now (io .exit)) r) (statusWritten tag residue (statusNumber status) (buffer (now (io .entry)) (at 0 0))) ⌝ }
 {
     let bytes = wrapper::status::status_bytes(tag, residue, status);
     let t = marked::write(io, marked::clean(), &bytes);

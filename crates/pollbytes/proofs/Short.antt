@@ -16,7 +16,7 @@ use Rattle.recordbytes.proofs.Stored.{is-known}
 use Rattle.recordbytes.proofs.Parts.{moved-to, moved-within}
 use Rattle.onward.specs.Inner.Onward.{Ready, MaySend, SendsOn, MayTake, TakesOn}
 use Rattle.onward.proofs.Going.{sentOn, send-rule, takenOn, take-rule}
-use Rattle.ringbytes.specs.Poll.{polls, pollOn}
+use Rattle.ringbytes.specs.Poll.{pollOutcome, pollOn}
 use Rattle.ringbytes.proofs.Round.{on}
 
 module _ (r io packet one two : List ℕ) (y : Ready r (length io) (length packet) (length one) (length two)) where
@@ -48,7 +48,7 @@ module _ (r io packet one two : List ℕ) {turn : ℕ} {t : Bool} where
 
 module _ (r io : List ℕ) (g : Given) {t : Bool} where
   pub poll-sends : (t ≡ true → MaySend r (length io) (length (g .packet)) (length (g .one)) (length (g .two)) (g .turn .write)) → t ≡ true → {n : Numbers} → n ≡ numbersOf (deviceAt r)
-      → {x : ℕ} {r′ packet′ : List ℕ} → SendsOn n io r (g .packet) x r′ packet′ → polls x r′ io packet′ ≡ pollOn r io g
+      → {x : ℕ} {r′ packet′ : List ℕ} → SendsOn n io r (g .packet) x r′ packet′ → pollOutcome x r′ io packet′ ≡ pollOn r io g
   poll-sends tells q en {x} {r′} {packet′} h =
       let y = tells q in
       let whole = y .ready .whole in
@@ -58,7 +58,7 @@ module _ (r io : List ℕ) (g : Given) {t : Bool} where
       rw (it .answer, it .packet, kept) (on r io g (y .ready .known) (sentOn (deviceAt r) io g whole fits) (send-rule (deviceAt r) io g whole fits (y .sends)))
 
   pub poll-takes : (t ≡ true → MayTake r (length io) (length (g .packet)) (length (g .one)) (length (g .two)) (g .turn .first)) → t ≡ true → {n : Numbers} → n ≡ numbersOf (deviceAt r)
-      → {x : ℕ} {r′ io′ : List ℕ} → TakesOn n io r (g .one) x r′ io′ → polls x r′ io′ (g .packet) ≡ pollOn r io g
+      → {x : ℕ} {r′ io′ : List ℕ} → TakesOn n io r (g .one) x r′ io′ → pollOutcome x r′ io′ (g .packet) ≡ pollOn r io g
   poll-takes tells q en {x} {r′} {io′} h =
       let y = tells q in
       let whole = y .ready .whole in

@@ -8,7 +8,7 @@ use onward::takes_on;
 use recordbytes::numbers_at;
 ghost use mathlib.Core.Path.{_≡_};
 ghost use Rattle.bbb.specs.Poll.{given};
-ghost use Rattle.ringbytes.specs.Poll.{polls, pollOn};
+ghost use Rattle.ringbytes.specs.Poll.{pollOutcome, pollOn};
 
 // Looks first for the two kinds of poll in the middle of a transfer, since most polls are; these are never refused with 10 or 11. The
 // ring makes any other poll.
@@ -20,7 +20,7 @@ pub fn poll(
     two: &[u8],
     turn: Turn,
 ) -> u64
-    ensures { λ x. ⌜ polls x (now («record» .exit)) (now (io .exit)) (now (packet .exit)) ≡ pollOn (now («record» .entry)) (now (io .entry)) (given (now (packet .entry)) (now (one .entry)) (now (two .entry)) turn) ⌝ }
+    ensures { λ x. ⌜ pollOutcome x (now («record» .exit)) (now (io .exit)) (now (packet .exit)) ≡ pollOn (now («record» .entry)) (now (io .entry)) (given (now (packet .entry)) (now (one .entry)) (now (two .entry)) turn) ⌝ }
 {
     if sends_on(
         record,

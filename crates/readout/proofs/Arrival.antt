@@ -19,7 +19,7 @@ use Rattle.bbb.proofs.Keeping.{by-call, call-whole, call-sizes, packet-is}
 use Rattle.bbb.proofs.After.{bufferAfter, arrived, read-unread}
 use Rattle.calls.specs.Checks.{isIn}
 use Rattle.calls.specs.Status.{Stating, takesStatus}
-use Rattle.calls.specs.Bus.{Handling, entering}
+use Rattle.calls.specs.Bus.{Handling, handlingOfReset}
 use Rattle.calls.proofs.After.{by-status, data-elsewhere, reset-done, by-request}
 use Rattle.readout.specs.History.{Socket, socket, Event, poll, status, write, writeAll, read, reset, control, command, commandStep, Shows, ofStatus, ofBus, shows, next, run, all, sentIn, putIn, takenIn, firstOf, arrivedIn}
 use Rattle.readout.specs.Demand.{waitsIn}
@@ -114,7 +114,7 @@ module _ (p : ℕ) (m : List ℕ) (s : Socket) (a : Arriving p m s) where
   no-status = waits-by (s .device .state) (a .waits) (λ e. rw e) (λ e. rw e)
 
   event-arrives : (e : Event) → length (m ++ firstOf (shows e s .taken)) < 31 → Arrives p m (shows e s)
-  unfolding shows entering
+  unfolding shows handlingOfReset
   event-arrives (poll g) few = poll-arrives g few
   event-arrives (status f) few = by-status (s .device) (s .io) f (λ (o : Stating). Arrives p m (ofStatus (s .io) o)) (nothing-arrives (answer 10)) (nothing-arrives (answer 12)) (λ takes _. absurd (clash (sym takes ∙ no-status)))
   event-arrives (write src) few = rw (data-elsewhere 4 (s .device) (s .io) (s .io) _ (a .whole) (elsewhere 4 refl refl)) (nothing-arrives (answer 3))

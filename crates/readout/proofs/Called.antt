@@ -12,10 +12,10 @@ use borrow.Fn.Kinds.{Dens, resT, endedOf}
 use Rattle.bbb.specs.Poll.{Given, given, pollingOf}
 use Rattle.bbb.proofs.poll.Kinds as poll-kinds
 use Rattle.bbb.proofs.poll.Reads as poll-reads
-use Rattle.calls.specs.Status.{statedOf}
-use Rattle.calls.specs.Data.{movedOf}
-use Rattle.calls.specs.Bus.{handledOf}
-use Rattle.calls.specs.Command.{Showing, shownOf, Stepping, steppedOf}
+use Rattle.calls.specs.Status.{statingOf}
+use Rattle.calls.specs.Data.{movingOf}
+use Rattle.calls.specs.Bus.{handlingOf}
+use Rattle.calls.specs.Command.{Showing, showingOf, Stepping, steppingOf}
 use Rattle.calls.proofs.set_status.Kinds as status-kinds
 use Rattle.calls.proofs.set_status.Reads as status-reads
 use Rattle.calls.proofs.write_data.Kinds as write-kinds
@@ -33,7 +33,7 @@ use Rattle.calls.proofs.command.command.Reads as command-reads
 use Rattle.calls.proofs.command.command_step.Kinds as step-kinds
 use Rattle.calls.proofs.command.command_step.Reads as step-reads
 use Rattle.readout.specs.History.{Socket, socket, Event, poll, status, write, writeAll, read, reset, control, command, commandStep, Shows, ofPoll, ofStatus, ofWrite, ofRead, ofBus, ofLook, shows, run, all, sentIn, isServed, isPoll, served}
-use Rattle.readout.specs.Demand.{Story, history, ended, host, servedSince, number, theData, theStatus, Between, Later, Supposed, NotYet, Ends, Demand}
+use Rattle.readout.specs.Demand.{Story, history, ended, host, servedSince, pollsDue, theData, theStatus, Between, Later, Supposed, NotYet, Ends, Demand}
 use Rattle.readout.proofs.Demand.{demand}
 
 -- A call that returned. `a` are its arguments: the record first, then the lent slices and whatever else it takes. `x` is its result, and
@@ -44,21 +44,21 @@ pub data Called : Event → Socket → Shows → Type 0 where
       → Called (poll (given (now (a .1 .1 .0)) (now (a .1 .1 .1 .0)) (now (a .1 .1 .1 .1 .0)) (a .1 .1 .1 .1 .1 .0))) (socket (a .0) (now (a .1 .0)))
       (ofPoll (given (now (a .1 .1 .0)) (now (a .1 .1 .1 .0)) (now (a .1 .1 .1 .1 .0)) (a .1 .1 .1 .1 .1 .0)) (pollingOf x (now (z .1 .0)) (now (z .1 .1 .0))))
   status-called : (κs : Lfts 1) (a : Dens κs status-kinds.ps) (x : resT status-kinds.r κs .Denot) (z : AtExit (endedOf 1 status-kinds.ps status-kinds.r) κs) → status-reads.Post κs a x z
-      → Called (status (a .1 .1 .0)) (socket (a .0) (now (a .1 .0))) (ofStatus (now (a .1 .0)) (statedOf x))
+      → Called (status (a .1 .1 .0)) (socket (a .0) (now (a .1 .0))) (ofStatus (now (a .1 .0)) (statingOf x))
   write-called : (κs : Lfts 2) (a : Dens κs write-kinds.ps) (x : resT write-kinds.r κs .Denot) (z : AtExit (endedOf 2 write-kinds.ps write-kinds.r) κs) → write-reads.Post κs a x z
-      → Called (write (now (a .1 .1 .0))) (socket (a .0) (now (a .1 .0))) (ofWrite (now (a .1 .1 .0)) (movedOf x (now (z .1 .0))))
+      → Called (write (now (a .1 .1 .0))) (socket (a .0) (now (a .1 .0))) (ofWrite (now (a .1 .1 .0)) (movingOf x (now (z .1 .0))))
   write-all-called : (κs : Lfts 2) (a : Dens κs write-all-kinds.ps) (x : resT write-all-kinds.r κs .Denot) (z : AtExit (endedOf 2 write-all-kinds.ps write-all-kinds.r) κs) → write-all-reads.Post κs a x z
-      → Called (writeAll (now (a .1 .1 .0))) (socket (a .0) (now (a .1 .0))) (ofWrite (now (a .1 .1 .0)) (movedOf x (now (z .1 .0))))
+      → Called (writeAll (now (a .1 .1 .0))) (socket (a .0) (now (a .1 .0))) (ofWrite (now (a .1 .1 .0)) (movingOf x (now (z .1 .0))))
   read-called : (κs : Lfts 2) (a : Dens κs read-kinds.ps) (x : resT read-kinds.r κs .Denot) (z : AtExit (endedOf 2 read-kinds.ps read-kinds.r) κs) → read-reads.Post κs a x z
-      → Called (read (now (a .1 .0))) (socket (a .0) (now (a .1 .1 .0))) (ofRead (now (a .1 .1 .0)) (movedOf x (now (z .1 .0))))
+      → Called (read (now (a .1 .0))) (socket (a .0) (now (a .1 .1 .0))) (ofRead (now (a .1 .1 .0)) (movingOf x (now (z .1 .0))))
   reset-called : (κs : Lfts 1) (a : Dens κs reset-kinds.ps) (x : resT reset-kinds.r κs .Denot) (z : AtExit (endedOf 1 reset-kinds.ps reset-kinds.r) κs) → reset-reads.Post κs a x z
-      → Called reset (socket (a .0) (now (a .1 .0))) (ofBus (now (a .1 .0)) (handledOf x))
+      → Called reset (socket (a .0) (now (a .1 .0))) (ofBus (now (a .1 .0)) (handlingOf x))
   control-called : (κs : Lfts 1) (a : Dens κs control-kinds.ps) (x : resT control-kinds.r κs .Denot) (z : AtExit (endedOf 1 control-kinds.ps control-kinds.r) κs) → control-reads.Post κs a x z
-      → Called (control (a .1 .1 .0)) (socket (a .0) (now (a .1 .0))) (ofBus (now (a .1 .0)) (handledOf x))
+      → Called (control (a .1 .1 .0)) (socket (a .0) (now (a .1 .0))) (ofBus (now (a .1 .0)) (handlingOf x))
   command-called : (κs : Lfts 1) (a : Dens κs command-kinds.ps) (x : resT command-kinds.r κs .Denot) (z : AtExit (endedOf 1 command-kinds.ps command-kinds.r) κs) → command-reads.Post κs a x z
-      → Called command (socket (a .0) (now (a .1 .0))) (ofLook (socket (a .0) (now (a .1 .0))) (shownOf x .answer))
+      → Called command (socket (a .0) (now (a .1 .0))) (ofLook (socket (a .0) (now (a .1 .0))) (showingOf x .answer))
   step-called : (κs : Lfts 1) (a : Dens κs step-kinds.ps) (x : resT step-kinds.r κs .Denot) (z : AtExit (endedOf 1 step-kinds.ps step-kinds.r) κs) → step-reads.Post κs a x z
-      → Called commandStep (socket (a .0) (now (a .1 .0))) (ofLook (socket (a .0) (now (a .1 .0))) (steppedOf x .answer))
+      → Called commandStep (socket (a .0) (now (a .1 .0))) (ofLook (socket (a .0) (now (a .1 .0))) (steppingOf x .answer))
 
 -- What a call showed is what its event shows.
 called-shows : {e : Event} {s : Socket} {o : Shows} → Called e s o → o ≡ shows e s
@@ -91,8 +91,8 @@ log-run (then {e} {h} {s} {last} {o} {sent} c rest) =
 -- What is promised of a story `t` whose calls were made: they left the socket `last` and sent `sent`. `exactly` is about the poll that is
 -- called next.
 pub record Kept (t : Story) (last : Socket) (sent : List ℕ) : Type 0 where
-  pub not-before : servedSince t < number t → (rest : List ℕ) × (0 < length rest) × (sent ++ rest ≡ theData t ++ theStatus t)
-  pub exactly : servedSince t + 1 ≡ number t → {g : Given} {o : Shows} → Called (poll g) last o → Later (poll g) last → isServed (o .answer) ≡ true
+  pub not-before : servedSince t < pollsDue t → (rest : List ℕ) × (0 < length rest) × (sent ++ rest ≡ theData t ++ theStatus t)
+  pub exactly : servedSince t + 1 ≡ pollsDue t → {g : Given} {o : Shows} → Called (poll g) last o → Later (poll g) last → isServed (o .answer) ≡ true
       → (sent ++ o .sent ≡ theData t ++ theStatus t) × Between (o .socket)
 
 served-called : {g : Given} {s : Socket} {o : Shows} → Called (poll g) s o → isServed (o .answer) ≡ true → served (poll g) s ≡ 1

@@ -26,7 +26,7 @@ use Rattle.calls.specs.Checks.{bufferOf}
 use Rattle.calls.specs.Status.{takesStatus, withFigure, setStatusCall}
 use Rattle.calls.proofs.After.{Accepted, status-accepted}
 use Rattle.readout.specs.History.{Socket, Event, poll, status, Shows, shows, next, run, all, sentIn, putIn, takenIn, firstOf, arrivedIn, served, isReset, isStatus, accepts}
-use Rattle.readout.specs.Demand.{Story, toWrapper, toStatus, history, parsed, reached, told, ended, message, wrapper, L, P, R, host, firmware, servedSince, crossed, Between, Later, Supposed, number, dataOf, theData, theStatus, NotYet, Ends, Demand}
+use Rattle.readout.specs.Demand.{Story, toWrapper, toStatus, history, afterWrapper, beforeStatus, afterStatus, ended, message, wrapper, L, P, R, host, firmware, servedSince, crossed, Between, Later, Supposed, pollsDue, dataOf, theData, theStatus, NotYet, Ends, Demand}
 use Rattle.readout.proofs.Filled.{length-filled}
 use Rattle.readout.proofs.Transfer.{Transfer, unreadIn, due}
 use Rattle.readout.proofs.Steps.{Steps, event-steps}
@@ -102,86 +102,86 @@ module _ (t : Story) (u : Supposed t) where
   put-is : putIn (toWrapper t) (t .start) ≡ completing .put
   put-is = all-one (t .arrival) (poll (t .completing)) (t .start) (λ (o : Shows). o .put) ∙ rw (came .put)
 
-  parsed-is : parsed t ≡ completing .socket
+  parsed-is : afterWrapper t ≡ completing .socket
   parsed-is = run-one (t .arrival) (poll (t .completing)) (t .start)
 
-  begun : Transfer (wrapper t) (P t) (sentIn (toWrapper t) (t .start)) (putIn (toWrapper t) (t .start)) (parsed t)
+  begun : Transfer (wrapper t) (P t) (sentIn (toWrapper t) (t .start)) (putIn (toWrapper t) (t .start)) (afterWrapper t)
   begun = rw (sent-is, put-is, parsed-is) (opened .transfer)
 
   -- ---- its status
 
-  earlier-put : putIn (history t) (t .start) ≡ putIn (toStatus t) (t .start) ++ (shows (status (t .given)) (reached t) .put ++ putIn (t .after) (told t))
+  earlier-put : putIn (history t) (t .start) ≡ putIn (toStatus t) (t .start) ++ (shows (status (t .lastStatus)) (beforeStatus t) .put ++ putIn (t .after) (afterStatus t))
   unfolding all
-  earlier-put = all-append (λ (o : Shows). o .put) (toStatus t) (status (t .given) ∷ t .after) (t .start)
+  earlier-put = all-append (λ (o : Shows). o .put) (toStatus t) (status (t .lastStatus) ∷ t .after) (t .start)
 
   few-before : length (putIn (toStatus t) (t .start)) ≤ L t
   few-before =
-      let rest : List ℕ = shows (status (t .given)) (reached t) .put ++ putIn (t .after) (told t) in
+      let rest : List ℕ = shows (status (t .lastStatus)) (beforeStatus t) .put ++ putIn (t .after) (afterStatus t) in
       omega (arith, u .few, ap length earlier-put, length-append (putIn (toStatus t) (t .start)) rest)
 
-  met-before : Before (wrapper t) (P t) (sentIn (toWrapper t) (t .start)) (putIn (toWrapper t) (t .start)) (t .before) (parsed t)
-  met-before = before (wrapper t) (P t) (t .before) (parsed t) _ _ begun (rw parsed-is (opened .takes)) (u .earlier) (rw (all-append (λ (o : Shows). o .put) (toWrapper t) (t .before) (t .start)) at few-before)
+  met-before : Before (wrapper t) (P t) (sentIn (toWrapper t) (t .start)) (putIn (toWrapper t) (t .start)) (t .before) (afterWrapper t)
+  met-before = before (wrapper t) (P t) (t .before) (afterWrapper t) _ _ begun (rw parsed-is (opened .takes)) (u .earlier) (rw (all-append (λ (o : Shows). o .put) (toWrapper t) (t .before) (t .start)) at few-before)
 
-  reached-is : reached t ≡ run (t .before) (parsed t)
+  reached-is : beforeStatus t ≡ run (t .before) (afterWrapper t)
   reached-is = run-append (toWrapper t) (t .before) (t .start)
 
-  arrived-there : Transfer (wrapper t) (P t) (sentIn (toStatus t) (t .start)) (putIn (toStatus t) (t .start)) (reached t)
+  arrived-there : Transfer (wrapper t) (P t) (sentIn (toStatus t) (t .start)) (putIn (toStatus t) (t .start)) (beforeStatus t)
   arrived-there = rw (all-append (λ (o : Shows). o .sent) (toWrapper t) (t .before) (t .start), all-append (λ (o : Shows). o .put) (toWrapper t) (t .before) (t .start), reached-is) (met-before .transfer)
 
-  here : Accepted (reached t .device) (t .given) (setStatusCall (reached t .device) (reached t .io) (t .given))
+  here : Accepted (beforeStatus t .device) (t .lastStatus) (setStatusCall (beforeStatus t .device) (beforeStatus t .io) (t .lastStatus))
   unfolding accepts isStatus shows
-  here = status-accepted (reached t .device) (reached t .io) (t .given) (u .accepted)
+  here = status-accepted (beforeStatus t .device) (beforeStatus t .io) (t .lastStatus) (u .accepted)
 
   -- The record with the status in it.
-  told-is : told t .device ≡ withFigure (t .given) (reached t .device)
+  told-is : afterStatus t .device ≡ withFigure (t .lastStatus) (beforeStatus t .device)
   unfolding shows
   told-is = here .device
 
-  told-status : told t .device .status ≡ Present (statusOfNumber (t .given .status)) (residueOf (L t) (t .given .figure))
+  told-status : afterStatus t .device .status ≡ Present (statusOfNumber (t .lastStatus .status)) (residueOf (L t) (t .lastStatus .figure))
   unfolding withFigure
-  told-status = ap (λ (d : Device). d .status) told-is ∙ ap (λ (w : Wrapper). Present (statusOfNumber (t .given .status)) (residueOf (w .length) (t .given .figure))) (arrived-there .wrapper)
+  told-status = ap (λ (d : Device). d .status) told-is ∙ ap (λ (w : Wrapper). Present (statusOfNumber (t .lastStatus .status)) (residueOf (w .length) (t .lastStatus .figure))) (arrived-there .wrapper)
 
-  takes : takesStatus (stateNumber (reached t .device .state)) ≡ true
+  takes : takesStatus (stateNumber (beforeStatus t .device .state)) ≡ true
   takes = rw reached-is (met-before .takes)
 
   -- What is due when the status has come.
-  told-due : due (told t) ≡ number t
+  told-due : due (afterStatus t) ≡ pollsDue t
   unfolding withFigure
   told-due =
-      let d : Device = reached t .device in
-      let same-state : told t .device .state ≡ d .state = ap (λ (d : Device). d .state) told-is in
-      let same-left : told t .device .left .0 ≡ R t = ap (λ (d : Device). d .left .0) told-is in
-      let same-size : told t .device .fixed .packetsize ≡ P t = ap (λ (d : Device). d .fixed .packetsize) told-is ∙ arrived-there .packetsize in
-      takes-due (told t .device .state) (told t .device .fixed .packetsize) (told t .device .left .0) (length (unreadIn (told t))) (rw same-state takes) ∙ rw (same-left, same-size)
+      let d : Device = beforeStatus t .device in
+      let same-state : afterStatus t .device .state ≡ d .state = ap (λ (d : Device). d .state) told-is in
+      let same-left : afterStatus t .device .left .0 ≡ R t = ap (λ (d : Device). d .left .0) told-is in
+      let same-size : afterStatus t .device .fixed .packetsize ≡ P t = ap (λ (d : Device). d .fixed .packetsize) told-is ∙ arrived-there .packetsize in
+      takes-due (afterStatus t .device .state) (afterStatus t .device .fixed .packetsize) (afterStatus t .device .left .0) (length (unreadIn (afterStatus t))) (rw same-state takes) ∙ rw (same-left, same-size)
 
   -- The invariant of the transfer still holds when the status has come.
-  with-status : Transfer (wrapper t) (P t) (sentIn (toStatus t) (t .start) ++ shows (status (t .given)) (reached t) .sent) (putIn (toStatus t) (t .start) ++ shows (status (t .given)) (reached t) .put) (told t)
+  with-status : Transfer (wrapper t) (P t) (sentIn (toStatus t) (t .start) ++ shows (status (t .lastStatus)) (beforeStatus t) .sent) (putIn (toStatus t) (t .start) ++ shows (status (t .lastStatus)) (beforeStatus t) .put) (afterStatus t)
   unfolding isReset
-  with-status = event-steps (wrapper t) (P t) _ _ few-before (reached t) arrived-there (some-due (wrapper t) (P t) (reached t) _ _ arrived-there takes) (status (t .given)) refl .transfer
+  with-status = event-steps (wrapper t) (P t) _ _ few-before (beforeStatus t) arrived-there (some-due (wrapper t) (P t) (beforeStatus t) _ _ arrived-there takes) (status (t .lastStatus)) refl .transfer
 
   -- ---- after it
 
-  ended-is : ended t ≡ run (t .after) (told t)
+  ended-is : ended t ≡ run (t .after) (afterStatus t)
   unfolding run
-  ended-is = run-append (toStatus t) (status (t .given) ∷ t .after) (t .start)
+  ended-is = run-append (toStatus t) (status (t .lastStatus) ∷ t .after) (t .start)
 
-  host-is : host t ≡ (sentIn (toStatus t) (t .start) ++ shows (status (t .given)) (reached t) .sent) ++ sentIn (t .after) (told t)
+  host-is : host t ≡ (sentIn (toStatus t) (t .start) ++ shows (status (t .lastStatus)) (beforeStatus t) .sent) ++ sentIn (t .after) (afterStatus t)
   unfolding all
-  host-is = all-append (λ (o : Shows). o .sent) (toStatus t) (status (t .given) ∷ t .after) (t .start) ∙ sym (append-assoc (sentIn (toStatus t) (t .start)) _ (sentIn (t .after) (told t)))
+  host-is = all-append (λ (o : Shows). o .sent) (toStatus t) (status (t .lastStatus) ∷ t .after) (t .start) ∙ sym (append-assoc (sentIn (toStatus t) (t .start)) _ (sentIn (t .after) (afterStatus t)))
 
-  firmware-is : firmware t ≡ (putIn (toStatus t) (t .start) ++ shows (status (t .given)) (reached t) .put) ++ putIn (t .after) (told t)
-  firmware-is = earlier-put ∙ sym (append-assoc (putIn (toStatus t) (t .start)) _ (putIn (t .after) (told t)))
+  firmware-is : firmware t ≡ (putIn (toStatus t) (t .start) ++ shows (status (t .lastStatus)) (beforeStatus t) .put) ++ putIn (t .after) (afterStatus t)
+  firmware-is = earlier-put ∙ sym (append-assoc (putIn (toStatus t) (t .start)) _ (putIn (t .after) (afterStatus t)))
 
   -- What holds at the end of a story with fewer served polls than the number: the invariant, the status, and what is still due.
   record Sum : Type 0 where
     transfer : Transfer (wrapper t) (P t) (host t) (firmware t) (ended t)
-    status : ended t .device .status ≡ Present (statusOfNumber (t .given .status)) (residueOf (L t) (t .given .figure))
-    count : due (ended t) + servedSince t ≡ number t
+    status : ended t .device .status ≡ Present (statusOfNumber (t .lastStatus .status)) (residueOf (L t) (t .lastStatus .figure))
+    count : due (ended t) + servedSince t ≡ pollsDue t
 
-  sum : servedSince t < number t → Sum
+  sum : servedSince t < pollsDue t → Sum
   sum less =
-      let a : After (wrapper t) (P t) _ _ (t .after) (told t) =
-      after (wrapper t) (P t) (t .after) (told t) _ _ with-status (rw told-status) (u .later) (rw firmware-is at (u .few)) (rw told-due less) in
+      let a : After (wrapper t) (P t) _ _ (t .after) (afterStatus t) =
+      after (wrapper t) (P t) (t .after) (afterStatus t) _ _ with-status (rw told-status) (u .later) (rw firmware-is at (u .few)) (rw told-due less) in
       record {
         transfer = rw (host-is, firmware-is, ended-is) (a .transfer);
         status = rw ended-is (a .status ∙ told-status);
@@ -199,10 +199,10 @@ module _ (t : Story) (u : Supposed t) where
 
   left-is : R t ≡ L t - crossed t
   left-is =
-      let sent : List ℕ = sentIn (t .before) (parsed t) in
-      let taken : List ℕ = takenIn (t .before) (parsed t) in
-      let begun-left : parsed t .device .left .0 ≡ L t - (length (completing .sent) + length (flatten (drop 1 (completing .taken)))) = ap (λ (z : Socket). z .device .left .0) parsed-is ∙ opened .wire in
-      let reached-left : R t ≡ parsed t .device .left .0 - (length sent + length taken) = ap (λ (z : Socket). z .device .left .0) reached-is ∙ met-before .wire in
+      let sent : List ℕ = sentIn (t .before) (afterWrapper t) in
+      let taken : List ℕ = takenIn (t .before) (afterWrapper t) in
+      let begun-left : afterWrapper t .device .left .0 ≡ L t - (length (completing .sent) + length (flatten (drop 1 (completing .taken)))) = ap (λ (z : Socket). z .device .left .0) parsed-is ∙ opened .wire in
+      let reached-left : R t ≡ afterWrapper t .device .left .0 - (length sent + length taken) = ap (λ (z : Socket). z .device .left .0) reached-is ∙ met-before .wire in
       omega (
         arith,
         begun-left,
@@ -218,13 +218,13 @@ module _ (t : Story) (u : Supposed t) where
   -- ---- what is promised
 
   -- The status that is promised is the one that is present.
-  the-status : bytesFor (wrapper t .tag) (Present (statusOfNumber (t .given .status)) (residueOf (L t) (t .given .figure))) ≡ theStatus t
-  the-status = rw (status-number (t .given .status) (here .byte))
+  the-status : bytesFor (wrapper t .tag) (Present (statusOfNumber (t .lastStatus .status)) (residueOf (L t) (t .lastStatus .figure))) ≡ theStatus t
+  the-status = rw (status-number (t .lastStatus .status) (here .byte))
 
   positive : 0 < P t
   positive = omega (arith, packet-bounds (P t) (packet-known (numbersOf (t .start .device)) (length (t .start .io)) (u .between .whole)) .0)
 
-  not-yet : servedSince t < number t → NotYet t
+  not-yet : servedSince t < pollsDue t → NotYet t
   not-yet less =
       let z : Sum = sum less in
       let k : Device = ended t .device in
@@ -233,14 +233,14 @@ module _ (t : Story) (u : Supposed t) where
       owes (wrapper t) (host t) (firmware t) (k .fixed .packetsize) (rw (z .transfer .packetsize) positive) (k .state) (k .status) (k .left .0) (unreadIn (ended t)) _ _ (z .status) (z .transfer .phase) more in
       record { rest = o .rest; some = o .some; prefix = o .whole ∙ rw (z .status, the-status) }
 
-  ends : servedSince t + 1 ≡ number t → (g : Given) → Later (poll g) (ended t) → served (poll g) (ended t) ≡ 1 → Ends t g
+  ends : servedSince t + 1 ≡ pollsDue t → (g : Given) → Later (poll g) (ended t) → served (poll g) (ended t) ≡ 1 → Ends t g
   ends last g later one =
       let z : Sum = sum (omega arith) in
       let e : Socket = ended t in
       let st : Steps (wrapper t) (P t) (host t) (firmware t) e (accepts (poll g) e) (served (poll g) e) (shows (poll g) e) =
       event-steps (wrapper t) (P t) (host t) (firmware t) (u .few) e (z .transfer) (omega (arith, z .count)) (poll g) (later .no-reset) in
       let o : Socket = next (poll g) e in
-      let same : o .device .status ≡ Present (statusOfNumber (t .given .status)) (residueOf (L t) (t .given .figure)) = st .status (later .no-status) ∙ z .status in
+      let same : o .device .status ≡ Present (statusOfNumber (t .lastStatus .status)) (residueOf (L t) (t .lastStatus .figure)) = st .status (later .no-status) ∙ z .status in
       let none-due : due o ≡ 0 = omega (arith, st .count (rw (z .status)) (later .full), z .count) in
       let r : Rests (wrapper t) (host t ++ shows (poll g) e .sent) (firmware t ++ shows (poll g) e .put) (o .device .state) (o .device .status) (unreadIn o) =
       rests (wrapper t) _ _ (o .device .fixed .packetsize) (rw (st .transfer .packetsize) positive) (o .device .state) (o .device .status) (o .device .left .0) (unreadIn o) _ _ same (st .transfer .phase) none-due in
@@ -254,7 +254,7 @@ module _ (t : Story) (u : Supposed t) where
 
 -- The host is promised L bytes and 13 for a read, and 13 otherwise.
 pub promised-length : (t : Story) → length (firmware t) ≤ L t → length (theData t ++ theStatus t) ≡ dataLength (wrapper t .direction) (L t) + 13
-promised-length t few = length-append (theData t) (theStatus t) ∙ ap₂ _+_ (by (wrapper t .direction)) (length-status (wrapper t .tag) (residueOf (L t) (t .given .figure)) (t .given .status))
+promised-length t few = length-append (theData t) (theStatus t) ∙ ap₂ _+_ (by (wrapper t .direction)) (length-status (wrapper t .tag) (residueOf (L t) (t .lastStatus .figure)) (t .lastStatus .status))
   where
     by : (q : DataDirection) → length (dataOf q (L t) (firmware t)) ≡ dataLength q (L t)
     by Out = refl

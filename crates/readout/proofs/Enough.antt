@@ -23,11 +23,11 @@ use Rattle.bbb.proofs.Keeping.{call-whole}
 use Rattle.calls.specs.Checks.{bufferOf}
 use Rattle.calls.specs.Status.{takesStatus, setStatusCall}
 use Rattle.calls.specs.Data.{worksIn}
-use Rattle.calls.specs.Bus.{entering, resetCall, controlCall}
+use Rattle.calls.specs.Bus.{handlingOfReset, resetCall, controlCall}
 use Rattle.calls.specs.Bus as bus
 use Rattle.calls.proofs.After.{status-whole, read-whole, write-whole, write-all-whole, reset-whole, control-whole}
 use Rattle.readout.specs.History.{Socket, Event, poll, status, write, writeAll, read, reset, control, command, commandStep, shows, next, run, all, arrivedIn, isReset, accepts, Throughout}
-use Rattle.readout.specs.Demand.{Story, toWrapper, parsed, reached, told, message, L, firmware, waitsIn, Earlier, Later, Demand}
+use Rattle.readout.specs.Demand.{Story, toWrapper, afterWrapper, beforeStatus, afterStatus, message, L, firmware, waitsIn, Earlier, Later, Demand}
 use Rattle.readout.proofs.Demand.{demand}
 
 abbrev WholeIn : Socket → Type 0
@@ -85,7 +85,7 @@ abbrev SameCommand : Event → Socket → Type 0
 SameCommand e s = takesStatus (stateNumber (next e s .device .state)) ≡ true
 
 pub no-reset-follows : (e : Event) (s : Socket) → WholeIn s → SameCommand e s → isReset e ≡ false
-unfolding shows isReset takesStatus entering resetCall controlCall bus.served unlessBroken
+unfolding shows isReset takesStatus handlingOfReset resetCall controlCall bus.handlingOfRequest unlessBroken
 no-reset-follows (poll g) s w same = refl
 no-reset-follows (status f) s w same = refl
 no-reset-follows (write src) s w same = refl
@@ -111,9 +111,9 @@ pub record Enough (t : Story) : Type 0 where
   pub nothing : unread (bufferOf (t .start .device) (t .start .io)) ≡ 0
   pub unfinished : length (arrivedIn (t .arrival) (t .start)) < 31
   pub valid : Valid (message t)
-  pub same-command : Throughout SameCommand (t .before) (parsed t)
-  pub accepted : accepts (status (t .given)) (reached t) ≡ true
-  pub later : Throughout Later (t .after) (told t)
+  pub same-command : Throughout SameCommand (t .before) (afterWrapper t)
+  pub accepted : accepts (status (t .lastStatus)) (beforeStatus t) ≡ true
+  pub later : Throughout Later (t .after) (afterStatus t)
   pub few : length (firmware t) ≤ L t
 
 pub enough : (t : Story) → Enough t → Demand t
@@ -123,7 +123,7 @@ enough t n =
       between = record { whole = w; waits = n .waits; nothing = n .nothing };
       unfinished = n .unfinished;
       valid = n .valid;
-      earlier = earlier (t .before) (parsed t) (run-whole (toWrapper t) (t .start) w) (n .same-command);
+      earlier = earlier (t .before) (afterWrapper t) (run-whole (toWrapper t) (t .start) w) (n .same-command);
       accepted = n .accepted;
       later = n .later;
       few = n .few;

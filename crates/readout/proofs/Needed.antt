@@ -16,11 +16,11 @@ use Rattle.fields.proofs.Case.{by-computing}
 use Rattle.bbb.specs.Poll.{Given, invalidRule}
 use Rattle.calls.specs.declared.FirmwareStatus.{FirmwareStatus}
 use Rattle.calls.specs.Data.{writeAllIn}
-use Rattle.calls.specs.Bus.{entering, resetCall, controlCall}
+use Rattle.calls.specs.Bus.{handlingOfReset, resetCall, controlCall}
 use Rattle.calls.specs.Bus as bus
 use Rattle.readout.specs.History.{Socket, Event, poll, status, write, writeAll, reset, control, shows, next, served}
-use Rattle.readout.specs.Demand.{Story, ended, host, servedSince, number, theData, theStatus, Demand}
-use Rattle.readout.specs.Cases.{taking, takingTwo, sending, new, cbw, three, fourth}
+use Rattle.readout.specs.Demand.{Story, ended, host, servedSince, pollsDue, theData, theStatus, Demand}
+use Rattle.readout.specs.Cases.{taking, takingTwo, sending, newSocket, cbw, three, fourth}
 use Rattle.readout.proofs.Premises.{waits, nothing, unfinished, valid, no-reset-before, same-command, accepted, no-reset, no-status, full, few, broken, fills, poll-later, testing}
 
 -- The byte of `bytes` at the index `i`, or 256 where there is none.
@@ -29,14 +29,14 @@ byteAt i bytes = getD bytes i 256
 
 -- The poll that is given `g` should end the story `t`; but of all that the host got with it, the byte at the index `i` is not the one
 -- that is promised.
-fails : (t : Story) (g : Given) (i got due : ℕ) → servedSince t + 1 ≡ number t → fills (poll g) (ended t) ≡ true → served (poll g) (ended t) ≡ 1
+fails : (t : Story) (g : Given) (i got due : ℕ) → servedSince t + 1 ≡ pollsDue t → fills (poll g) (ended t) ≡ true → served (poll g) (ended t) ≡ 1
     → byteAt i (host t ++ shows (poll g) (ended t) .sent) ≡ got → byteAt i (theData t ++ theStatus t) ≡ due → eqb got due ≡ false → Demand t → ⊥
 fails t g i got due last filled one is promised differ d =
     eqb-false got due differ (sym is ∙ ap (byteAt i) (d .exactly last g (poll-later g (ended t) filled) one .bytes) ∙ promised)
 
 -- To unfold this is to unfold everything that the stories compute with.
 unfoldable calling : Unit {0}
-unfolding testing invalidRule writeAllIn entering resetCall bus.served controlCall
+unfolding testing invalidRule writeAllIn handlingOfReset resetCall bus.handlingOfRequest controlCall
 calling = tt
 
 -- ---- wrappers, statuses and stories
@@ -57,21 +57,21 @@ figure byte bytes = record { status = byte; figure = bytes }
 
 -- Stories with P 32, where a wrapper is one packet: from a given socket, and from a new device.
 abbrev from : Socket → List ℕ → List Event → FirmwareStatus → List Event → Story
-from s bytes before f after = record { start = s; arrival = []; completing = taking 32 bytes; before = before; given = f; after = after }
+from s bytes before f after = record { start = s; arrival = []; completing = taking 32 bytes; before = before; lastStatus = f; after = after }
 
 abbrev in32 : List ℕ → List Event → FirmwareStatus → List Event → Story
-in32 = from (new 32 64)
+in32 = from (newSocket 32 64)
 
 -- Stories with P 8, where a wrapper is four packets.
 abbrev in8 : List ℕ → List Event → FirmwareStatus → List Event → Story
-in8 bytes before f after = record { start = new 8 64; arrival = three bytes; completing = fourth bytes; before = before; given = f; after = after }
+in8 bytes before f after = record { start = newSocket 8 64; arrival = three bytes; completing = fourth bytes; before = before; lastStatus = f; after = after }
 
 -- ---- the socket at the start
 
 -- The device takes 31 bytes of data, and they look like a wrapper with tag 1. The status has tag 9.
 -- premise-wrapper-sent-as-data-is-no-command
 unfoldable pub without-waits : Story
-without-waits = from (next (poll (taking 32 (writing 31))) (new 32 64)) (ready 1) [] (figure 0 31) []
+without-waits = from (next (poll (taking 32 (writing 31))) (newSocket 32 64)) (ready 1) [] (figure 0 31) []
 
 pub needed-waits : Demand without-waits → ⊥
 unfolding calling without-waits
@@ -80,7 +80,7 @@ needed-waits = fails without-waits (sending 32) 4 9 1 refl refl refl refl refl r
 -- 15 bytes of a wrapper with L = 1 are unread. The next wrapper's first 16 make it whole, and its last 15, zeros, go out as data.
 -- premise-broken-off-wrapper-takes-16-bytes-of-the-next
 unfoldable pub without-nothing : Story
-without-nothing = from (next (poll (taking 32 (take 15 (reading 1)))) (new 32 64)) (ready 2) [] (figure 0 0) []
+without-nothing = from (next (poll (taking 32 (take 15 (reading 1)))) (newSocket 32 64)) (ready 2) [] (figure 0 0) []
 
 pub needed-nothing : Demand without-nothing → ⊥
 unfolding calling without-nothing
@@ -93,11 +93,11 @@ needed-nothing = fails without-nothing (sending 32) 0 0 0x55 refl refl refl refl
 -- premise-data-kept-by-a-reset-is-parsed-as-a-wrapper
 unfoldable pub without-unfinished : Story
 without-unfinished = record {
-  start = new 32 64;
+  start = newSocket 32 64;
   arrival = poll (takingTwo 32 (writing 32) (reading 1 ++ (0xAB ∷ []))) ∷ reset ∷ [];
   completing = taking 32 [];
   before = [];
-  given = figure 0 0;
+  lastStatus = figure 0 0;
   after = [];
 }
 

@@ -17,12 +17,12 @@ use Rattle.ring.specs.States.{stateNumber, byDirection}
 use Rattle.wrapper.specs.declared.DataDirection.{DataDirection}
 use Rattle.wrapper.specs.declared.DataDirection.the-variants.{Out, In, NotExpected}
 use Rattle.wrapper.specs.declared.Wrapper.{Wrapper}
-use Rattle.wrapper.specs.Wrapper.{Valid, wrapperOf, direction}
+use Rattle.wrapper.specs.Wrapper.{Valid, wrapperOf, directionBit}
 use Rattle.wrapper.proofs.Cbw.{valid-is, no-data-only}
 use Rattle.device.specs.declared.Status.{Status}
 use Rattle.device.specs.Device.{numbersOf, isPresent}
 use Rattle.device.specs.Broken.{statusFits, Whole}
-use Rattle.bbb.specs.Poll.{Given, Polling, Point, bufferAt, leaving, noDataRule, toHostRule, fromHostRule, ordered, startRule, messageAt, behind31, parseRule, refusing, pollRule, pollCall}
+use Rattle.bbb.specs.Poll.{Given, Polling, Point, bufferOfPoint, leaving, noDataRule, toHostRule, fromHostRule, starting, startRule, messageAt, past31, parseRule, refusing, pollRule, pollCall}
 use Rattle.bbb.proofs.Keeping.{Follows, follows-received, follows-31, by-call, call-whole, call-sizes, packet-is}
 use Rattle.bbb.proofs.After.{P, firstFor, arrived, read-unread, parse-message, parse-rest, parse-valid}
 use Rattle.calls.specs.Status.{takesStatus}
@@ -44,12 +44,12 @@ absent-takes (sending s r e here all) absent fits = absurd (clash (sym (rw (e, a
 -- ---- after the packet that completed it
 
 -- The wrapper is that of the message `msg`, at a point `y` where nothing is unread and no status is present.
-module _ (msg : List ℕ) (g : Given) (y : Point) (fit : Fit (wrapperOf msg) (ordered (wrapperOf msg) y)) (none : unreadBytes (bufferAt y) ≡ []) (absent : isPresent (y .device .status) ≡ false) (once : y .taken ≤ 1) (small : length (g .one) ≤ P y) where
+module _ (msg : List ℕ) (g : Given) (y : Point) (fit : Fit (wrapperOf msg) (starting (wrapperOf msg) y)) (none : unreadBytes (bufferOfPoint y) ≡ []) (absent : isPresent (y .device .status) ≡ false) (once : y .taken ≤ 1) (small : length (g .one) ≤ P y) where
   abbrev w : Wrapper
   w = wrapperOf msg
 
   abbrev z : Point
-  z = ordered (wrapperOf msg) y
+  z = starting (wrapperOf msg) y
 
   abbrev Starts : Polling → Type 0
   Starts o = length (bytesOf o) ≡ o .sent → Leads w [] [] g (y .taken) (P y) (y .device .status) (w .length) (owing z) o
@@ -82,30 +82,30 @@ module _ (m : List ℕ) (g : Given) where
     leads : Leads (wrapperOf (m ++ firstOf (packetsOf g o))) [] [] g 1 p status (wrapperOf (m ++ firstOf (packetsOf g o)) .length) n o
 
   module _ (x : Point) (f : From m g x) (few : length m < 31) where
-    module _ (room : lacksRoom (P x) (bufferAt x) ≡ false) (serving : serves (firstFor g) ≡ true) (valid : Valid (m ++ g .one)) where
+    module _ (room : lacksRoom (P x) (bufferOfPoint x) ≡ false) (serving : serves (firstFor g) ≡ true) (valid : Valid (m ++ g .one)) where
       abbrev y : Point
-      y = leaving (behind31 (bufferAt (arrived g x))) (arrived g x)
+      y = leaving (past31 (bufferOfPoint (arrived g x))) (arrived g x)
 
-      came : unreadBytes (bufferAt (arrived g x)) ≡ m ++ g .one
+      came : unreadBytes (bufferOfPoint (arrived g x)) ≡ m ++ g .one
       came = read-unread g x (f .sound) (f .small) room serving ∙ ap (λ (l : List ℕ). l ++ g .one) (f .unread)
 
-      arrived-follows : Follows (bufferAt (arrived g x)) (bufferAt x)
-      arrived-follows = follows-received (P x) (firstFor g) (g .one) (bufferAt x) (f .sound)
+      arrived-follows : Follows (bufferOfPoint (arrived g x)) (bufferOfPoint x)
+      arrived-follows = follows-received (P x) (firstFor g) (g .one) (bufferOfPoint x) (f .sound)
 
-      thirty-one : unread (bufferAt (arrived g x)) ≡ 31
-      thirty-one = sym (length-unread (bufferAt (arrived g x)) (arrived-follows .sound)) ∙ ap length came ∙ valid .whole
+      thirty-one : unread (bufferOfPoint (arrived g x)) ≡ 31
+      thirty-one = sym (length-unread (bufferOfPoint (arrived g x)) (arrived-follows .sound)) ∙ ap length came ∙ valid .whole
 
-      read-message : messageAt (bufferAt (arrived g x)) ≡ m ++ g .one
-      read-message = parse-message (bufferAt (arrived g x)) (omega (arith, thirty-one)) ∙ ap (take 31) came ∙ take-all 31 (m ++ g .one) (omega (arith, valid .whole))
+      read-message : messageAt (bufferOfPoint (arrived g x)) ≡ m ++ g .one
+      read-message = parse-message (bufferOfPoint (arrived g x)) (omega (arith, thirty-one)) ∙ ap (take 31) came ∙ take-all 31 (m ++ g .one) (omega (arith, valid .whole))
 
-      nothing-behind : unreadBytes (bufferAt y) ≡ []
+      nothing-behind : unreadBytes (bufferOfPoint y) ≡ []
       nothing-behind =
-          parse-rest (bufferAt (arrived g x)) (omega (arith, thirty-one)) (arrived-follows .sound)
+          parse-rest (bufferOfPoint (arrived g x)) (omega (arith, thirty-one)) (arrived-follows .sound)
           ∙ ap (drop 31) came ∙ drop-of-length-le (m ++ g .one) {i = 31} (omega (arith, valid .whole))
 
-      fit : Fit (wrapperOf (m ++ g .one)) (ordered (wrapperOf (m ++ g .one)) y)
+      fit : Fit (wrapperOf (m ++ g .one)) (starting (wrapperOf (m ++ g .one)) y)
       fit = record {
-        sound = follows-31 (bufferAt (arrived g x)) (arrived-follows .sound) (omega (arith, thirty-one)) .sound;
+        sound = follows-31 (bufferOfPoint (arrived g x)) (arrived-follows .sound) (omega (arith, thirty-one)) .sound;
         some = f .some;
         packet = rw (arrived-follows .long) (f .packet);
         status = rw (arrived-follows .long) (omega (arith, f .wide));
@@ -125,11 +125,11 @@ module _ (m : List ℕ) (g : Given) where
         let z : Point = y room serving v in
         let second : z .taken ≡ 1 = ap (λ (k : ℕ). k + 1) (f .taken) in
         record {
-          n = owing (ordered w z);
+          n = owing (starting w z);
           p = P x;
           status = x .device .status;
           absent = f .absent;
-          leads = rw (it, e, parsed room serving v) (subst (λ (k : ℕ). Leads w [] [] g k (P x) (x .device .status) (w .length) (owing (ordered w z)) (startRule w g z)) second
+          leads = rw (it, e, parsed room serving v) (subst (λ (k : ℕ). Leads w [] [] g k (P x) (x .device .status) (w .length) (owing (starting w z)) (startRule w g z)) second
               (leads-start (m ++ g .one) g z (fit room serving v) (nothing-behind room serving v) (f .absent) (omega arith) (f .small) (rw (e, parsed room serving v) at long)));
         }
 

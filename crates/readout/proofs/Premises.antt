@@ -24,7 +24,7 @@ use Rattle.bbb.specs.Poll.{Given}
 use Rattle.calls.specs.Checks.{bufferOf}
 use Rattle.calls.specs.Status.{takesStatus}
 use Rattle.readout.specs.History.{Socket, Event, poll, status, shows, next, arrivedIn, served, isReset, isStatus, accepts, Throughout}
-use Rattle.readout.specs.Demand.{Story, parsed, reached, told, ended, message, L, firmware, servedSince, waitsIn, Earlier, Full, Later, Supposed, number, Ends}
+use Rattle.readout.specs.Demand.{Story, afterWrapper, beforeStatus, afterStatus, ended, message, L, firmware, servedSince, waitsIn, Earlier, Full, Later, Supposed, pollsDue, Ends}
 use Rattle.readout.specs.Cases.{sending, read64, bare8, short8, write8, full8}
 use Rattle.readout.proofs.Computing.{computing}
 use Rattle.readout.proofs.Demand.{demand}
@@ -114,12 +114,12 @@ test t waits = waitsIn (t .start .device .state)
 test t nothing = eqb (unread (bufferOf (t .start .device) (t .start .io))) 0
 test t unfinished = ltb (length (arrivedIn (t .arrival) (t .start))) 31
 test t valid = isValid (message t)
-test t no-reset-before = throughout keeps (t .before) (parsed t)
-test t same-command = throughout stays (t .before) (parsed t)
-test t accepted = accepts (status (t .given)) (reached t)
-test t no-reset = throughout keeps (t .after) (told t)
-test t no-status = throughout leaves (t .after) (told t)
-test t full = throughout fills (t .after) (told t)
+test t no-reset-before = throughout keeps (t .before) (afterWrapper t)
+test t same-command = throughout stays (t .before) (afterWrapper t)
+test t accepted = accepts (status (t .lastStatus)) (beforeStatus t)
+test t no-reset = throughout keeps (t .after) (afterStatus t)
+test t no-status = throughout leaves (t .after) (afterStatus t)
+test t full = throughout fills (t .after) (afterStatus t)
 test t few = leb (length (firmware t)) (L t)
 
 -- Of a list of premises, those that a story breaks; and that a story meets them all.
@@ -142,9 +142,9 @@ supposed-of t (sound, (ready, (clear, (under, (parses, (kept, (same, (taken, (ke
   between = record { whole = is-whole _ _ sound; waits = ready; nothing = eqb-true _ _ clear };
   unfinished = ltb-true _ _ under;
   valid = is-valid _ parses;
-  earlier = is-earlier (t .before) (parsed t) kept same;
+  earlier = is-earlier (t .before) (afterWrapper t) kept same;
   accepted = taken;
-  later = is-later (t .after) (told t) kept′ left filled;
+  later = is-later (t .after) (afterStatus t) kept′ left filled;
   few = leb-true _ _ most;
 }
 
@@ -155,7 +155,7 @@ supposed-by : (t : Story) → broken t ≡ [] → Supposed t
 unfolding broken
 supposed-by t none = supposed-of t (meets t premises none)
 
-ends-by : (t : Story) → Supposed t → (g : Given) → servedSince t + 1 ≡ number t → fills (poll g) (ended t) ≡ true → served (poll g) (ended t) ≡ 1 → Ends t g
+ends-by : (t : Story) → Supposed t → (g : Given) → servedSince t + 1 ≡ pollsDue t → fills (poll g) (ended t) ≡ true → served (poll g) (ended t) ≡ 1 → Ends t g
 ends-by t met g last filled one = demand t met .exactly last g (poll-later g (ended t) filled) one
 
 -- To unfold this is to unfold all the tests.

@@ -35,9 +35,9 @@ use Rattle.device.specs.declared.Status.{Status}
 use Rattle.device.specs.declared.Status.the-variants.{Absent, Present}
 use Rattle.device.specs.Device.{numbersOf, isPresent}
 use Rattle.device.specs.Broken.{Whole}
-use Rattle.bbb.specs.Poll.{Given, Polling, Point, bufferAt, reaching, leaving, ends, sendBy, send, sendStatus, sendData, offers, takeBy, takeData, enterStatus, statusAwaitRule, toHostEndingRule, fallsShort, toHostRule, fromHostEndingRule, fromHostRule, pollRule, Fits}
+use Rattle.bbb.specs.Poll.{Given, Polling, Point, bufferOfPoint, reaching, leaving, ends, sendBy, send, sendStatus, sendData, offeredPacket, takeBy, takeData, enterStatus, statusAwaitRule, toHostEndingRule, fallsShort, toHostRule, fromHostEndingRule, fromHostRule, pollRule, Fits}
 use Rattle.bbb.proofs.Keeping.{follows-filled, follows-status, Sizes, poll-sizes}
-use Rattle.bbb.proofs.After.{P, inFor, outFor, offered, bufferAfter, Idle, send-unread, send-sent, send-answer, send-unserved, data-left, fill-exact, topped, stated, stated-unread, stated-sound, take-left, take-taken, take-answer, take-unserved}
+use Rattle.bbb.proofs.After.{P, inFor, outFor, offeredAt, bufferAfter, Idle, send-unread, send-sent, send-answer, send-unserved, data-left, fill-exact, topped, stated, stated-unread, stated-sound, take-left, take-taken, take-answer, take-unserved}
 use Rattle.calls.specs.Status.{takesStatus}
 use Rattle.readout.specs.History.{isServed, socket}
 use Rattle.readout.specs.Demand.{Full, ceiling, filledTo, dataOf}
@@ -82,7 +82,7 @@ pub record Leads (w : Wrapper) (got put : List ℕ) (g : Given) (k p : ℕ) (st 
 
 -- A point with the wrapper `w` and sound marks, in a buffer that can hold a packet and can hold a status.
 pub record Fit (w : Wrapper) (x : Point) : Type 0 where
-  pub sound : Sound (bufferAt x)
+  pub sound : Sound (bufferOfPoint x)
   pub some : 0 < P x
   pub packet : P x ≤ length (x .io)
   pub status : 13 ≤ length (x .io)
@@ -109,8 +109,8 @@ pub still : (l : ℕ) {n : ℕ} → n ≡ 0 → l ≡ l - (0 + n)
 still l none = omega arith
 
 -- One more packet was taken, or none.
-later-is : (g : Given) (took : Bool) (n : ℕ) → n ≤ 1 → length (flatten (drop n (take (cond took (n + 1) n) (g .one ∷ g .two ∷ [])))) ≡ cond took (length (offers n (g .one) (g .two))) 0
-unfolding flatten offers
+later-is : (g : Given) (took : Bool) (n : ℕ) → n ≤ 1 → length (flatten (drop n (take (cond took (n + 1) n) (g .one ∷ g .two ∷ [])))) ≡ cond took (length (offeredPacket n (g .one) (g .two))) 0
+unfolding flatten offeredPacket
 later-is g true zero once = rw append-nil
 later-is g true (suc zero) once = rw append-nil
 later-is g true (suc (suc n)) once = absurd (omega arith)
@@ -132,21 +132,21 @@ module _ (w : Wrapper) (got put : List ℕ) (g : Given) where
 
   -- a packet of the status goes out
   module _ (x : Point) (fit : Fit w x) (s : CommandStatus) (r : Residue) (here : x .device .status ≡ Present s r) (in3 : x .device .state ≡ StatusTransfer)
-      (all : got ++ unreadBytes (bufferAt x) ≡ dataOf (w .direction) (w .length) put ++ statusBytes (w .tag) r (statusNumber s)) (some : 0 < length (unreadBytes (bufferAt x))) where
-    status-falls : Long (sendStatus g x) → ceiling (length (unreadBytes (bufferAfter (sendStatus g x)))) (P x) + one (sendStatus g x) ≡ ceiling (length (unreadBytes (bufferAt x))) (P x)
+      (all : got ++ unreadBytes (bufferOfPoint x) ≡ dataOf (w .direction) (w .length) put ++ statusBytes (w .tag) r (statusNumber s)) (some : 0 < length (unreadBytes (bufferOfPoint x))) where
+    status-falls : Long (sendStatus g x) → ceiling (length (unreadBytes (bufferAfter (sendStatus g x)))) (P x) + one (sendStatus g x) ≡ ceiling (length (unreadBytes (bufferOfPoint x))) (P x)
     unfolding isServed
     status-falls long =
-        let n : ℕ = length (unreadBytes (bufferAt x)) in
+        let n : ℕ = length (unreadBytes (bufferOfPoint x)) in
         let m : ℕ = length (unreadBytes (bufferAfter (sendStatus g x))) in
         let parts : length (bytesOf (sendStatus g x)) + m ≡ n = sym (length-append (bytesOf (sendStatus g x)) (unreadBytes (bufferAfter (sendStatus g x)))) ∙ ap length (send-unread false g x (fit .sound)) in
-        let known : n ≡ unread (bufferAt x) = length-unread (bufferAt x) (fit .sound) in
+        let known : n ≡ unread (bufferOfPoint x) = length-unread (bufferOfPoint x) (fit .sound) in
         cases (serves (inFor g))
         (λ serving. rw (send-answer false g x serving) (ceiling-falls (P x) n m (fit .some) some (omega (arith, send-sent false g x serving))))
         (λ idle.
-        let e : sendStatus g x ≡ ends g x (answeredBy (inFor g)) = send-unserved false g x idle (λ (none : unread (bufferAt x) ≡ 0). omega arith) in
+        let e : sendStatus g x ≡ ends g x (answeredBy (inFor g)) = send-unserved false g x idle (λ (none : unread (bufferOfPoint x) ≡ 0). omega arith) in
         rw (e, unserved (inFor g) idle) (add-zero _))
 
-    pub leads-status : Goes x (ceiling (length (unreadBytes (bufferAt x))) (P x)) (sendStatus g x)
+    pub leads-status : Goes x (ceiling (length (unreadBytes (bufferOfPoint x))) (P x)) (sendStatus g x)
     unfolding send sendBy takesStatus
     leads-status long = record {
       wrapper = fit .wrapper;
@@ -161,16 +161,16 @@ module _ (w : Wrapper) (got put : List ℕ) (g : Given) where
   module _ (x : Point) (fit : Fit w x) (none : x .device .left .0 ≡ 0) (all : got ≡ dataOf (w .direction) (w .length) put) where
     fit-stated : Fit w (stated x)
     fit-stated =
-        let long : length (stated x .io) ≡ length (x .io) = follows-status (x .device .wrapper .tag) (x .device .status) (bufferAt x) .long in
+        let long : length (stated x .io) ≡ length (x .io) = follows-status (x .device .wrapper .tag) (x .device .status) (bufferOfPoint x) .long in
         record { sound = stated-sound x; some = fit .some; packet = rw long (fit .packet); status = rw long (fit .status); wrapper = fit .wrapper }
 
     leads-enter : (st : Status) → x .device .status ≡ st → isPresent st ≡ true → Goes x (owing x) (enterStatus g x)
     unfolding enterStatus
     leads-enter Absent here present long = absurd (clash (sym present))
     leads-enter (Present s r) here present long =
-        let put-in : unreadBytes (bufferAt (stated x)) ≡ statusBytes (w .tag) r (statusNumber s) = stated-unread x s r here (fit .status) ∙ ap (λ (v : Wrapper). statusBytes (v .tag) r (statusNumber s)) (fit .wrapper) in
-        let thirteen : length (unreadBytes (bufferAt (stated x))) ≡ 13 = ap length put-in ∙ length-status (w .tag) r (statusNumber s) in
-        let n : ceiling (length (unreadBytes (bufferAt (stated x)))) (P x) ≡ owing x = rw (thirteen, none, ceiling-none (P x) (fit .some)) (sym (zero-add _)) in
+        let put-in : unreadBytes (bufferOfPoint (stated x)) ≡ statusBytes (w .tag) r (statusNumber s) = stated-unread x s r here (fit .status) ∙ ap (λ (v : Wrapper). statusBytes (v .tag) r (statusNumber s)) (fit .wrapper) in
+        let thirteen : length (unreadBytes (bufferOfPoint (stated x))) ≡ 13 = ap length put-in ∙ length-status (w .tag) r (statusNumber s) in
+        let n : ceiling (length (unreadBytes (bufferOfPoint (stated x)))) (P x) ≡ owing x = rw (thirteen, none, ceiling-none (P x) (fit .some)) (sym (zero-add _)) in
         subst (λ (k : ℕ). Leads w got put g (x .taken) (P x) (x .device .status) (x .device .left .0) k (enterStatus g x)) n
         (leads-status (stated x) fit-stated s r here refl (rw (put-in, all)) (omega arith) long)
 
@@ -183,23 +183,23 @@ module _ (w : Wrapper) (got put : List ℕ) (g : Given) where
 
   -- ---- 6
 
-  module _ (x : Point) (fit : Fit w x) (dir : w .direction ≡ In) (all : got ++ filledTo (x .device .left .0) (unreadBytes (bufferAt x)) ≡ filledTo (w .length) put) (few : length (unreadBytes (bufferAt x)) ≤ x .device .left .0) where
+  module _ (x : Point) (fit : Fit w x) (dir : w .direction ≡ In) (all : got ++ filledTo (x .device .left .0) (unreadBytes (bufferOfPoint x)) ≡ filledTo (w .length) put) (few : length (unreadBytes (bufferOfPoint x)) ≤ x .device .left .0) where
     module _ (more : x .device .left .0 ≡ 0 → ⊥) where
       left : ℕ
       left = x .device .left .0
 
       xs : List ℕ
-      xs = unreadBytes (bufferAt x)
+      xs = unreadBytes (bufferOfPoint x)
 
       fill : ℕ
-      fill = min left (P x) - unread (bufferAt x)
+      fill = min left (P x) - unread (bufferOfPoint x)
 
-      topped-unread : unreadBytes (bufferAt (topped x)) ≡ xs ++ replicate fill 0xFF
+      topped-unread : unreadBytes (bufferOfPoint (topped x)) ≡ xs ++ replicate fill 0xFF
       unfolding left xs fill
-      topped-unread = fill-exact (P x) (x .device .left) (bufferAt x) (fit .sound) (fit .packet)
+      topped-unread = fill-exact (P x) (x .device .left) (bufferOfPoint x) (fit .sound) (fit .packet)
 
-      topped-sound : Sound (bufferAt (topped x))
-      topped-sound = follows-filled (P x) (x .device .left) (bufferAt x) (fit .sound) .sound
+      topped-sound : Sound (bufferOfPoint (topped x))
+      topped-sound = follows-filled (P x) (x .device .left) (bufferOfPoint x) (fit .sound) .sound
 
       -- The bytes of the packet, the bytes that are still unread after it, and how many they are.
       topped-split : bytesOf (sendData g (topped x)) ++ unreadBytes (bufferAfter (sendData g (topped x))) ≡ xs ++ replicate fill 0xFF
@@ -207,7 +207,7 @@ module _ (w : Wrapper) (got put : List ℕ) (g : Given) where
 
       record Figures : Type 0 where
         parts : length (bytesOf (sendData g (topped x))) + length (unreadBytes (bufferAfter (sendData g (topped x)))) ≡ length xs + fill
-        known : unread (bufferAt (topped x)) ≡ length xs + fill
+        known : unread (bufferOfPoint (topped x)) ≡ length xs + fill
         filled : fill ≡ min left (P x) - length xs
         least : 0 < left
         within : length xs ≤ left
@@ -218,8 +218,8 @@ module _ (w : Wrapper) (got put : List ℕ) (g : Given) where
           let long : length (xs ++ replicate fill 0xFF) ≡ length xs + fill = length-append xs (replicate fill 0xFF) ∙ ap (λ (k : ℕ). length xs + k) (length-replicate {A = ℕ} fill 0xFF) in
           record {
             parts = sym (length-append (bytesOf (sendData g (topped x))) _) ∙ ap length topped-split ∙ long;
-            known = sym (length-unread (bufferAt (topped x)) topped-sound) ∙ ap length topped-unread ∙ long;
-            filled = ap (λ (k : ℕ). min (x .device .left .0) (P x) - k) (sym (length-unread (bufferAt x) (fit .sound)));
+            known = sym (length-unread (bufferOfPoint (topped x)) topped-sound) ∙ ap length topped-unread ∙ long;
+            filled = ap (λ (k : ℕ). min (x .device .left .0) (P x) - k) (sym (length-unread (bufferOfPoint x) (fit .sound)));
             least = omega (arith, more);
             within = few;
           }
@@ -234,7 +234,7 @@ module _ (w : Wrapper) (got put : List ℕ) (g : Given) where
           rw (send-answer true g (topped x) serving)
           (omega (arith, ceiling-falls (P x) left (sendData g (topped x) .device .left .0) (fit .some) (f .least) (data-left g (topped x) ∙ omega (arith, sent)))))
           (λ idle.
-          let e : sendData g (topped x) ≡ ends g (topped x) (answeredBy (inFor g)) = send-unserved true g (topped x) idle (λ (none : unread (bufferAt (topped x)) ≡ 0). omega (arith, f .known, f .filled, f .least, fit .some)) in
+          let e : sendData g (topped x) ≡ ends g (topped x) (answeredBy (inFor g)) = send-unserved true g (topped x) idle (λ (none : unread (bufferOfPoint (topped x)) ≡ 0). omega (arith, f .known, f .filled, f .least, fit .some)) in
           rw (e, unserved (inFor g) idle) (add-zero _))
 
       fill-bytes : (l : ℕ) → l + length (bytesOf (sendData g (topped x))) ≡ left → (got ++ bytesOf (sendData g (topped x))) ++ filledTo l (unreadBytes (bufferAfter (sendData g (topped x)))) ≡ filledTo (w .length) put
@@ -265,8 +265,8 @@ module _ (w : Wrapper) (got put : List ℕ) (g : Given) where
     -- Where nothing is left nothing is unread, and the host got all its data.
     all-got : x .device .left .0 ≡ 0 → got ≡ dataOf (w .direction) (w .length) put
     all-got none =
-        let done : filledTo (x .device .left .0) (unreadBytes (bufferAt x)) ≡ [] =
-        filled-already _ (x .device .left .0) (unreadBytes (bufferAt x)) (omega arith) ∙ none-of (unreadBytes (bufferAt x)) (omega arith) in
+        let done : filledTo (x .device .left .0) (unreadBytes (bufferOfPoint x)) ≡ [] =
+        filled-already _ (x .device .left .0) (unreadBytes (bufferOfPoint x)) (omega arith) ∙ none-of (unreadBytes (bufferOfPoint x)) (omega arith) in
         rw dir (sym (append-nil got) ∙ ap (λ (ys : List ℕ). got ++ ys) (sym done) ∙ all)
 
     pub leads-to-ending : isPresent (x .device .status) ≡ true → Goes x (owing x) (toHostEndingRule g x)
@@ -278,12 +278,12 @@ module _ (w : Wrapper) (got put : List ℕ) (g : Given) where
 
   -- ---- 4
 
-  module _ (x : Point) (fit : Fit w x) (dir : w .direction ≡ In) (same : got ++ unreadBytes (bufferAt x) ≡ put) (sum : x .device .left .0 + length got ≡ w .length) (few : length put ≤ w .length) where
-    unread-few : length (unreadBytes (bufferAt x)) ≤ x .device .left .0
-    unread-few = omega (arith, length-append got (unreadBytes (bufferAt x)), ap length same)
+  module _ (x : Point) (fit : Fit w x) (dir : w .direction ≡ In) (same : got ++ unreadBytes (bufferOfPoint x) ≡ put) (sum : x .device .left .0 + length got ≡ w .length) (few : length put ≤ w .length) where
+    unread-few : length (unreadBytes (bufferOfPoint x)) ≤ x .device .left .0
+    unread-few = omega (arith, length-append got (unreadBytes (bufferOfPoint x)), ap length same)
 
-    to-fill : got ++ filledTo (x .device .left .0) (unreadBytes (bufferAt x)) ≡ filledTo (w .length) put
-    to-fill = filled-behind _ (x .device .left .0) (w .length) got (unreadBytes (bufferAt x)) sum ∙ ap (filledTo (w .length)) same
+    to-fill : got ++ filledTo (x .device .left .0) (unreadBytes (bufferOfPoint x)) ≡ filledTo (w .length) put
+    to-fill = filled-behind _ (x .device .left .0) (w .length) got (unreadBytes (bufferOfPoint x)) sum ∙ ap (filledTo (w .length)) same
 
     module _ (absent : isPresent (x .device .status) ≡ false) where
       leads-rest : Goes x (owing x) (ends g (reaching DataTransferToHost x) (answer 4))
@@ -301,8 +301,8 @@ module _ (w : Wrapper) (got put : List ℕ) (g : Given) where
           let y : Point = reaching DataTransferToHost x in
           let ys : List ℕ = bytesOf (sendData g y) in
           let rest : List ℕ = unreadBytes (bufferAfter (sendData g y)) in
-          let split : ys ++ rest ≡ unreadBytes (bufferAt x) = send-unread true g y (fit .sound) in
-          let parts : length ys + length rest ≡ length (unreadBytes (bufferAt x)) = sym (length-append ys rest) ∙ ap length split in
+          let split : ys ++ rest ≡ unreadBytes (bufferOfPoint x) = send-unread true g y (fit .sound) in
+          let parts : length ys + length rest ≡ length (unreadBytes (bufferOfPoint x)) = sym (length-append ys rest) ∙ ap length split in
           let none : length (laterBytes (x .taken) g (sendData g y)) ≡ 0 = no-later g (x .taken) in
           record {
             wrapper = fit .wrapper;
@@ -318,7 +318,7 @@ module _ (w : Wrapper) (got put : List ℕ) (g : Given) where
         of-picked (Goes x (owing x)) (eqb (x .device .left .0) 0)
         (λ e. let none : x .device .left .0 ≡ 0 = eqb-true _ _ e in leads-await x fit none (all-got x fit dir to-fill unread-few none))
         (λ _. of-picked (Goes x (owing x)) (isPresent (x .device .status)) (leads-to-ending x fit dir to-fill unread-few)
-        (λ absent. of-picked (Goes x (owing x)) (fallsShort (P x) (x .device .left) (unread (bufferAt x))) (λ _. leads-rest absent) (λ _. leads-data absent)))
+        (λ absent. of-picked (Goes x (owing x)) (fallsShort (P x) (x .device .left) (unread (bufferOfPoint x))) (λ _. leads-rest absent) (λ _. leads-data absent)))
 
   -- ---- 8 and 7
 
@@ -332,12 +332,12 @@ module _ (w : Wrapper) (got put : List ℕ) (g : Given) where
 
     module _ (first : x .taken ≡ 0) (small : length (g .one) ≤ P x) (more : x .device .left .0 ≡ 0 → ⊥) where
       drop-falls : Full (min (P x) (x .device .left .0)) (packetsOf g (takeData g dropped)) → ceiling (takeData g dropped .device .left .0) (P x) + ceiling 13 (P x) + one (takeData g dropped) ≡ owing x
-      unfolding isServed offers
+      unfolding isServed offeredPacket
       drop-falls full =
-          let sound : Sound (bufferAt dropped) = record { order = zero-le; within = zero-le } in
-          let it-is : offered g dropped ≡ g .one = rw first in
-          let fits : length (offered g dropped) ≤ P x = rw it-is small in
-          let room : lacksRoom (P x) (bufferAt dropped) ≡ false = lacks-by-unread (P x) (bufferAt dropped) sound ∙ le-ltb (length (x .io) - 0) (P x) (omega (arith, fit .packet)) in
+          let sound : Sound (bufferOfPoint dropped) = record { order = zero-le; within = zero-le } in
+          let it-is : offeredAt g dropped ≡ g .one = rw first in
+          let fits : length (offeredAt g dropped) ≤ P x = rw it-is small in
+          let room : lacksRoom (P x) (bufferOfPoint dropped) ≡ false = lacks-by-unread (P x) (bufferOfPoint dropped) sound ∙ le-ltb (length (x .io) - 0) (P x) (omega (arith, fit .packet)) in
           cases (serves (outFor g dropped))
           (λ serving.
           let whole : length (g .one) ≡ min (P x) (x .device .left .0) = (rw (take-taken g dropped sound fits room serving, first) at full) .0 in
@@ -366,7 +366,7 @@ module _ (w : Wrapper) (got put : List ℕ) (g : Given) where
       status = refl;
       phase = fromHost refl dir (append-nil got ∙ none);
       count = λ present. absurd (clash (sym present ∙ absent));
-      wire = λ _. ap (λ (n : ℕ). x .device .left .0 - n) (brought-is (P x) (outFor g x) (offered g x) (bufferAt x) ∙ sym (zero-add _ ∙ later-is g (takesOne (P x) (outFor g x) (bufferAt x)) (x .taken) once));
+      wire = λ _. ap (λ (n : ℕ). x .device .left .0 - n) (brought-is (P x) (outFor g x) (offeredAt g x) (bufferOfPoint x) ∙ sym (zero-add _ ∙ later-is g (takesOne (P x) (outFor g x) (bufferOfPoint x)) (x .taken) once));
     }
 
     -- With a status present the poll has taken no packet before; without one it has taken at most one.

@@ -24,13 +24,13 @@ use Rattle.device.specs.Device.{numbersOf, isPresent, withMarks}
 use Rattle.device.specs.Broken.{Whole}
 use Rattle.device.proofs.Wholly.{whole-sound, wrapper-fits, packet-fits, packet-known, packet-bounds}
 use Rattle.answers.specs.Answers.{Answering, answer}
-use Rattle.bbb.specs.Poll.{Given, Polling, Point, point, bufferAt, sendStatus, statusTransferRule, ruleIn, pollRule, Fits, refusing, pollCall}
+use Rattle.bbb.specs.Poll.{Given, Polling, Point, point, bufferOfPoint, sendStatus, statusTransferRule, ruleIn, pollRule, Fits, refusing, pollCall}
 use Rattle.bbb.proofs.Keeping.{by-call, call-whole, call-sizes, packet-is}
 use Rattle.calls.specs.declared.FirmwareStatus.{FirmwareStatus}
 use Rattle.calls.specs.declared.Request.{Request}
 use Rattle.calls.specs.Checks.{isIn, bufferOf}
 use Rattle.calls.specs.Status.{Stating, takesStatus, withFigure}
-use Rattle.calls.specs.Data.{Moving, limited, readCall, writeCall, writeAllCall}
+use Rattle.calls.specs.Data.{Moving, limited, readDataCall, writeDataCall, writeDataAllCall}
 use Rattle.calls.specs.Bus.{Handling}
 use Rattle.calls.proofs.After.{by-status, status-whole, data-elsewhere, read-keeps, read-whole, write-keeps, write-whole, write-most, write-unread, write-all-keeps, write-all-whole, write-all-answer, write-all-unread, by-request}
 use Rattle.readout.specs.History.{Socket, socket, Event, poll, status, write, writeAll, read, reset, control, command, commandStep, Shows, ofStatus, ofBus, shows, isServed, isPoll, served, isReset, isStatus, accepts}
@@ -96,7 +96,7 @@ module _ (w : Wrapper) (p : ℕ) (got put : List ℕ) (few : length put ≤ w .l
         → GoesIn StatusTransfer
     unfolding ruleIn statusTransferRule
     in-3 e sends =
-        let some : eqb (unread (bufferAt start)) 0 ≡ false = ne-eqb (unread (bufferAt start)) 0 (λ (none : unread (bufferAt start) ≡ 0). omega (arith, unread-some e, length-unread (bufferAt start) (fit .sound))) in
+        let some : eqb (unread (bufferOfPoint start)) 0 ≡ false = ne-eqb (unread (bufferOfPoint start)) 0 (λ (none : unread (bufferOfPoint start) ≡ 0). omega (arith, unread-some e, length-unread (bufferOfPoint start) (fit .sound))) in
         rw some sends
 
     rule-leads : (σ : State) → Phase w got put σ (s .device .status) (s .device .left .0) (unreadIn s) → s .device .state ≡ σ → GoesIn σ
@@ -231,7 +231,7 @@ module _ (w : Wrapper) (p : ℕ) (got put : List ℕ) (s : Socket) (t : Transfer
       let d : Device = s .device in
       let io : List ℕ = s .io in
       cases (isIn 7 d)
-      (λ in7. read-off (readCall d io dst .device) io (read-keeps d io dst) (read-whole d io (t .whole) dst) in7 _ (d .state) refl (t .phase))
+      (λ in7. read-off (readDataCall d io dst .device) io (read-keeps d io dst) (read-whole d io (t .whole) dst) in7 _ (d .state) refl (t .phase))
       (λ elsewhere. rw (data-elsewhere 7 d io dst _ (t .whole) elsewhere) (unchanged (answer 3) false))
 
   write-steps : (src : List ℕ) → Steps w p got put s (accepts (write src) s) (served (write src) s) (shows (write src) s)
@@ -241,9 +241,9 @@ module _ (w : Wrapper) (p : ℕ) (got put : List ℕ) (s : Socket) (t : Transfer
       let io : List ℕ = s .io in
       cases (isIn 4 d)
       (λ in4.
-      let n : ℕ = writeCall d io src .count in
+      let n : ℕ = writeDataCall d io src .count in
       let within : n ≤ d .left .0 = write-most d io (t .whole) src in4 in
-      put-in (writeCall d io src .device) (writeCall d io src .bytes) (write-keeps d io src) (write-whole d io (t .whole) src) in4 _ (take n src)
+      put-in (writeDataCall d io src .device) (writeDataCall d io src .bytes) (write-keeps d io src) (write-whole d io (t .whole) src) in4 _ (take n src)
       (write-unread d io (t .whole) src in4 ∙ ap (λ (l : List ℕ). unreadIn s ++ l) (take-take n (d .left .0) src within)) (d .state) refl (t .phase))
       (λ elsewhere. rw (data-elsewhere 4 d io io _ (t .whole) elsewhere) (unchanged (answer 3) false))
 
@@ -252,7 +252,7 @@ module _ (w : Wrapper) (p : ℕ) (got put : List ℕ) (s : Socket) (t : Transfer
   write-all-steps src =
       let d : Device = s .device in
       let io : List ℕ = s .io in
-      let o : Moving = writeAllCall d io src in
+      let o : Moving = writeDataAllCall d io src in
       cases (isIn 4 d)
       (λ in4.
       let counted : o .count ≡ cond (lacksRoom (length src) (bufferOf d io)) 0 (length src) = write-all-answer d io (t .whole) src in4 .1 in

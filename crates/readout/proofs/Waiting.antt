@@ -20,7 +20,7 @@ use Rattle.device.specs.declared.Device.{Device}
 use Rattle.device.specs.Device.{numbersOf, isPresent, entering0}
 use Rattle.device.specs.Broken.{Whole}
 use Rattle.device.proofs.Wholly.{whole-sound, absent-in-0, wrapper-fits, packet-fits, packet-known, packet-bounds}
-use Rattle.bbb.specs.Poll.{Given, Polling, Point, point, bufferAt, ends, parseRule, readCbwRule, entering, statusTransferRule, ruleIn, pollRule, Fits}
+use Rattle.bbb.specs.Poll.{Given, Polling, Point, point, bufferOfPoint, ends, parseRule, readCbwRule, entering, statusTransferRule, ruleIn, pollRule, Fits}
 use Rattle.bbb.proofs.After.{P, firstFor, Idle, arrived, read-short, read-ripe, read-full, read-unserved, parse-taken}
 use Rattle.calls.specs.Checks.{bufferOf}
 use Rattle.readout.specs.History.{Socket, firstOf}
@@ -56,30 +56,30 @@ apart e f = clash (ap (λ (σ : State). eqb (stateNumber σ) 0) (sym e ∙ f))
 
 -- A point `x` from which a poll reads in 0, with the bytes `m` unread.
 pub record From (m : List ℕ) (g : Given) (x : Point) : Type 0 where
-  pub sound : Sound (bufferAt x)
+  pub sound : Sound (bufferOfPoint x)
   pub small : length (g .one) ≤ P x
   pub some : 0 < P x
   pub packet : P x ≤ length (x .io)
   pub wide : 31 ≤ length (x .io)
-  pub unread : unreadBytes (bufferAt x) ≡ m
+  pub unread : unreadBytes (bufferOfPoint x) ≡ m
   pub state : x .device .state ≡ CommandTransfer
   pub absent : isPresent (x .device .status) ≡ false
   pub taken : x .taken ≡ 0
 
-pub from-count : {m : List ℕ} {g : Given} {x : Point} → From m g x → unread (bufferAt x) ≡ length m
-from-count {x = x} f = sym (length-unread (bufferAt x) (f .sound)) ∙ ap length (f .unread)
+pub from-count : {m : List ℕ} {g : Given} {x : Point} → From m g x → unread (bufferOfPoint x) ≡ length m
+from-count {x = x} f = sym (length-unread (bufferOfPoint x) (f .sound)) ∙ ap length (f .unread)
 
 -- What the read does: it takes nothing; it takes a packet, and fewer than 31 bytes are unread; or it takes a packet, 31 or more bytes are
 -- unread, and they are parsed.
 pub data Reads (g : Given) (x : Point) (o : Polling) : Type 0 where
   idle : Idle g x o → Reads g x o
-  short : lacksRoom (P x) (bufferAt x) ≡ false → serves (firstFor g) ≡ true → o ≡ ends g (arrived g x) (answer 0) → unread (bufferAt x) + length (g .one) < 31 → Reads g x o
-  ripe : lacksRoom (P x) (bufferAt x) ≡ false → serves (firstFor g) ≡ true → o ≡ parseRule g (arrived g x) → 31 ≤ unread (bufferAt x) + length (g .one) → Reads g x o
+  short : lacksRoom (P x) (bufferOfPoint x) ≡ false → serves (firstFor g) ≡ true → o ≡ ends g (arrived g x) (answer 0) → unread (bufferOfPoint x) + length (g .one) < 31 → Reads g x o
+  ripe : lacksRoom (P x) (bufferOfPoint x) ≡ false → serves (firstFor g) ≡ true → o ≡ parseRule g (arrived g x) → 31 ≤ unread (bufferOfPoint x) + length (g .one) → Reads g x o
 
-reads : (g : Given) (x : Point) → Sound (bufferAt x) → length (g .one) ≤ P x → Reads g x (readCbwRule g x)
+reads : (g : Given) (x : Point) → Sound (bufferOfPoint x) → length (g .one) ≤ P x → Reads g x (readCbwRule g x)
 reads g x sound small =
-    let n : ℕ = unread (bufferAt x) + length (g .one) in
-    cases (lacksRoom (P x) (bufferAt x))
+    let n : ℕ = unread (bufferOfPoint x) + length (g .one) in
+    cases (lacksRoom (P x) (bufferOfPoint x))
     (λ full. idle (read-full g x sound small full .1))
     (λ room. cases (serves (firstFor g))
     (λ serving. cases (ltb n 31)
@@ -133,8 +133,8 @@ module _ (p : ℕ) (m : List ℕ) (s : Socket) (a : Arriving p m s) (g : Given) 
   rule-3 : s .device .state ≡ StatusTransfer → polled ≡ readCbwRule g (entering start)
   unfolding pollRule ruleIn statusTransferRule
   rule-3 e =
-      let none : unread (bufferAt start) ≡ 0 = sym (length-unread (bufferAt start) marks-sound) ∙ ap length (a .unread ∙ a .none-in-3 e) in
-      subst (λ (σ : State). ruleIn σ g start ≡ readCbwRule g (entering start)) (sym e) (rw (eq-eqb (unread (bufferAt start)) 0 none))
+      let none : unread (bufferOfPoint start) ≡ 0 = sym (length-unread (bufferOfPoint start) marks-sound) ∙ ap length (a .unread ∙ a .none-in-3 e) in
+      subst (λ (σ : State). ruleIn σ g start ≡ readCbwRule g (entering start)) (sym e) (rw (eq-eqb (unread (bufferOfPoint start)) 0 none))
 
   pub by-reading : {A : Type 0} → ((x : Point) → From m g x → Reads g x polled → A) → A
   by-reading {A} go =

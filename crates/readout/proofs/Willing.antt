@@ -16,7 +16,7 @@ use Rattle.packets.specs.Packets.{readAnswer, takesOne, received}
 use Rattle.packets.proofs.Laws.{answers-0}
 use Rattle.device.specs.Device.{numbersOf, isPresent}
 use Rattle.device.specs.Broken.{Whole}
-use Rattle.bbb.specs.Poll.{Given, Polling, Point, point, bufferAt, reaching, leaving, counting, sendStatus, sendData, offeredBy, takeBy, takeData, enterStatus, statusAwaitRule, noDataRule, toHostEndingRule, fallsShort, toHostRule, fromHostEndingRule, fromHostRule, ordered, startRule, messageAt, behind31, parseRule, readBy, readOneBy, readCbwRule, entering, statusTransferRule, invalidRule, ruleIn, pollRule, pollCall}
+use Rattle.bbb.specs.Poll.{Given, Polling, Point, point, bufferOfPoint, reaching, leaving, counting, sendStatus, sendData, offeredBy, takeBy, takeData, enterStatus, statusAwaitRule, noDataRule, toHostEndingRule, fallsShort, toHostRule, fromHostEndingRule, fromHostRule, starting, startRule, messageAt, past31, parseRule, readBy, readOneBy, readCbwRule, entering, statusTransferRule, invalidRule, ruleIn, pollRule, pollCall}
 use Rattle.bbb.proofs.Keeping.{by-direction, call-done}
 use Rattle.bbb.proofs.After.{P, firstFor, outFor, topped, stated, send-answer}
 use Rattle.readout.specs.History.{Socket, poll, shows, isServed, isPoll, served}
@@ -47,7 +47,7 @@ module _ (g : Given) (first : serves (endpointOf (g .turn .first)) ≡ true) (se
 
     take-does : Does (takeData g x)
     unfolding takeData takeBy
-    take-does = read-does (P x) (outFor g x) (bufferAt x) (offered-serves (x .taken))
+    take-does = read-does (P x) (outFor g x) (bufferOfPoint x) (offered-serves (x .taken))
 
   module _ (x : Point) where
     enter-does : Does (enterStatus g x)
@@ -67,7 +67,7 @@ module _ (g : Given) (first : serves (endpointOf (g .turn .first)) ≡ true) (se
     to-does =
         of-picked Does (eqb (x .device .left .0) 0) (λ _. await-does)
         (λ _. of-picked Does (isPresent (x .device .status)) (λ _. to-ending-does)
-        (λ _. of-picked Does (fallsShort (P x) (x .device .left) (unread (bufferAt x))) (λ _. refl) (λ _. data-does (reaching DataTransferToHost x))))
+        (λ _. of-picked Does (fallsShort (P x) (x .device .left) (unread (bufferOfPoint x))) (λ _. refl) (λ _. data-does (reaching DataTransferToHost x))))
 
     from-ending-does : Does (fromHostEndingRule g x)
     unfolding fromHostEndingRule
@@ -82,23 +82,23 @@ module _ (g : Given) (first : serves (endpointOf (g .turn .first)) ≡ true) (se
   parse-does : (x : Point) → Does (parseRule g x)
   unfolding parseRule startRule noDataRule isServed
   parse-does x =
-      let w = wrapperOf (messageAt (bufferAt x)) in
-      let y : Point = ordered w (leaving (behind31 (bufferAt x)) x) in
-      of-picked Does (isValid (messageAt (bufferAt x))) (λ _. by-direction Does (w .direction) (from-does y) (to-does y) (await-does y)) (λ _. refl)
+      let w = wrapperOf (messageAt (bufferOfPoint x)) in
+      let y : Point = starting w (leaving (past31 (bufferOfPoint x)) x) in
+      of-picked Does (isValid (messageAt (bufferOfPoint x))) (λ _. by-direction Does (w .direction) (from-does y) (to-does y) (await-does y)) (λ _. refl)
 
   wrapper-does : (x : Point) → Does (readCbwRule g x)
   unfolding readCbwRule readOneBy readBy
   wrapper-does x =
-      let took : Bool = takesOne (P x) (firstFor g) (bufferAt x) in
-      let y : Point = counting took (leaving (received (P x) (firstFor g) (g .one) (bufferAt x)) x) in
-      of-picked Does (took && leb 31 (unread (bufferAt y))) (λ _. parse-does y) (λ _. read-does (P x) (firstFor g) (bufferAt x) first)
+      let took : Bool = takesOne (P x) (firstFor g) (bufferOfPoint x) in
+      let y : Point = counting took (leaving (received (P x) (firstFor g) (g .one) (bufferOfPoint x)) x) in
+      of-picked Does (took && leb 31 (unread (bufferOfPoint y))) (λ _. parse-does y) (λ _. read-does (P x) (firstFor g) (bufferOfPoint x) first)
 
   rule-does : (σ : State) (x : Point) → Does (ruleIn σ g x)
   unfolding ruleIn invalidRule noDataRule statusTransferRule isServed
   rule-does CommandTransfer x = wrapper-does x
   rule-does CommandTransferInvalid x = refl
   rule-does DataTransferNoData x = await-does x
-  rule-does StatusTransfer x = of-picked Does (eqb (unread (bufferAt x)) 0) (λ _. wrapper-does (entering x)) (λ _. status-does x)
+  rule-does StatusTransfer x = of-picked Does (eqb (unread (bufferOfPoint x)) 0) (λ _. wrapper-does (entering x)) (λ _. status-does x)
   rule-does DataTransferToHost x = to-does x
   rule-does DataTransferToHostStatusAwait x = await-does x
   rule-does DataTransferToHostEnding x = to-ending-does x

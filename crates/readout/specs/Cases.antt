@@ -7,7 +7,7 @@ use Rattle.fields.specs.Case.{Case, case}
 use Rattle.device.specs.Create.{fixed, newDevice}
 use Rattle.bbb.specs.Poll.{Given, given}
 use Rattle.readout.specs.History.{Socket, socket, Event, poll, status, write, read, commandStep, Shows, shows, next, all}
-use Rattle.readout.specs.Demand.{Story, told, ended, L, R, number, firmware, host, servedSince, crossed, ceiling, theData, theStatus}
+use Rattle.readout.specs.Demand.{Story, afterStatus, ended, L, R, pollsDue, firmware, host, servedSince, crossed, ceiling, theData, theStatus}
 
 -- ---- the polls
 
@@ -30,8 +30,8 @@ busy n = given (replicate n 7) [] [] (record { first = 1; second = 1; write = 1 
 -- ---- the stories
 
 -- A new device with packet size `p` and max LUN 0, and an IO buffer of `size` zeros.
-abbrev pub new : ℕ → ℕ → Socket
-new p size = socket (newDevice (fixed p 0 size)) (replicate size 0)
+abbrev pub newSocket : ℕ → ℕ → Socket
+newSocket p size = socket (newDevice (fixed p 0 size)) (replicate size 0)
 
 -- A wrapper with the tag `tag`, the flags `flags`, LUN 0 and a block of 6 zeros, which declares `l` bytes. Each of the three numbers has
 -- one byte here.
@@ -39,8 +39,8 @@ abbrev pub cbw : ℕ → ℕ → ℕ → List ℕ
 cbw tag flags l = 0x55 ∷ 0x53 ∷ 0x42 ∷ 0x43 ∷ tag ∷ 0 ∷ 0 ∷ 0 ∷ l ∷ 0 ∷ 0 ∷ 0 ∷ flags ∷ 0 ∷ 6 ∷ replicate 16 0
 
 -- A wrapper to the host with tag 1, which declares `l` bytes. Where `l` is 0 the flags do not count.
-abbrev wrapper : ℕ → List ℕ
-wrapper l = cbw 1 0x80 l
+abbrev cbwToHost : ℕ → List ℕ
+cbwToHost l = cbw 1 0x80 l
 
 -- At P 8 the 31 bytes of a wrapper, `bytes`, come in packets of 8, 8, 8 and 7 bytes. These are the polls of the first three, and between
 -- them a poll in which OUT is busy.
@@ -57,49 +57,49 @@ fourth bytes = taking 8 (drop 24 bytes)
 -- P is 64 and L is 130, and the firmware puts nothing in.
 unfoldable pub read64 : Story
 read64 = record {
-  start = new 64 64;
+  start = newSocket 64 64;
   arrival = [];
-  completing = taking 64 (wrapper 130);
+  completing = taking 64 (cbwToHost 130);
   before = [];
-  given = record { status = 0; figure = 0 };
+  lastStatus = record { status = 0; figure = 0 };
   after = poll (sending 64) ∷ poll (busy 64) ∷ poll (sending 64) ∷ poll (sending 63) ∷ poll (sending 64) ∷ [];
 }
 
 -- P is 8, and the command has no data.
 unfoldable pub bare8 : Story
 bare8 = record {
-  start = new 8 40;
-  arrival = three (wrapper 0);
-  completing = fourth (wrapper 0);
+  start = newSocket 8 40;
+  arrival = three (cbwToHost 0);
+  completing = fourth (cbwToHost 0);
   before = [];
-  given = record { status = 0; figure = 0 };
+  lastStatus = record { status = 0; figure = 0 };
   after = poll (busy 8) ∷ poll (sending 8) ∷ poll (sending 7) ∷ [];
 }
 
 -- P is 8 and L is 10, and the firmware puts four bytes in.
 unfoldable pub short8 : Story
 short8 = record {
-  start = new 8 40;
-  arrival = three (wrapper 10);
-  completing = fourth (wrapper 10);
+  start = newSocket 8 40;
+  arrival = three (cbwToHost 10);
+  completing = fourth (cbwToHost 10);
   before = write (1 ∷ 2 ∷ 3 ∷ 4 ∷ []) ∷ [];
-  given = record { status = 0; figure = 4 };
+  lastStatus = record { status = 0; figure = 4 };
   after = poll (sending 8) ∷ poll (busy 8) ∷ poll (sending 8) ∷ poll (sending 7) ∷ poll (sending 8) ∷ [];
 }
 
 -- A wrapper from the host with tag 9, which declares `l` bytes.
-abbrev from-host : ℕ → List ℕ
-from-host l = cbw 9 0 l
+abbrev cbwFromHost : ℕ → List ℕ
+cbwFromHost l = cbw 9 0 l
 
 -- This one is ours: the command after `short8`, from where that ended. P is 8, and it is a write of L = 20, whose first data packet comes
 -- in the same poll as the last packet of the wrapper. The firmware reads two bytes, and its second status replaces the first.
 unfoldable pub write8 : Story
 write8 = record {
   start = next (poll (sending 8)) (ended short8);
-  arrival = poll (taking 8 (take 8 (from-host 20))) ∷ poll (taking 8 (take 8 (drop 8 (from-host 20)))) ∷ commandStep ∷ poll (sending 8) ∷ poll (taking 8 (take 8 (drop 16 (from-host 20)))) ∷ [];
-  completing = takingTwo 8 (drop 24 (from-host 20)) (replicate 8 3);
+  arrival = poll (taking 8 (take 8 (cbwFromHost 20))) ∷ poll (taking 8 (take 8 (drop 8 (cbwFromHost 20)))) ∷ commandStep ∷ poll (sending 8) ∷ poll (taking 8 (take 8 (drop 16 (cbwFromHost 20)))) ∷ [];
+  completing = takingTwo 8 (drop 24 (cbwFromHost 20)) (replicate 8 3);
   before = read (0 ∷ 0 ∷ []) ∷ status (record { status = 2; figure = 5 }) ∷ [];
-  given = record { status = 1; figure = 8 };
+  lastStatus = record { status = 1; figure = 8 };
   after = poll (taking 8 (replicate 8 3)) ∷ poll (sending 8) ∷ poll (taking 8 (replicate 4 3)) ∷ poll (sending 8) ∷ [];
 }
 
@@ -107,11 +107,11 @@ write8 = record {
 -- same happens once more. It puts its last 4 bytes in after the status, which says that nothing is missing.
 unfoldable pub full8 : Story
 full8 = record {
-  start = new 8 40;
-  arrival = three (wrapper 20);
-  completing = fourth (wrapper 20);
+  start = newSocket 8 40;
+  arrival = three (cbwToHost 20);
+  completing = fourth (cbwToHost 20);
   before = commandStep ∷ write (1 ∷ 2 ∷ 3 ∷ 4 ∷ 5 ∷ 6 ∷ 7 ∷ 8 ∷ []) ∷ poll (sending 8) ∷ write (9 ∷ 10 ∷ 11 ∷ 12 ∷ 13 ∷ 14 ∷ 15 ∷ 16 ∷ []) ∷ poll (busy 8) ∷ poll (sending 8) ∷ [];
-  given = record { status = 0; figure = 20 };
+  lastStatus = record { status = 0; figure = 20 };
   after = write (17 ∷ 18 ∷ 19 ∷ 20 ∷ []) ∷ poll (sending 8) ∷ poll (busy 8) ∷ poll (sending 8) ∷ [];
 }
 
@@ -122,52 +122,52 @@ unfoldable pub answersIn : List Event → Socket → List ℕ
 answersIn h s = all (λ (o : Shows). o .answer .number ∷ []) h s
 
 -- The list of `packets` with one packet in front of it, unless that has no bytes.
-unfoldable pub behind : List ℕ → List (List ℕ) → List (List ℕ)
-behind [] packets = packets
-behind (b ∷ bs) packets = (b ∷ bs) ∷ packets
+unfoldable pub unlessEmpty : List ℕ → List (List ℕ) → List (List ℕ)
+unlessEmpty [] packets = packets
+unlessEmpty (b ∷ bs) packets = (b ∷ bs) ∷ packets
 
 -- What each poll of a history sent that sent something, where the history starts at the socket `s`.
 unfoldable pub packetsIn : List Event → Socket → List (List ℕ)
 packetsIn [] s = []
-packetsIn (e ∷ h) s = behind (shows e s .sent) (packetsIn h (next e s))
+packetsIn (e ∷ h) s = unlessEmpty (shows e s .sent) (packetsIn h (next e s))
 
 -- The packets sent since the status of the story `t`, with those of one more poll at its end, which is given `g`.
 unfoldable pub packets : Story → Given → List (List ℕ)
-packets t g = packetsIn (t .after ++ (poll g ∷ [])) (told t)
+packets t g = packetsIn (t .after ++ (poll g ∷ [])) (afterStatus t)
 
 -- All that the host got in the story `t`, and in one more poll at its end, which is given `g`.
-unfoldable pub whole : Story → Given → List ℕ
-whole t g = host t ++ shows (poll g) (ended t) .sent
+unfoldable pub hostWith : Story → Given → List ℕ
+hostWith t g = host t ++ shows (poll g) (ended t) .sent
 
 -- 01's starred cases of demand 3.
 unfoldable pub starred : List Case
 starred =
     -- "P 64, R 130: 4 served polls*.": three are over, with a busy poll (6) and a refused poll (11) between them, and the fourth ends it.
     case (R read64) 130
-    ∷ case (number read64) 4
+    ∷ case (pollsDue read64) 4
     ∷ case (servedSince read64) 3
-    ∷ case (answersIn (read64 .after) (told read64)) (0 ∷ 6 ∷ 0 ∷ 11 ∷ 0 ∷ [])
+    ∷ case (answersIn (read64 .after) (afterStatus read64)) (0 ∷ 6 ∷ 0 ∷ 11 ∷ 0 ∷ [])
     -- All that L = 130 asks for is filler; then come 13 status bytes, with a residue of 130.
     ∷ case (packets read64 (sending 64)) (replicate 64 0xFF ∷ replicate 64 0xFF ∷ (0xFF ∷ 0xFF ∷ []) ∷ (0x55 ∷ 0x53 ∷ 0x42 ∷ 0x53 ∷ 1 ∷ 0 ∷ 0 ∷ 0 ∷ 130 ∷ 0 ∷ 0 ∷ 0 ∷ 0 ∷ []) ∷ [])
-    ∷ case (whole read64 (sending 64)) (replicate 130 0xFF ++ (0x55 ∷ 0x53 ∷ 0x42 ∷ 0x53 ∷ 1 ∷ 0 ∷ 0 ∷ 0 ∷ 130 ∷ 0 ∷ 0 ∷ 0 ∷ 0 ∷ []))
+    ∷ case (hostWith read64 (sending 64)) (replicate 130 0xFF ++ (0x55 ∷ 0x53 ∷ 0x42 ∷ 0x53 ∷ 1 ∷ 0 ∷ 0 ∷ 0 ∷ 130 ∷ 0 ∷ 0 ∷ 0 ∷ 0 ∷ []))
     ∷ case (theData read64 ++ theStatus read64) (replicate 130 0xFF ++ (0x55 ∷ 0x53 ∷ 0x42 ∷ 0x53 ∷ 1 ∷ 0 ∷ 0 ∷ 0 ∷ 130 ∷ 0 ∷ 0 ∷ 0 ∷ 0 ∷ []))
     -- "P 8, R 0: 2*."
     ∷ case (R bare8) 0
-    ∷ case (number bare8) 2
+    ∷ case (pollsDue bare8) 2
     ∷ case (servedSince bare8) 1
-    ∷ case (answersIn (bare8 .after) (told bare8)) (6 ∷ 0 ∷ 11 ∷ [])
+    ∷ case (answersIn (bare8 .after) (afterStatus bare8)) (6 ∷ 0 ∷ 11 ∷ [])
     -- There is no data. The status goes out as 8 bytes and 5.
     ∷ case (packets bare8 (sending 8)) ((0x55 ∷ 0x53 ∷ 0x42 ∷ 0x53 ∷ 1 ∷ 0 ∷ 0 ∷ 0 ∷ []) ∷ (0 ∷ 0 ∷ 0 ∷ 0 ∷ 0 ∷ []) ∷ [])
-    ∷ case (whole bare8 (sending 8)) (0x55 ∷ 0x53 ∷ 0x42 ∷ 0x53 ∷ 1 ∷ 0 ∷ 0 ∷ 0 ∷ 0 ∷ 0 ∷ 0 ∷ 0 ∷ 0 ∷ [])
+    ∷ case (hostWith bare8 (sending 8)) (0x55 ∷ 0x53 ∷ 0x42 ∷ 0x53 ∷ 1 ∷ 0 ∷ 0 ∷ 0 ∷ 0 ∷ 0 ∷ 0 ∷ 0 ∷ 0 ∷ [])
     ∷ case (theData bare8 ++ theStatus bare8) (0x55 ∷ 0x53 ∷ 0x42 ∷ 0x53 ∷ 1 ∷ 0 ∷ 0 ∷ 0 ∷ 0 ∷ 0 ∷ 0 ∷ 0 ∷ 0 ∷ [])
     -- "P 8, L 10, four bytes put in, then status": 10 bytes are left then, and they take 2 polls.
     ∷ case (R short8) 10
-    ∷ case (number short8) 4
+    ∷ case (pollsDue short8) 4
     ∷ case (servedSince short8) 3
-    ∷ case (answersIn (short8 .after) (told short8)) (0 ∷ 6 ∷ 0 ∷ 11 ∷ 0 ∷ [])
+    ∷ case (answersIn (short8 .after) (afterStatus short8)) (0 ∷ 6 ∷ 0 ∷ 11 ∷ 0 ∷ [])
     -- "4 bytes and four FF, two FF, 8 status bytes, 5*.": The residue is 6.
     ∷ case (packets short8 (sending 8)) ((1 ∷ 2 ∷ 3 ∷ 4 ∷ 0xFF ∷ 0xFF ∷ 0xFF ∷ 0xFF ∷ []) ∷ (0xFF ∷ 0xFF ∷ []) ∷ (0x55 ∷ 0x53 ∷ 0x42 ∷ 0x53 ∷ 1 ∷ 0 ∷ 0 ∷ 0 ∷ []) ∷ (6 ∷ 0 ∷ 0 ∷ 0 ∷ 0 ∷ []) ∷ [])
-    ∷ case (whole short8 (sending 8)) (1 ∷ 2 ∷ 3 ∷ 4 ∷ 0xFF ∷ 0xFF ∷ 0xFF ∷ 0xFF ∷ 0xFF ∷ 0xFF ∷ 0x55 ∷ 0x53 ∷ 0x42 ∷ 0x53 ∷ 1 ∷ 0 ∷ 0 ∷ 0 ∷ 6 ∷ 0 ∷ 0 ∷ 0 ∷ 0 ∷ [])
+    ∷ case (hostWith short8 (sending 8)) (1 ∷ 2 ∷ 3 ∷ 4 ∷ 0xFF ∷ 0xFF ∷ 0xFF ∷ 0xFF ∷ 0xFF ∷ 0xFF ∷ 0x55 ∷ 0x53 ∷ 0x42 ∷ 0x53 ∷ 1 ∷ 0 ∷ 0 ∷ 0 ∷ 6 ∷ 0 ∷ 0 ∷ 0 ∷ 0 ∷ [])
     ∷ case (theData short8 ++ theStatus short8) (1 ∷ 2 ∷ 3 ∷ 4 ∷ 0xFF ∷ 0xFF ∷ 0xFF ∷ 0xFF ∷ 0xFF ∷ 0xFF ∷ 0x55 ∷ 0x53 ∷ 0x42 ∷ 0x53 ∷ 1 ∷ 0 ∷ 0 ∷ 0 ∷ 6 ∷ 0 ∷ 0 ∷ 0 ∷ 0 ∷ [])
     ∷ []
 
@@ -177,20 +177,20 @@ ours =
     -- 12 of 20 bytes are left at the second status. They come in packets of 8 and 4 bytes, with a busy OUT between.
     case (R write8) 12
     ∷ case (crossed write8) 8
-    ∷ case (number write8) 4
+    ∷ case (pollsDue write8) 4
     ∷ case (servedSince write8) 3
-    ∷ case (answersIn (write8 .after) (told write8)) (0 ∷ 6 ∷ 0 ∷ 0 ∷ [])
+    ∷ case (answersIn (write8 .after) (afterStatus write8)) (0 ∷ 6 ∷ 0 ∷ 0 ∷ [])
     -- The status has byte 1, the tag of this wrapper and a residue of 12.
-    ∷ case (whole write8 (sending 8)) (0x55 ∷ 0x53 ∷ 0x42 ∷ 0x53 ∷ 9 ∷ 0 ∷ 0 ∷ 0 ∷ 12 ∷ 0 ∷ 0 ∷ 0 ∷ 1 ∷ [])
+    ∷ case (hostWith write8 (sending 8)) (0x55 ∷ 0x53 ∷ 0x42 ∷ 0x53 ∷ 9 ∷ 0 ∷ 0 ∷ 0 ∷ 12 ∷ 0 ∷ 0 ∷ 0 ∷ 1 ∷ [])
     ∷ case (theData write8 ++ theStatus write8) (0x55 ∷ 0x53 ∷ 0x42 ∷ 0x53 ∷ 9 ∷ 0 ∷ 0 ∷ 0 ∷ 12 ∷ 0 ∷ 0 ∷ 0 ∷ 1 ∷ [])
     -- 16 of 20 bytes are over before the status. The 4 that are left take one poll, and the status takes two; the residue is 0.
     ∷ case (R full8) 4
     ∷ case (crossed full8) 16
     ∷ case (length (firmware full8)) (L full8)
-    ∷ case (number full8) 3
+    ∷ case (pollsDue full8) 3
     ∷ case (servedSince full8) 2
-    ∷ case (answersIn (full8 .after) (told full8)) (0 ∷ 0 ∷ 6 ∷ 0 ∷ [])
-    ∷ case (whole full8 (sending 8)) ((1 ∷ 2 ∷ 3 ∷ 4 ∷ 5 ∷ 6 ∷ 7 ∷ 8 ∷ 9 ∷ 10 ∷ 11 ∷ 12 ∷ 13 ∷ 14 ∷ 15 ∷ 16 ∷ 17 ∷ 18 ∷ 19 ∷ 20 ∷ []) ++ (0x55 ∷ 0x53 ∷ 0x42 ∷ 0x53 ∷ 1 ∷ 0 ∷ 0 ∷ 0 ∷ 0 ∷ 0 ∷ 0 ∷ 0 ∷ 0 ∷ []))
+    ∷ case (answersIn (full8 .after) (afterStatus full8)) (0 ∷ 0 ∷ 6 ∷ 0 ∷ [])
+    ∷ case (hostWith full8 (sending 8)) ((1 ∷ 2 ∷ 3 ∷ 4 ∷ 5 ∷ 6 ∷ 7 ∷ 8 ∷ 9 ∷ 10 ∷ 11 ∷ 12 ∷ 13 ∷ 14 ∷ 15 ∷ 16 ∷ 17 ∷ 18 ∷ 19 ∷ 20 ∷ []) ++ (0x55 ∷ 0x53 ∷ 0x42 ∷ 0x53 ∷ 1 ∷ 0 ∷ 0 ∷ 0 ∷ 0 ∷ 0 ∷ 0 ∷ 0 ∷ 0 ∷ []))
     -- The largest L, with all of it left, takes this many polls, at P 64 and at P 8.
     ∷ case (ceiling 4294967295 64 + ceiling 13 64) 67108865
     ∷ case (ceiling 4294967295 8 + ceiling 13 8) 536870914

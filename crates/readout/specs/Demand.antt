@@ -34,7 +34,7 @@ pub record Story : Type 0 where
   pub arrival : List Event
   pub completing : Given
   pub before : List Event
-  pub given : FirmwareStatus
+  pub lastStatus : FirmwareStatus
   pub after : List Event
 
 -- The events of the story `t` up to the poll that completes its wrapper.
@@ -47,19 +47,19 @@ toStatus t = toWrapper t ++ t .before
 
 -- All events of the story `t`.
 abbrev pub history : Story → List Event
-history t = toStatus t ++ (status (t .given) ∷ t .after)
+history t = toStatus t ++ (status (t .lastStatus) ∷ t .after)
 
 -- The socket of the story `t` right after the poll that completes its wrapper.
-abbrev pub parsed : Story → Socket
-parsed t = run (toWrapper t) (t .start)
+abbrev pub afterWrapper : Story → Socket
+afterWrapper t = run (toWrapper t) (t .start)
 
 -- The socket of the story `t` right before its last accepted status.
-abbrev pub reached : Story → Socket
-reached t = run (toStatus t) (t .start)
+abbrev pub beforeStatus : Story → Socket
+beforeStatus t = run (toStatus t) (t .start)
 
 -- The socket of the story `t` right after its last accepted status.
-abbrev pub told : Story → Socket
-told t = next (status (t .given)) (reached t)
+abbrev pub afterStatus : Story → Socket
+afterStatus t = next (status (t .lastStatus)) (beforeStatus t)
 
 -- The socket of the story `t` at its end.
 abbrev pub ended : Story → Socket
@@ -84,7 +84,7 @@ P t = t .start .device .fixed .packetsize
 -- "When its status is accepted with R data bytes left": R is how many bytes are left, by the record, right before the last accepted
 -- status of the story `t`.
 abbrev pub R : Story → ℕ
-R t = reached t .device .left .0
+R t = beforeStatus t .device .left .0
 
 -- All bytes that the host got in the story `t`.
 abbrev pub host : Story → List ℕ
@@ -96,7 +96,7 @@ firmware t = putIn (history t) (t .start)
 
 -- How many served polls the story `t` has since its last accepted status.
 abbrev pub servedSince : Story → ℕ
-servedSince t = servedIn (t .after) (told t)
+servedSince t = servedIn (t .after) (afterStatus t)
 
 -- How many data bytes crossed the wire in the story `t` before its last accepted status: the bytes sent, and the bytes taken less the 31
 -- of the wrapper.
@@ -151,9 +151,9 @@ pub record Supposed (t : Story) : Type 0 where
   pub unfinished : length (arrivedIn (t .arrival) (t .start)) < 31
   pub valid : Valid (message t)
   -- "No reset follows", and "its status is accepted": `Earlier` and `Later` say what is supposed of the events before and after it.
-  pub earlier : Throughout Earlier (t .before) (parsed t)
-  pub accepted : accepts (status (t .given)) (reached t) ≡ true
-  pub later : Throughout Later (t .after) (told t)
+  pub earlier : Throughout Earlier (t .before) (afterWrapper t)
+  pub accepted : accepts (status (t .lastStatus)) (beforeStatus t) ≡ true
+  pub later : Throughout Later (t .after) (afterStatus t)
   -- "the firmware puts in at most L bytes": in the whole story.
   pub few : length (firmware t) ≤ L t
 
@@ -164,8 +164,8 @@ unfoldable pub ceiling : ℕ → ℕ → ℕ
 ceiling n p = (n + (p - 1)) / p
 
 -- How many served polls it takes, from the last accepted status of the story `t`, until the last status byte is out.
-abbrev pub number : Story → ℕ
-number t = ceiling (R t) (P t) + ceiling 13 (P t)
+abbrev pub pollsDue : Story → ℕ
+pollsDue t = ceiling (R t) (P t) + ceiling 13 (P t)
 
 -- `bytes`, and after them as many of `filler` as are missing to make `l` bytes.
 unfoldable pub filledWith : ℕ → ℕ → List ℕ → List ℕ
@@ -188,7 +188,7 @@ theData t = dataOf (wrapper t .direction) (L t) (firmware t)
 -- "one status with that tag and the residue of the last accepted status": the status that is promised to the host in the story `t`, with
 -- the status byte that the firmware gave.
 abbrev pub theStatus : Story → List ℕ
-theStatus t = statusBytes (wrapper t .tag) (residueOf (L t) (t .given .figure)) (t .given .status)
+theStatus t = statusBytes (wrapper t .tag) (residueOf (L t) (t .lastStatus .figure)) (t .lastStatus .status)
 
 -- The last status byte of the story `t` is not out: what the host got, and then `rest`, is all that is promised to it, and `rest` has at
 -- least one byte.
@@ -220,8 +220,8 @@ pub record Demand (t : Story) : Type 0 where
   pub left : R t ≡ L t - crossed t
   -- "the last status byte goes out after exactly R/P plus 13/P served polls": with fewer served polls it is not out, whatever else
   -- happened.
-  pub not-before : servedSince t < number t → NotYet t
+  pub not-before : servedSince t < pollsDue t → NotYet t
   -- It goes out in the served poll that makes the number full, which must meet what is supposed of every later event.
-  pub exactly : servedSince t + 1 ≡ number t → (g : Given) → Later (poll g) (ended t) → served (poll g) (ended t) ≡ 1 → Ends t g
+  pub exactly : servedSince t + 1 ≡ pollsDue t → (g : Given) → Later (poll g) (ended t) → served (poll g) (ended t) ≡ 1 → Ends t g
   -- The number can be made full: until then each willing poll is served.
-  pub reachable : servedSince t < number t → (g : Given) → Willing g (ended t) → served (poll g) (ended t) ≡ 1
+  pub reachable : servedSince t < pollsDue t → (g : Given) → Willing g (ended t) → served (poll g) (ended t) ≡ 1

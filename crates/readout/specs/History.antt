@@ -11,9 +11,9 @@ use Rattle.bbb.specs.Poll.{Given, Polling, pollCall}
 use Rattle.calls.specs.declared.FirmwareStatus.{FirmwareStatus}
 use Rattle.calls.specs.declared.Request.{Request}
 use Rattle.calls.specs.Status.{Stating, setStatusCall}
-use Rattle.calls.specs.Data.{Moving, readCall, writeCall, writeAllCall}
+use Rattle.calls.specs.Data.{Moving, readDataCall, writeDataCall, writeDataAllCall}
 use Rattle.calls.specs.Bus.{Handling, resetCall, controlCall}
-use Rattle.calls.specs.Command.{commandCall, stepCall}
+use Rattle.calls.specs.Command.{commandCall, commandStepCall}
 
 -- The recorder's socket: `device` is the device record, and `io` is the IO buffer that is lent with it. `socket d io` is the socket made
 -- of the two.
@@ -82,13 +82,13 @@ ofLook s a = record { socket = s; answer = a; taken = []; sent = []; put = [] }
 unfoldable pub shows : Event → Socket → Shows
 shows (poll g) s = ofPoll g (pollCall (s .device) (s .io) g)
 shows (status f) s = ofStatus (s .io) (setStatusCall (s .device) (s .io) f)
-shows (write src) s = ofWrite src (writeCall (s .device) (s .io) src)
-shows (writeAll src) s = ofWrite src (writeAllCall (s .device) (s .io) src)
-shows (read dst) s = ofRead (s .io) (readCall (s .device) (s .io) dst)
+shows (write src) s = ofWrite src (writeDataCall (s .device) (s .io) src)
+shows (writeAll src) s = ofWrite src (writeDataAllCall (s .device) (s .io) src)
+shows (read dst) s = ofRead (s .io) (readDataCall (s .device) (s .io) dst)
 shows reset s = ofBus (s .io) (resetCall (s .device) (s .io))
 shows (control q) s = ofBus (s .io) (controlCall (s .device) (s .io) q)
 shows command s = ofLook s (commandCall (s .device) (s .io) .answer)
-shows commandStep s = ofLook s (stepCall (s .device) (s .io) .answer)
+shows commandStep s = ofLook s (commandStepCall (s .device) (s .io) .answer)
 
 -- The socket that the event `e` leaves where it happens at the socket `s`.
 abbrev pub next : Event → Socket → Socket

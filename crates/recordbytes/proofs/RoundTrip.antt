@@ -23,7 +23,7 @@ use Rattle.wrapper.specs.declared.counters.Residue.{Residue}
 use Rattle.wrapper.specs.declared.status.CommandStatus.{CommandStatus}
 use Rattle.wrapper.specs.declared.status.CommandStatus.the-variants.{Passed}
 use Rattle.wrapper.specs.Status.{statusNumber}
-use Rattle.wrapper.specs.Wrapper.{directionNumber, directionOfNumber, blank}
+use Rattle.wrapper.specs.Wrapper.{directionNumber, directionOfNumber, noWrapper}
 use Rattle.wrapper.proofs.Numbers.{direction-back, direction-small, status-back, status-small}
 use Rattle.device.specs.declared.Fixed.{Fixed}
 use Rattle.device.specs.declared.Device.{Device}
@@ -32,7 +32,7 @@ use Rattle.device.specs.declared.Status.the-variants.{Absent, Present}
 use Rattle.device.specs.Create.{newDevice}
 use Rattle.recordbytes.specs.Layout as field
 use Rattle.recordbytes.specs.Record.{isKnown, statusBy, statusAt, marksAt, wrapperAt, fixedAt, deviceAt, storeState, storeMarks, storeLeft, storeStatus, storeWrapper, storeDevice, newRecord}
-use Rattle.recordbytes.specs.Inner.Storable.{Storable, RecordOf, Fixable}
+use Rattle.recordbytes.specs.Inner.Storable.{Storable, RecordOf, StorableFixed}
 use Rattle.recordbytes.proofs.Storing.{isApart}
 use Rattle.recordbytes.proofs.Reading.{reads-marks, reads-wrapper, reads-device, reads-status}
 use Rattle.recordbytes.proofs.Stored.{Write, write, storeAll, areWithin, areApart, length-all, bytes-elsewhere, get-elsewhere, get-there, known-is}
@@ -266,7 +266,7 @@ module _ (f : Fixed) where
     direction = rw (new-get field.direction refl) (leb-true 0 2 refl);
   })
 
-  new-fixed : Fixable f → fixedAt (newRecord f) ≡ f
+  new-fixed : StorableFixed f → fixedAt (newRecord f) ≡ f
   unfolding fixedAt isApart
   new-fixed fits =
       let p = ap (get field.packetSize) new-writes ∙ get-there 52 [] field.packetSize (f .packetsize) (write field.maxLun (f .maxlun) ∷ write field.size (f .size) ∷ []) zeros refl refl refl (fits .packetsize) in
@@ -274,8 +274,8 @@ module _ (f : Fixed) where
       let s = ap (get field.size) new-writes ∙ get-there 52 (write field.packetSize (f .packetsize) ∷ write field.maxLun (f .maxlun) ∷ []) field.size (f .size) [] zeros refl refl refl (fits .size) in
       rw (p, m, s)
 
-  new-wrapper : wrapperAt (newRecord f) ≡ blank
-  unfolding isApart get bytesAt counted ordered directionOfNumber blank
+  new-wrapper : wrapperAt (newRecord f) ≡ noWrapper
+  unfolding isApart get bytesAt counted ordered directionOfNumber noWrapper
   new-wrapper =
       sym
       (reads-wrapper (newRecord f)
@@ -287,7 +287,7 @@ module _ (f : Fixed) where
       (sym (new-get field.lun refl))
       (sym (new-get field.blockLength refl)))
 
-  pub new-holds : Fixable f → deviceAt (newRecord f) ≡ newDevice f
+  pub new-holds : StorableFixed f → deviceAt (newRecord f) ≡ newDevice f
   unfolding isApart get bytesAt counted ordered stateOfNumber statusBy
   new-holds fits =
       let q : List ℕ = newRecord f in
@@ -301,5 +301,5 @@ module _ (f : Fixed) where
       (reads-status q (sym (new-get field.present refl)) (sym (new-get field.status refl)) (sym (new-get field.residue refl)) refl)
       (sym (new-get field.left refl)))
 
-  pub of-new : Fixable f → RecordOf (newDevice f) (newRecord f)
+  pub of-new : StorableFixed f → RecordOf (newDevice f) (newRecord f)
   of-new fits = record { long = new-length; fixed = new-fixed fits }

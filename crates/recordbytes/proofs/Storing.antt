@@ -30,8 +30,8 @@ use Rattle.device.specs.declared.Status.{Status}
 use Rattle.device.specs.declared.Status.the-variants.{Absent, Present}
 use Rattle.recordbytes.specs.Layout as field
 use Rattle.recordbytes.specs.Record.{store, storeState, storeMarks, storeLeft, storeStatus, storeWrapper, newRecord}
-use Rattle.recordbytes.specs.Inner.Record.{joined}
-use Rattle.recordbytes.specs.Inner.Storable.{Fixable}
+use Rattle.recordbytes.specs.Inner.Record.{wrapperOfHead}
+use Rattle.recordbytes.specs.Inner.Storable.{StorableFixed}
 
 -- ---- one field
 
@@ -105,12 +105,12 @@ module _ (r : List ℕ) where
   leaves-present s b x e hl hk en hj = rw e (rw (en, hk, hl) at hj)
 
   pub leaves-wrapper : (h : Head) (block : List ℕ) {n : ℕ} {a b c d e l : List ℕ} → n ≡ directionNumber (h .direction) → a ≡ store field.direction n r → b ≡ store field.lun (h .lun) a
-      → c ≡ store field.blockLength (h .blocklength) b → d ≡ store field.tag (h .tag) c → e ≡ store field.declared (h .length) d → l ≡ overlay e 36 block → l ≡ storeWrapper (joined h block) r
+      → c ≡ store field.blockLength (h .blocklength) b → d ≡ store field.tag (h .tag) c → e ≡ store field.declared (h .length) d → l ≡ overlay e 36 block → l ≡ storeWrapper (wrapperOfHead h block) r
   unfolding storeWrapper
   leaves-wrapper h block en ha hb hc hd he hl = rw (he, hd, hc, hb, ha, en) at hl
 
 -- Zeros cover all that was there.
-pub leaves-new : (r : List ℕ) (f : Fixed) → Fixable f → {a b c l : List ℕ} {k : ℕ} → length r ≡ field.recordSize → a ≡ overlay r 0 (replicate 52 0) → b ≡ store field.packetSize (f .packetsize % 256) a
+pub leaves-new : (r : List ℕ) (f : Fixed) → StorableFixed f → {a b c l : List ℕ} {k : ℕ} → length r ≡ field.recordSize → a ≡ overlay r 0 (replicate 52 0) → b ≡ store field.packetSize (f .packetsize % 256) a
     → c ≡ store field.maxLun (f .maxlun) b → k ≡ f .size → l ≡ store field.size k c → l ≡ newRecord f
 unfolding newRecord
 leaves-new r f fits h ha hb hc hk hl = rw (hk, hc, hb, mod-eq-of-lt (fits .packetsize), ha ∙ overlay-whole r (replicate 52 0) (sym h)) at hl

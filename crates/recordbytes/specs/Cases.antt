@@ -25,7 +25,7 @@ numbered state flag status direction =
 unfoldable pub table : List Case
 table =
     -- Each field starts where the one before it ends, without a gap.
-    case (tile 0 field.table 52) true
+    case (tile 0 field.recordTable 52) true
     -- These are the bytes of a new device with P 64, max LUN 3 and a buffer of 512 bytes.
     ∷ case (newRecord (fixed 64 3 512))
     (64 ∷ 3 ∷ 0 ∷ 0 ∷ 0 ∷ 2 ∷ 0 ∷ 0 ∷ 0 ∷ 0 ∷ 0 ∷ 0 ∷ 0 ∷ 0 ∷ 0 ∷ 0 ∷ 0 ∷ 0 ∷ 0 ∷ 0 ∷ 0 ∷ 0 ∷ 0 ∷ 0 ∷ 0 ∷ 0

@@ -73,7 +73,7 @@ abbrev pub recordSize : ℕ
 recordSize = 52
 
 -- The table has all fields, in the order of their places.
-abbrev pub table : List Field
-table =
+abbrev pub recordTable : List Field
+recordTable =
     packetSize ∷ maxLun ∷ state ∷ present ∷ size ∷ readMark ∷ writeMark ∷ left ∷ residue ∷ status
     ∷ direction ∷ lun ∷ blockLength ∷ tag ∷ declared ∷ block ∷ []

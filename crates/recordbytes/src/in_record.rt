@@ -1,7 +1,7 @@
-// These constants say where the fields of a record stand, and how many bytes it has. The table is `table` in specs/Layout.antt.
+// These constants say where the fields of a record stand, and how many bytes it has. The table is `recordTable` in specs/Layout.antt.
 ghost use mathlib.Core.Path.{_≡_};
 ghost use Rattle.fields.specs.Inner.Field.{places};
-ghost use Rattle.recordbytes.specs.Layout.{table};
+ghost use Rattle.recordbytes.specs.Layout.{recordTable};
 
 pub const PACKET_SIZE: usize = 0;
 
@@ -39,7 +39,7 @@ pub const SIZE: usize = 52;
 
 // Nothing calls this function. Its contract ties each constant to its row of the table, in the table's order.
 fn places() -> [usize; 17]
-    ensures { λ r. ⌜ r ≡ places table ⌝ }
+    ensures { λ r. ⌜ r ≡ places recordTable ⌝ }
 {
     [
         PACKET_SIZE,

@@ -19,8 +19,8 @@ ghost use lib.ListN.{length};
 ghost use Rattle.fields.specs.Field.{littleEndian, oneByte};
 ghost use Rattle.recordbytes.specs.Layout as field;
 ghost use Rattle.recordbytes.specs.Record.{store, storeState, storeMarks, storeLeft, storeStatus, storeWrapper, newRecord};
-ghost use Rattle.recordbytes.specs.Inner.Record.{joined};
-ghost use Rattle.recordbytes.specs.Inner.Storable.{Fixable};
+ghost use Rattle.recordbytes.specs.Inner.Record.{wrapperOfHead};
+ghost use Rattle.recordbytes.specs.Inner.Storable.{StorableFixed};
 
 // The byte `n` is stored at the place `at`, if another stands there.
 fn store8(r: &mut [u8], at: usize, n: u8)
@@ -52,7 +52,7 @@ pub fn narrow(n: usize) -> u32
 
 // This is the record of a new device. All bytes are written, whatever they were.
 pub fn new(r: &mut [u8], fixed: Fixed)
-    requires { ⌜ (length (now r) ≡ field.recordSize) × Fixable fixed ⌝ }
+    requires { ⌜ (length (now r) ≡ field.recordSize) × StorableFixed fixed ⌝ }
     ensures { λ _. ⌜ now (r .exit) ≡ newRecord fixed ⌝ }
 {
     let zeros = [0u8; in_record::SIZE];
@@ -105,7 +105,7 @@ pub fn status(r: &mut [u8], status: Status)
 // The wrapper with this `head` and this command `block` is stored.
 pub fn wrapper(r: &mut [u8], head: Head, block: &[u8])
     requires { ⌜ (length (now r) ≡ field.recordSize) × (length (now block) ≡ 16) ⌝ }
-    ensures { λ _. ⌜ now (r .exit) ≡ storeWrapper (joined head (now (block .entry))) (now (r .entry)) ⌝ }
+    ensures { λ _. ⌜ now (r .exit) ≡ storeWrapper (wrapperOfHead head (now (block .entry))) (now (r .entry)) ⌝ }
 {
     let direction = head.direction;
     store8(r, in_record::DIRECTION, direction_number(direction));

@@ -15,7 +15,7 @@ use Rattle.ring.specs.declared.Found.the-variants.{Nothing, Invalid, Val
 use Rattle.ring.specs.declared.Act.{Act}
 use Rattle.ring.specs.declared.Act.the-variants.{Stay, Stall, Next, Enter, Send, Wait, Fill, Take, Drop}
 use Rattle.ring.specs.declared.Row.{Row}
-use Rattle.ring.specs.Inner.Ring.{rowOf, extra, whole, readCbwAct, startAct, noDataAct, statusTransferAct, toHostAct, statusAwaitAct, toHostEndingAct, fromHostAct, fromHostEndingAct, settled}
+use Rattle.ring.specs.Inner.Ring.{rowOf, extra, wholeRing, readCbwAct, startAct, noDataAct, statusTransferAct, toHostAct, statusAwaitAct, toHostEndingAct, fromHostAct, fromHostEndingAct, settled}
 
 -- ---- the table of acts
 
@@ -152,7 +152,7 @@ pub present-two : (present : Bool) {n : ℕ} → 1 + extra present ≤ n → pre
 present-two present h p = let k = rw p at h in omega arith
 
 -- The same is true of a handler that goes on because nothing is unread.
-module _ (empty : Bool) {n : ℕ} (h : whole empty ≤ n) (p : empty ≡ true) where
+module _ (empty : Bool) {n : ℕ} (h : wholeRing empty ≤ n) (p : empty ≡ true) where
   empty-four : 4 ≤ n
   empty-four = rw p at h
 
@@ -176,7 +176,7 @@ present-enough k present h = omega (arith, extra-most present)
 pub await-enough : (present : Bool) → extra present ≤ 4
 await-enough present = omega (arith, extra-most present)
 
-pub status-enough : (empty : Bool) → whole empty ≤ 4
+pub status-enough : (empty : Bool) → wholeRing empty ≤ 4
 status-enough true = omega arith
 status-enough false = omega arith
 

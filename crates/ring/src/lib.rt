@@ -6,7 +6,7 @@ ghost use mathlib.Core.Path.{_≡_};
 ghost use Prim.Native.Nat.{_+_, _≤_};
 ghost use Rattle.ring.specs.declared.Act.the-variants.{Enter};
 ghost use Rattle.ring.specs.States.{stateNumber, stateOfNumber};
-ghost use Rattle.ring.specs.Inner.Ring.{rowOf, extra, whole, readCbwAct, startAct, noDataAct, statusTransferAct, toHostAct, statusAwaitAct, toHostEndingAct, fromHostAct, fromHostEndingAct, settled};
+ghost use Rattle.ring.specs.Inner.Ring.{rowOf, extra, wholeRing, readCbwAct, startAct, noDataAct, statusTransferAct, toHostAct, statusAwaitAct, toHostEndingAct, fromHostAct, fromHostEndingAct, settled};
 
 // These are document 01's states, in its order.
 pub enum State {
@@ -185,7 +185,7 @@ fn status_transfer(
     direction: DataDirection,
     length: u32,
 ) -> Act
-    requires { ⌜ whole empty ≤ n ⌝ }
+    requires { ⌜ wholeRing empty ≤ n ⌝ }
     ensures { λ r. ⌜ r ≡ statusTransferAct empty entered found direction length ⌝ }
 {
     if empty {

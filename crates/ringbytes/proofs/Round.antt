@@ -29,17 +29,17 @@ use Rattle.device.proofs.Wholly.{tested, whole-is, size-most, packet-known, pac
 use Rattle.bbb.specs.declared.Change.{Change}
 use Rattle.bbb.specs.declared.open.Opened.{Opened}
 use Rattle.bbb.specs.Poll.{Given, Polling, Fits, isFitting, refusing, pollingOf, pollCall}
-use Rattle.bbb.specs.Inner.Phases.{openOf, isValidFound, InFront, Opens, opened, openedIo, justRead, wrapperThen, endedOf, goneOn, changedBy}
+use Rattle.bbb.specs.Inner.Phases.{openingOf, isValidFound, InFront, Opens, opened, openedIo, justRead, wrapperThen, endedOf, goneOn, changedBy}
 use Rattle.bbb.proofs.Polling as bbb
 use Rattle.bbb.proofs.Keeping.{call-whole, call-sizes}
 use Rattle.recordbytes.specs.Record.{isKnown, deviceAt, storeState, storeMarks, storeLeft, storeStatus, storeWrapper, storeDevice}
-use Rattle.recordbytes.specs.Inner.Record.{joined}
+use Rattle.recordbytes.specs.Inner.Record.{wrapperOfHead}
 use Rattle.recordbytes.proofs.Stored.{Known, is-known}
 use Rattle.recordbytes.proofs.Parts.{device-kept, polled, moved-to, parsed}
-use Rattle.border.specs.Word.{word, plain, stallsNumber}
+use Rattle.border.specs.Word.{word, answerWord, stallsNumber}
 use Rattle.border.specs.Record.{onDevice}
-use Rattle.ringbytes.specs.Poll.{polls, pollOn}
-use Rattle.ringbytes.specs.Inner.Poll.{Keepable, keptChange}
+use Rattle.ringbytes.specs.Poll.{pollOutcome, pollOn}
+use Rattle.ringbytes.specs.Inner.Poll.{StorableChange, storeChange}
 use Rattle.ringbytes.specs.Poll as spec
 use Rattle.border.proofs.Lending.{known-then, made}
 
@@ -56,18 +56,18 @@ module _ (r : List ℕ) (b : Bool) where
   pub clears-not : b ≡ false → r ≡ cond b (storeStatus Absent r) r
   clears-not q = rw q
 
-pub keeps : (c : Change) (r : List ℕ) {a b d l : List ℕ} → a ≡ cond (c .cleared) (storeStatus Absent r) r → b ≡ storeState (c .state) a → d ≡ storeMarks (c .marks) b → l ≡ storeLeft (c .left) d → l ≡ keptChange c r
-unfolding keptChange
+pub keeps : (c : Change) (r : List ℕ) {a b d l : List ℕ} → a ≡ cond (c .cleared) (storeStatus Absent r) r → b ≡ storeState (c .state) a → d ≡ storeMarks (c .marks) b → l ≡ storeLeft (c .left) d → l ≡ storeChange c r
+unfolding storeChange
 keeps c r ea eb ed el = rw (← ea, ← eb, ← ed, el)
 
 -- A wrapper that is stored in two parts, head and block.
-halves : (m : List ℕ) {h : Head} → h ≡ headOf (wrapperOf m) → joined h (take 16 (drop 15 m)) ≡ wrapperOf m
+halves : (m : List ℕ) {h : Head} → h ≡ headOf (wrapperOf m) → wrapperOfHead h (take 16 (drop 15 m)) ≡ wrapperOf m
 unfolding wrapperOf bytesAt
 halves m e = rw e
 
 module _ (r : List ℕ) (o : Opened) (io : List ℕ) {v : Bool} (ev : v ≡ isValidFound (o .found)) where
   pub keeps-found : InFront o → v ≡ true → {h : Head} {l : List ℕ} → h ≡ headOf (wrapperOf (take (o .marks .read - (o .marks .read - 31)) (drop (o .marks .read - 31) io)))
-      → l ≡ storeWrapper (joined h (take (31 - 15) (drop 15 (take (o .marks .read - (o .marks .read - 31)) (drop (o .marks .read - 31) io))))) r
+      → l ≡ storeWrapper (wrapperOfHead h (take (31 - 15) (drop 15 (take (o .marks .read - (o .marks .read - 31)) (drop (o .marks .read - 31) io))))) r
       → l ≡ cond (isValidFound (o .found)) (storeWrapper (wrapperOf (justRead io (o .marks))) r) r
   keeps-found front q eh el =
       rw (← ev, q) (el ∙ ap (λ (w : Wrapper). storeWrapper w r) (halves _ eh) ∙ ap (λ (m : List ℕ). storeWrapper (wrapperOf m) r) (bbb.in-front io (o .marks) (front (sym ev ∙ q))))
@@ -101,15 +101,15 @@ module _ (r io : List ℕ) (g : Given) (known : isKnown r ≡ true) {n : Numbers
   parts-stored true true x h s m l = refl
 
   module _ (o : Opened) (io′ : List ℕ) (x : Opens (opened n io (g .one) (endpointOf (g .turn .first))) (openedIo n io (g .one) (endpointOf (g .turn .first))) o io′)
-      (c : Change) {io″ packet′ : List ℕ} (y : endedOf c io″ packet′ ≡ goneOn n (openOf o) io′ g) where
+      (c : Change) {io″ packet′ : List ℕ} (y : endedOf c io″ packet′ ≡ goneOn n (openingOf o) io′ g) where
     -- The wrapper that is then in the record, and the device that holds it.
     abbrev w′ : Wrapper
-    w′ = wrapperThen (openOf o) io′ (d .wrapper)
+    w′ = wrapperThen (openingOf o) io′ (d .wrapper)
 
     is-poll : pollingOf (record { device = changedBy d c w′; report = c .report }) io″ packet′ ≡ pollCall d io g
     is-poll = bbb.polls d io g en {v = isWhole n (length io)} refl (whole-is n (length io) w) {w = isFitting (n .fixed .packetsize) (length (g .packet)) (length (g .one)) (length (g .two))} refl fitting c x y refl refl
 
-    pub keepable : Keepable c
+    pub keepable : StorableChange c
     keepable =
         let after : Whole (numbersOf (changedBy d c w′)) (length io″) = subst (λ (p : Polling). Whole (numbersOf (p .device)) (length (p .io))) (sym is-poll) (call-whole d io g whole) in
         let most = size-most (numbersOf (changedBy d c w′)) (length io″) after in
@@ -127,13 +127,13 @@ module _ (r io : List ℕ) (g : Given) (known : isKnown r ≡ true) {n : Numbers
         let whole-one : length (take 31 (drop (o .marks .read - 31) io′)) ≡ 31 = length-part (o .marks .read - 31) 31 io′ (omega (arith, x .front q, x .sound .order, x .sound .within)) in
         length-part 15 16 (take 31 (drop (o .marks .read - 31) io′)) (omega arith)
 
-    pub rounds : {r₁ r₂ : List ℕ} {result : ℕ} → r₁ ≡ cond (isValidFound (o .found)) (storeWrapper (wrapperOf (justRead io′ (o .marks))) r) r → r₂ ≡ keptChange c r₁
+    pub rounds : {r₁ r₂ : List ℕ} {result : ℕ} → r₁ ≡ cond (isValidFound (o .found)) (storeWrapper (wrapperOf (justRead io′ (o .marks))) r) r → r₂ ≡ storeChange c r₁
         → result ≡ word (answerOf (c .report .answer) .number) (answerOf (c .report .answer) .carried) (stallsNumber (c .report .stalls)) (c .report .taken) (c .report .sent)
-        → polls result r₂ io″ packet′ ≡ pollOn r io g
-    unfolding pollOn keptChange wrapperThen
+        → pollOutcome result r₂ io″ packet′ ≡ pollOn r io g
+    unfolding pollOn storeChange wrapperThen
     rounds {r₁} {r₂} e₁ e₂ e =
         let stored : r₂ ≡ storeDevice (changedBy d c w′) r = rw e₁ at e₂ ∙ parts-stored (isValidFound (o .found)) (c .cleared) (wrapperOf (justRead io′ (o .marks))) sixteen (c .state) (c .marks) (c .left) in
-        rw (stored, e) (ap (spec.polled r) is-poll ∙ made r (polls (plain 10) r io (g .packet)) (λ (d : Device). spec.polled r (pollCall d io g)) known)
+        rw (stored, e) (ap (spec.pollOutcomeOf r) is-poll ∙ made r (pollOutcome (answerWord 10) r io (g .packet)) (λ (d : Device). spec.pollOutcomeOf r (pollCall d io g)) known)
 
 -- ---- the call
 
@@ -144,24 +144,24 @@ pub fits-there : (p : ℕ) (packet one two : List ℕ) {u : Bool} → u ≡ isFi
 fits-there p packet one two {u} eu q = bbb.is-fitting p packet one two eu (not-false u q)
 
 module _ (r io : List ℕ) (g : Given) (is : isKnown r ≡ true) where
-  pub on : (o : Polling) → pollCall (deviceAt r) io g ≡ o → spec.polled r o ≡ pollOn r io g
+  pub on : (o : Polling) → pollCall (deviceAt r) io g ≡ o → spec.pollOutcomeOf r o ≡ pollOn r io g
   unfolding pollOn
-  on o e = ap (spec.polled r) (sym e) ∙ made r (polls (plain 10) r io (g .packet)) (λ (d : Device). spec.polled r (pollCall d io g)) is
+  on o e = ap (spec.pollOutcomeOf r) (sym e) ∙ made r (pollOutcome (answerWord 10) r io (g .packet)) (λ (d : Device). spec.pollOutcomeOf r (pollCall d io g)) is
 
-  same : (answer : ℕ) → spec.polled r (refusing (deviceAt r) io g answer) ≡ polls (plain answer) r io (g .packet)
-  same answer = ap (λ (l : List ℕ). polls (plain answer) l io (g .packet)) (device-kept r (is-known r is))
+  same : (answer : ℕ) → spec.pollOutcomeOf r (refusing (deviceAt r) io g answer) ≡ pollOutcome (answerWord answer) r io (g .packet)
+  same answer = ap (λ (l : List ℕ). pollOutcome (answerWord answer) l io (g .packet)) (device-kept r (is-known r is))
 
 module _ (r io : List ℕ) (g : Given) {b : Bool} (eb : b ≡ isKnown r) where
-  pub poll-unknown : not b ≡ true → polls 10 r io (g .packet) ≡ pollOn r io g
+  pub poll-unknown : not b ≡ true → pollOutcome 10 r io (g .packet) ≡ pollOn r io g
   unfolding pollOn onDevice word
   poll-unknown q = rw (← eb, not-true b q)
 
   module _ (qb : not b ≡ false) {n : Numbers} (en : n ≡ numbersOf (deviceAt r)) {v : Bool} (ev : v ≡ isWhole n (length io)) where
-    pub poll-broken : not v ≡ true → polls 10 r io (g .packet) ≡ pollOn r io g
+    pub poll-broken : not v ≡ true → pollOutcome 10 r io (g .packet) ≡ pollOn r io g
     unfolding pollCall unlessBroken word
     poll-broken q = let is = known-then r eb qb in sym (same r io g is 10) ∙ on r io g is (refusing (deviceAt r) io g 10) (rw (← en, ← ev, not-true v q))
 
-    pub poll-refused : not v ≡ false → {u : Bool} → u ≡ isFitting (n .fixed .packetsize) (length (g .packet)) (length (g .one)) (length (g .two)) → not u ≡ true → polls 11 r io (g .packet) ≡ pollOn r io g
+    pub poll-refused : not v ≡ false → {u : Bool} → u ≡ isFitting (n .fixed .packetsize) (length (g .packet)) (length (g .one)) (length (g .two)) → not u ≡ true → pollOutcome 11 r io (g .packet) ≡ pollOn r io g
     unfolding pollCall unlessBroken word
     poll-refused qv {u} eu q =
         let is = known-then r eb qb in

@@ -35,8 +35,8 @@ ghost use Rattle.wrapper.specs.Wrapper.{wrapperOf};
 ghost use Rattle.recordbytes.specs.Layout.{recordSize};
 ghost use Rattle.recordbytes.specs.Record.{isKnown, deviceAt, storeStatus, storeWrapper};
 ghost use Rattle.border.specs.Word as spec;
-ghost use Rattle.ringbytes.specs.Poll.{polls, pollOn};
-ghost use Rattle.ringbytes.specs.Inner.Poll.{Keepable, keptChange};
+ghost use Rattle.ringbytes.specs.Poll.{pollOutcome, pollOn};
+ghost use Rattle.ringbytes.specs.Inner.Poll.{StorableChange, storeChange};
 
 // Stores the wrapper that opening found, if it found a valid one. Its bytes stand in the IO buffer, right before the read mark.
 fn keep_wrapper(record: &mut [u8], o: Opened, io: &[u8])
@@ -65,8 +65,8 @@ fn clear(record: &mut [u8], cleared: bool)
 
 // Stores everything that `c` changed in the record but the wrapper.
 fn keep(record: &mut [u8], c: Change)
-    requires { ⌜ (length (now «record») ≡ recordSize) × Keepable c ⌝ }
-    ensures { λ _. ⌜ now («record» .exit) ≡ keptChange c (now («record» .entry)) ⌝ }
+    requires { ⌜ (length (now «record») ≡ recordSize) × StorableChange c ⌝ }
+    ensures { λ _. ⌜ now («record» .exit) ≡ storeChange c (now («record» .entry)) ⌝ }
 {
     let state = c.state;
     let marks = c.marks;
@@ -104,7 +104,7 @@ fn go_round(
     turn: Turn,
 ) -> u64
     requires { ⌜ (isKnown (now «record») ≡ true) × (n ≡ numbersOf (deviceAt (now «record»))) × Whole n (length (now io)) × Fits (n .fixed .packetsize) (now packet) (now one) (now two) ⌝ }
-    ensures { λ x. ⌜ polls x (now («record» .exit)) (now (io .exit)) (now (packet .exit)) ≡ pollOn (now («record» .entry)) (now (io .entry)) (given (now (packet .entry)) (now (one .entry)) (now (two .entry)) turn) ⌝ }
+    ensures { λ x. ⌜ pollOutcome x (now («record» .exit)) (now (io .exit)) (now (packet .exit)) ≡ pollOn (now («record» .entry)) (now (io .entry)) (given (now (packet .entry)) (now (one .entry)) (now (two .entry)) turn) ⌝ }
 {
     let o = open(n, io, one, turn.first);
     keep_wrapper(record, o, io);
@@ -123,7 +123,7 @@ pub fn poll(
     two: &[u8],
     turn: Turn,
 ) -> u64
-    ensures { λ x. ⌜ polls x (now («record» .exit)) (now (io .exit)) (now (packet .exit)) ≡ pollOn (now («record» .entry)) (now (io .entry)) (given (now (packet .entry)) (now (one .entry)) (now (two .entry)) turn) ⌝ }
+    ensures { λ x. ⌜ pollOutcome x (now («record» .exit)) (now (io .exit)) (now (packet .exit)) ≡ pollOn (now («record» .entry)) (now (io .entry)) (given (now (packet .entry)) (now (one .entry)) (now (two .entry)) turn) ⌝ }
 {
     if !known(record) {
         return 10;

@@ -21,8 +21,8 @@ use Rattle.scsi.specs.declared.PageControl.the-variants.{CurrentValues}
 use Rattle.scsi.specs.declared.ScsiCommand.{ScsiCommand}
 use Rattle.scsi.specs.declared.ScsiCommand.the-variants.{Unknown, Inquiry, TestUnitReady, RequestSense, ModeSense6, ModeSense10, ReadCapacity10, ReadCapacity16, Read, Write, ReadFormatCapacities}
 use Rattle.scsi.specs.declared.table.Row.{Row}
-use Rattle.scsi.specs.Commands.{flag, pageControl}
-use Rattle.scsi.specs.Decoding.{Layout, rows, opcodeOf, lists, counts, isListed, fieldsBy, Answering, decoded, decodeCall}
+use Rattle.scsi.specs.Commands.{flag, pageControlOfNumber}
+use Rattle.scsi.specs.Decoding.{Layout, rows, opcodeOf, lists, opcodeCounts, isListed, fieldsBy, Decoding, decoded, decodeCall}
 use Rattle.scsi.specs.Inner.Decoding.{shortestOf}
 
 -- ---- the table, in the code's form
@@ -120,7 +120,7 @@ rows-known b = refl
 
 pub listed-lists : (e : Bool) (op n : ℕ) {r : Bool} → r ≡ isListed e op n → r ≡ true → lists rows op n ≡ true
 unfolding isListed
-listed-lists e op n er h = and-right (counts e op) (lists rows op n) (sym er ∙ h)
+listed-lists e op n er h = and-right (opcodeCounts e op) (lists rows op n) (sym er ∙ h)
 
 pub listed-known : (e : Bool) (b : List ℕ) → isListed e (opcodeOf b) (length b) ≡ true → isUnknown (decoded e b) ≡ false
 unfolding decoded
@@ -136,26 +136,26 @@ pub set-by : (b : List ℕ) (at bit : ℕ) {x : ℕ} → x ≡ getBits (bits at 
 unfolding flag
 set-by b at bit e = rw e
 
-pub control-by : (b : List ℕ) (f : Bits) {x : ℕ} {p : PageControl} → x ≡ getBits f b → p ≡ pageControl x → p ≡ pageControl (getBits f b)
+pub control-by : (b : List ℕ) (f : Bits) {x : ℕ} {p : PageControl} → x ≡ getBits f b → p ≡ pageControlOfNumber x → p ≡ pageControlOfNumber (getBits f b)
 control-by b f ex ep = rw (← ex) ep
 
-pub control-other : (n : ℕ) → (n ≡ 1 → ⊥) → (n ≡ 2 → ⊥) → (n ≡ 3 → ⊥) → CurrentValues ≡ pageControl n
-unfolding pageControl
+pub control-other : (n : ℕ) → (n ≡ 1 → ⊥) → (n ≡ 2 → ⊥) → (n ≡ 3 → ⊥) → CurrentValues ≡ pageControlOfNumber n
+unfolding pageControlOfNumber
 control-other zero a b c = refl
 control-other (suc zero) a b c = absurd (a refl)
 control-other (suc (suc zero)) a b c = absurd (b refl)
 control-other (suc (suc (suc zero))) a b c = absurd (c refl)
 control-other (suc (suc (suc (suc n)))) a b c = refl
 
-pub counts-told : (e : Bool) (op : ℕ) → e ≡ true → true ≡ counts e op
-unfolding counts
+pub counts-told : (e : Bool) (op : ℕ) → e ≡ true → true ≡ opcodeCounts e op
+unfolding opcodeCounts
 counts-told e op h = rw h
 
-pub listed-by : (e : Bool) (op n : ℕ) {c r : Bool} → c ≡ counts e op → c ≡ true → r ≡ lists rows op n → r ≡ isListed e op n
+pub listed-by : (e : Bool) (op n : ℕ) {c r : Bool} → c ≡ opcodeCounts e op → c ≡ true → r ≡ lists rows op n → r ≡ isListed e op n
 unfolding isListed
 listed-by e op n ec h er = rw (sym ec ∙ h) er
 
-pub listed-not : (e : Bool) (op n : ℕ) {c : Bool} → c ≡ counts e op → c ≡ false → false ≡ isListed e op n
+pub listed-not : (e : Bool) (op n : ℕ) {c : Bool} → c ≡ opcodeCounts e op → c ≡ false → false ≡ isListed e op n
 unfolding isListed
 listed-not e op n ec h = rw (sym ec ∙ h)
 
@@ -167,11 +167,11 @@ pub decodes-not : (e : Bool) (b : List ℕ) {op : ℕ} {r : Bool} → op ≡ opc
 unfolding decoded
 decodes-not e b eo er h = rw (← eo, sym er ∙ h)
 
-pub empty : (e : Bool) (b : List ℕ) → length b ≡ 0 → _≡_ {A = Answering} (record { answer = 13; commands = [] }) (decodeCall e b)
+pub empty : (e : Bool) (b : List ℕ) → length b ≡ 0 → _≡_ {A = Decoding} (record { answer = 13; commands = [] }) (decodeCall e b)
 unfolding decodeCall
 empty e b h = rw (eq-eqb _ _ h)
 
-pub filled : (e : Bool) (b : List ℕ) {c : ScsiCommand} → (length b ≡ 0 → ⊥) → c ≡ decoded e b → _≡_ {A = Answering} (record { answer = 0; commands = c ∷ [] }) (decodeCall e b)
+pub filled : (e : Bool) (b : List ℕ) {c : ScsiCommand} → (length b ≡ 0 → ⊥) → c ≡ decoded e b → _≡_ {A = Decoding} (record { answer = 0; commands = c ∷ [] }) (decodeCall e b)
 unfolding decodeCall
 filled e b n ec = rw (ne-eqb _ _ n, ec)
 

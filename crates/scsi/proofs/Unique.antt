@@ -8,8 +8,8 @@ use Rattle.fields.proofs.Only.{Only}
 use Rattle.scsi.specs.declared.ScsiCommand.{ScsiCommand}
 use Rattle.scsi.specs.declared.Decoded.{Decoded}
 use Rattle.scsi.specs.declared.Decoded.the-variants.{Command, Empty}
-use Rattle.scsi.specs.Decoding.{Answering, answerOf}
-use Rattle.scsi.specs.Numbers.{Shown, shown}
+use Rattle.scsi.specs.Decoding.{Decoding, answerOf}
+use Rattle.scsi.specs.Numbers.{DecodeOutcome, decodeOutcome}
 use Rattle.scsi.proofs.decode_told.Kinds as decode-told-kinds
 use Rattle.scsi.proofs.decode_told.Reads as decode-told
 use Rattle.scsi.proofs.decode.Kinds as decode-kinds
@@ -32,7 +32,7 @@ named-answer (Command c) = refl
 named-answer Empty = refl
 
 answer-once : (x y : Decoded) → answerOf x ≡ answerOf y → x ≡ y
-answer-once x y e = sym (named-answer x) ∙ ap (λ (o : Answering). named (o .commands)) e ∙ named-answer y
+answer-once x y e = sym (named-answer x) ∙ ap (λ (o : Decoding). named (o .commands)) e ∙ named-answer y
 
 pub decode-told-only : Only 1 decode-told-kinds.ps decode-told-kinds.r decode-told.Post (λ κs s. tt {0})
 decode-told-only κs a x y s t p q = (answer-once x y (p ∙ sym q), refl)
@@ -43,8 +43,8 @@ decode-only κs a x y s t p q = (answer-once x y (p ∙ sym q), refl)
 -- ---- the numbers that are lent
 
 -- If the same is shown, the results and the lent numbers are the same. Crates that pass these calls on use this too.
-pub shown-once : {n k : ℕ} {l m : List ℕ} → shown n l ≡ shown k m → (n ≡ k) × (l ≡ m)
-shown-once e = (ap (λ (s : Shown). s .number) e, ap (λ (s : Shown). s .lent) e)
+pub shown-once : {n k : ℕ} {l m : List ℕ} → decodeOutcome n l ≡ decodeOutcome k m → (n ≡ k) × (l ≡ m)
+shown-once e = (ap (λ (s : DecodeOutcome). s .number) e, ap (λ (s : DecodeOutcome). s .lent) e)
 
 pub put-command-only : Only 1 put-command-kinds.ps put-command-kinds.r put-command.Post (λ κs s. now (s .0))
 put-command-only κs a x y s t p q = (refl, p ∙ sym q)

@@ -18,8 +18,8 @@ unfoldable pub flag : ℕ → ℕ → List ℕ → Bool
 flag byte bit b = eqb (getBits (bits byte bit 1) b) 1
 
 -- This is the big-endian number in the `width` bytes of `b` from the byte `first` on.
-abbrev pub number : ℕ → ℕ → List ℕ → ℕ
-number first width b = get (bigEndian first width) b
+abbrev pub numberAt : ℕ → ℕ → List ℕ → ℕ
+numberAt first width b = get (bigEndian first width) b
 
 -- This is the byte of `b` at index `at`.
 abbrev pub byte : ℕ → List ℕ → ℕ
@@ -27,8 +27,8 @@ byte at b = get (oneByte at) b
 
 -- The number `n` stands for this PAGE CONTROL of SPC: 0 current, 1 changeable, 2 default, 3 saved.
 -- A number above 3, which its two bits cannot hold, stands for current.
-unfoldable pub pageControl : ℕ → PageControl
-pageControl n = getD (CurrentValues ∷ ChangeableValues ∷ DefaultValues ∷ SavedValues ∷ []) n CurrentValues
+unfoldable pub pageControlOfNumber : ℕ → PageControl
+pageControlOfNumber n = getD (CurrentValues ∷ ChangeableValues ∷ DefaultValues ∷ SavedValues ∷ []) n CurrentValues
 
 -- ---- SPC
 
@@ -42,16 +42,16 @@ requestSense b = RequestSense (flag 1 0 b) (byte 4 b)
 
 -- INQUIRY: EVPD is byte 1 bit 0, PAGE CODE is byte 2, ALLOCATION LENGTH is bytes 3 to 4.
 abbrev pub inquiry : List ℕ → ScsiCommand
-inquiry b = Inquiry (flag 1 0 b) (byte 2 b) (number 3 2 b)
+inquiry b = Inquiry (flag 1 0 b) (byte 2 b) (numberAt 3 2 b)
 
 -- MODE SENSE (6): DBD is byte 1 bit 3, PC is byte 2 bits 6 to 7, PAGE CODE is byte 2 bits 0 to 5,
 -- SUBPAGE CODE is byte 3, ALLOCATION LENGTH is byte 4.
 abbrev pub modeSense6 : List ℕ → ScsiCommand
-modeSense6 b = ModeSense6 (flag 1 3 b) (pageControl (getBits (bits 2 6 2) b)) (getBits (bits 2 0 6) b) (byte 3 b) (byte 4 b)
+modeSense6 b = ModeSense6 (flag 1 3 b) (pageControlOfNumber (getBits (bits 2 6 2) b)) (getBits (bits 2 0 6) b) (byte 3 b) (byte 4 b)
 
 -- MODE SENSE (10) has the same fields, but ALLOCATION LENGTH is bytes 7 to 8.
 abbrev pub modeSense10 : List ℕ → ScsiCommand
-modeSense10 b = ModeSense10 (flag 1 3 b) (pageControl (getBits (bits 2 6 2) b)) (getBits (bits 2 0 6) b) (byte 3 b) (number 7 2 b)
+modeSense10 b = ModeSense10 (flag 1 3 b) (pageControlOfNumber (getBits (bits 2 6 2) b)) (getBits (bits 2 0 6) b) (byte 3 b) (numberAt 7 2 b)
 
 -- ---- SBC
 
@@ -61,24 +61,24 @@ readCapacity10 b = ReadCapacity10
 
 -- READ CAPACITY (16): ALLOCATION LENGTH is bytes 10 to 13.
 abbrev pub readCapacity16 : List ℕ → ScsiCommand
-readCapacity16 b = ReadCapacity16 (number 10 4 b)
+readCapacity16 b = ReadCapacity16 (numberAt 10 4 b)
 
 -- READ (10) and WRITE (10): LOGICAL BLOCK ADDRESS is bytes 2 to 5, TRANSFER LENGTH is bytes 7 to 8.
 abbrev pub read10 : List ℕ → ScsiCommand
-read10 b = Read (number 2 4 b) (number 7 2 b)
+read10 b = Read (numberAt 2 4 b) (numberAt 7 2 b)
 
 abbrev pub write10 : List ℕ → ScsiCommand
-write10 b = Write (number 2 4 b) (number 7 2 b)
+write10 b = Write (numberAt 2 4 b) (numberAt 7 2 b)
 
 -- READ (16) and WRITE (16): LOGICAL BLOCK ADDRESS is bytes 2 to 9, TRANSFER LENGTH is bytes 10 to 13.
 abbrev pub read16 : List ℕ → ScsiCommand
-read16 b = Read (number 2 8 b) (number 10 4 b)
+read16 b = Read (numberAt 2 8 b) (numberAt 10 4 b)
 
 abbrev pub write16 : List ℕ → ScsiCommand
-write16 b = Write (number 2 8 b) (number 10 4 b)
+write16 b = Write (numberAt 2 8 b) (numberAt 10 4 b)
 
 -- ---- MMC
 
 -- READ FORMAT CAPACITIES: ALLOCATION LENGTH is bytes 7 to 8.
 abbrev pub readFormatCapacities : List ℕ → ScsiCommand
-readFormatCapacities b = ReadFormatCapacities (number 7 2 b)
+readFormatCapacities b = ReadFormatCapacities (numberAt 7 2 b)

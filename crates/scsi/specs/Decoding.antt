@@ -50,13 +50,13 @@ lists (r ∷ rs) opcode n = cond (eqb (r .opcode) opcode) (leb (r .shortest) n) 
 
 -- "88 and 8A count only with extended addressing": this tests whether `opcode` counts, and
 -- `extended` says whether extended addressing is on.
-unfoldable pub counts : Bool → ℕ → Bool
-counts extended opcode = extended || not (eqb opcode 0x88 || eqb opcode 0x8A)
+unfoldable pub opcodeCounts : Bool → ℕ → Bool
+opcodeCounts extended opcode = extended || not (eqb opcode 0x88 || eqb opcode 0x8A)
 
 -- This tests whether a block of `n` bytes with `opcode` is a listed command: the opcode counts, with extended addressing on or off as
 -- `extended` says, and the table lists it with that length.
 unfoldable pub isListed : Bool → ℕ → ℕ → Bool
-isListed extended opcode n = counts extended opcode && lists rows opcode n
+isListed extended opcode n = opcodeCounts extended opcode && lists rows opcode n
 
 -- This is the command that the block `b` stands for by the first row that has `opcode`, and Unknown if no row has
 -- it. `r` is the first row, and `rs` are the others.
@@ -69,25 +69,25 @@ fieldsBy (r ∷ rs) opcode b = cond (eqb (r .opcode) opcode) (r .fields b) (fiel
 unfoldable pub decoded : Bool → List ℕ → ScsiCommand
 decoded extended b = cond (isListed extended (opcodeOf b) (length b)) (fieldsBy rows (opcodeOf b) b) (Unknown (opcodeOf b))
 
--- Decoding has this outcome: `answer` is 01's answer number, and `commands` has the command, or nothing in a refusal. `answering`
+-- Decoding has this outcome: `answer` is 01's answer number, and `commands` has the command, or nothing in a refusal. `decoding`
 -- makes one from the number `n` and the commands `c`.
-pub record Answering : Type 0 where
+pub record Decoding : Type 0 where
   pub answer : ℕ
   pub commands : List ScsiCommand
 
-abbrev answering : ℕ → List ScsiCommand → Answering
-answering n c = record { answer = n; commands = c }
+abbrev decoding : ℕ → List ScsiCommand → Decoding
+decoding n c = record { answer = n; commands = c }
 
 -- This is the outcome that each answer of the code stands for; `c` is the command that it carries.
-abbrev pub answerOf : Decoded → Answering
-answerOf (Command c) = answering 0 (c ∷ [])
-answerOf Empty = answering 13 []
+abbrev pub answerOf : Decoded → Decoding
+answerOf (Command c) = decoding 0 (c ∷ [])
+answerOf Empty = decoding 13 []
 
 -- Decoding the block `b` has this outcome: 13 for "decoding an empty block", otherwise 0 with the command.
 -- `extended` says whether extended addressing is on.
-unfoldable pub decodeCall : Bool → List ℕ → Answering
-decodeCall extended b = cond (eqb (length b) 0) (answering 13 []) (answering 0 (decoded extended b ∷ []))
+unfoldable pub decodeCall : Bool → List ℕ → Decoding
+decodeCall extended b = cond (eqb (length b) 0) (decoding 13 []) (decoding 0 (decoded extended b ∷ []))
 
 -- "the plain entry has it off": it has this outcome for the block `b`, without extended addressing.
-unfoldable pub plainCall : List ℕ → Answering
+unfoldable pub plainCall : List ℕ → Decoding
 plainCall b = decodeCall false b

@@ -10,7 +10,7 @@ ghost use mathlib.Core.Path.{_≡_};
 ghost use mathlib.Core.Bool.{true};
 ghost use Prim.Native.Nat.{_≤_, _<_};
 ghost use lib.ListN.{length};
-ghost use Rattle.scsi.specs.Commands.{flag, pageControl, requestSense, inquiry, modeSense6, modeSense10, readCapacity16, read10, write10, read16, write16, readFormatCapacities};
+ghost use Rattle.scsi.specs.Commands.{flag, pageControlOfNumber, requestSense, inquiry, modeSense6, modeSense10, readCapacity16, read10, write10, read16, write16, readFormatCapacities};
 ghost use Rattle.scsi.specs.Decoding.{rows, lists, fieldsBy};
 ghost use Rattle.scsi.specs.Inner.Decoding.{shortestOf};
 
@@ -24,7 +24,7 @@ fn is_set(b: &[u8], at: usize, bit: u8) -> bool
 
 // Gives the page control that SPC's number `n` stands for.
 fn control_of(n: u8) -> PageControl
-    ensures { λ r. ⌜ r ≡ pageControl n ⌝ }
+    ensures { λ r. ⌜ r ≡ pageControlOfNumber n ⌝ }
 {
     match n {
         1 => PageControl::ChangeableValues,

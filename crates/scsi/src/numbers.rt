@@ -6,7 +6,7 @@ use crate::ScsiCommand;
 ghost use mathlib.Core.Path.{_≡_};
 ghost use lib.ListN.{length};
 ghost use Rattle.scsi.specs.Decoding.{answerOf};
-ghost use Rattle.scsi.specs.Numbers.{flagNumber, controlNumber, six, numbers, shown, reported, shownDecode, shownTold};
+ghost use Rattle.scsi.specs.Numbers.{flagNumber, pageControlNumber, six, commandNumbers, decodeOutcome, decodeOutcomeOf, shownDecode, shownTold};
 
 // Gives 1 for a flag that is set, and 0 for one that is not.
 fn flag_number(flag: bool) -> u64
@@ -17,7 +17,7 @@ fn flag_number(flag: bool) -> u64
 
 // Gives SPC's number of a page control.
 fn control_number(control: PageControl) -> u64
-    ensures { λ r. ⌜ r ≡ controlNumber control ⌝ }
+    ensures { λ r. ⌜ r ≡ pageControlNumber control ⌝ }
 {
     match control {
         PageControl::CurrentValues => 0,
@@ -43,7 +43,7 @@ fn put_six(lent: &mut [u64], kind: u64, a: u64, b: u64, c: u64, d: u64, e: u64)
 // Stores the six numbers of `command` in `lent`. It has an arm for each of the eleven commands, and so is longer than other functions.
 pub fn put_command(lent: &mut [u64], command: ScsiCommand)
     requires { ⌜ length (now lent) ≡ 6 ⌝ }
-    ensures { λ _. ⌜ now (lent .exit) ≡ numbers command ⌝ }
+    ensures { λ _. ⌜ now (lent .exit) ≡ commandNumbers command ⌝ }
 {
     match command {
         ScsiCommand::Unknown { cmd } => put_six(lent, 0, cmd as u64, 0, 0, 0, 0),
@@ -120,7 +120,7 @@ pub fn put_command(lent: &mut [u64], command: ScsiCommand)
 
 // Gives 01's number of the answer `d`, and stores a command in the numbers `lent`. If these are not six the answer is 10.
 fn report(lent: &mut [u64], d: Decoded) -> u32
-    ensures { λ r. ⌜ shown r (now (lent .exit)) ≡ reported (now (lent .entry)) (answerOf d) ⌝ }
+    ensures { λ r. ⌜ decodeOutcome r (now (lent .exit)) ≡ decodeOutcomeOf (now (lent .entry)) (answerOf d) ⌝ }
 {
     if lent.len() != 6 {
         return 10;
@@ -137,7 +137,7 @@ fn report(lent: &mut [u64], d: Decoded) -> u32
 // Decodes `block` with extended addressing off. It answers 0 if the command stands in the six numbers `lent`, 13 if the block is
 // empty, and 10 if `lent` does not have six numbers.
 pub fn decode_into(block: &[u8], lent: &mut [u64]) -> u32
-    ensures { λ r. ⌜ shown r (now (lent .exit)) ≡ shownDecode (now (block .entry)) (now (lent .entry)) ⌝ }
+    ensures { λ r. ⌜ decodeOutcome r (now (lent .exit)) ≡ shownDecode (now (block .entry)) (now (lent .entry)) ⌝ }
 {
     let d = crate::decode(block);
     report(lent, d)
@@ -146,7 +146,7 @@ pub fn decode_into(block: &[u8], lent: &mut [u64]) -> u32
 // Decodes `block` with extended addressing off (`extended` is 0) or on (1). For any other `extended` it answers 10;
 // its other answers are those of `decode_into`.
 pub fn decode_told_into(block: &[u8], extended: u32, lent: &mut [u64]) -> u32
-    ensures { λ r. ⌜ shown r (now (lent .exit)) ≡ shownTold extended (now (block .entry)) (now (lent .entry)) ⌝ }
+    ensures { λ r. ⌜ decodeOutcome r (now (lent .exit)) ≡ shownTold extended (now (block .entry)) (now (lent .entry)) ⌝ }
 {
     if 1 < extended {
         return 10;

@@ -1,6 +1,6 @@
 // Opcodes and shortest block lengths stand in this constant table.
 ghost use mathlib.Core.Path.{_≡_};
-ghost use Rattle.scsi.specs.Decoding.{rows, lists, counts, isListed};
+ghost use Rattle.scsi.specs.Decoding.{rows, lists, opcodeCounts, isListed};
 
 // A row has an opcode, and the length of its shortest block.
 pub(crate) struct Row(u8, u8);
@@ -38,7 +38,7 @@ fn in_table(opcode: u8, n: usize) -> bool
 
 // Tests whether `opcode` counts: 88 and 8A do so only if `extended` is true.
 fn opcode_counts(opcode: u8, extended: bool) -> bool
-    ensures { λ r. ⌜ r ≡ counts extended opcode ⌝ }
+    ensures { λ r. ⌜ r ≡ opcodeCounts extended opcode ⌝ }
 {
     if extended {
         return true;

@@ -51,7 +51,7 @@ use denote.Triple.Table.{entered, cited}
 use denote.Triple.Walked.{says}
 use Rattle.thin.proofs.Data.{Data, Pair, Built, Fits, pair-ty}
 use Rattle.thin.proofs.Frame.{Addresses, values, locals, allots, passes-all, frees-all, at-local, opds-as}
-use Rattle.thin.proofs.Passed.{Passed, Helds, tys, anew, helds, helds-anew, behind, borrowing, operands, borrows, passed-on}
+use Rattle.thin.proofs.Passed.{Passed, Helds, tys, anew, helds, helds-anew, localAfter, borrowing, operands, borrows, passed-on}
 use Rattle.thin.proofs.Passed.{Found, last-env, whole-env, own-found, found}
 use Rattle.thin.proofs.Thin.{core-ended}
 use Rattle.thin.proofs.Law.{Kind, slots, passed, all-values, all-tell, all-held, all-same, Promise, TheCore, Thin}
@@ -96,7 +96,7 @@ module _ (D X : Data) (O : Pair D X) (B : Built D X O) {n : ℕ} (ks : List (Kin
   ps = passed (λ i. i) ks
 
   abbrev own-place : ℕ → ℕ
-  own-place i = suc (suc (behind ps i))
+  own-place i = suc (suc (localAfter ps i))
 
   abbrev d : ℕ
   d = own-place 0
@@ -134,7 +134,7 @@ module _ (D X : Data) (O : Pair D X) (B : Built D X O) {n : ℕ} (ks : List (Kin
   lender k = record {
     lifetimes = n;
     outlives = [];
-    params = suc (behind ps 0);
+    params = suc (localAfter ps 0);
     locals = local τ valueLocal ∷ local (D .ty) valueLocal ∷ locals (tys ps) own-locals;
     body = seq (assign (place d []) (rvOpd (copy (place 1 [])))) (seq (assign (place r []) (addrOf (place d []))) (borrowing ps 2 t (calls-thin k)));
   }

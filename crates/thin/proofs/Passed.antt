@@ -87,9 +87,9 @@ operands (copies τ ∷ ps) p t = copy (place p []) ∷ operands ps (suc p) t
 -- ---- where the locals stand
 
 -- This is the place after as many locals as there are parameters.
-abbrev pub behind : List Passed → ℕ → ℕ
-behind [] n = n
-behind (k ∷ ps) n = suc (behind ps n)
+abbrev pub localAfter : List Passed → ℕ → ℕ
+localAfter [] n = n
+localAfter (k ∷ ps) n = suc (localAfter ps n)
 
 -- This is the j-th place from p on.
 abbrev on : ℕ → ℕ → ℕ
@@ -114,9 +114,9 @@ module _ {M : Type 1} (𝓤 : URA M) (H : Heap 𝓤) where
   skips : (e : Ty × ℕ) (E : Env 𝓤 H) (j p : ℕ) → local-at (e ∷ E) (on j (suc p)) ≡ local-at E (on j p)
   skips e E j p = ap (local-at (e ∷ E)) (on-suc j p)
 
-  skips-all : (ps : List Passed) (bs : Addresses (tys ps)) (E : Env 𝓤 H) (j n : ℕ) → local-at (env 𝓤 H (tys ps) bs E) (on j (behind ps n)) ≡ local-at E (on j n)
+  skips-all : (ps : List Passed) (bs : Addresses (tys ps)) (E : Env 𝓤 H) (j n : ℕ) → local-at (env 𝓤 H (tys ps) bs E) (on j (localAfter ps n)) ≡ local-at E (on j n)
   skips-all [] bs E j n = refl
-  skips-all (k ∷ ps) bs E j n = skips (type k, bs .0) (env 𝓤 H (tys ps) (bs .1) E) j (behind ps n) ∙ skips-all ps (bs .1) E j n
+  skips-all (k ∷ ps) bs E j n = skips (type k, bs .0) (env 𝓤 H (tys ps) (bs .1) E) j (localAfter ps n) ∙ skips-all ps (bs .1) E j n
 
   module _ (E : Env 𝓤 H) where
     abbrev pub Found : (ps : List Passed) → ℕ → ℕ → Addresses (tys ps) → Addresses (anew ps) → Type 0
@@ -148,13 +148,13 @@ module _ {M : Type 1} (𝓤 : URA M) (H : Heap 𝓤) where
     whole-env = e ∷ f ∷ env 𝓤 H (tys ps) bs last-env
 
     -- The i-th of its own locals stands here.
-    pub own-found : (i : ℕ) → spotOf 𝓤 H whole-env (suc (suc (behind ps i))) ≡ spotOf 𝓤 H last-env i
+    pub own-found : (i : ℕ) → spotOf 𝓤 H whole-env (suc (suc (localAfter ps i))) ≡ spotOf 𝓤 H last-env i
     own-found i = ap spot (skips-all ps bs last-env 0 i)
 
-    pub found : Found whole-env ps 2 (suc (suc (behind ps (length gs)))) bs cs
-    found = found-on whole-env ps 2 (suc (suc (behind ps (length gs)))) bs cs last-env []
+    pub found : Found whole-env ps 2 (suc (suc (localAfter ps (length gs)))) bs cs
+    found = found-on whole-env ps 2 (suc (suc (localAfter ps (length gs)))) bs cs last-env []
         (λ j. skips e (f ∷ env 𝓤 H (tys ps) bs last-env) j 1 ∙ skips f (env 𝓤 H (tys ps) bs last-env) j 0 ∙ ap (local-at (env 𝓤 H (tys ps) bs last-env)) (on-zero j))
-        (λ j. skips e (f ∷ env 𝓤 H (tys ps) bs last-env) j (suc (behind ps (length gs))) ∙ skips f (env 𝓤 H (tys ps) bs last-env) j (behind ps (length gs))
+        (λ j. skips e (f ∷ env 𝓤 H (tys ps) bs last-env) j (suc (localAfter ps (length gs))) ∙ skips f (env 𝓤 H (tys ps) bs last-env) j (localAfter ps (length gs))
         ∙ skips-all ps bs last-env j (length gs) ∙ skips-these gs (env 𝓤 H (anew ps) cs []) j)
 
 -- ---- the rules

@@ -43,7 +43,7 @@ use denote.Triple.Walked.{says}
 use denote.Exit.{yes, Last}
 use Rattle.thin.proofs.Data.{Data, Pair, pair-ty}
 use Rattle.thin.proofs.Frame.{Addresses, values, locals, allots, passes-all, frees-all, at-local, opds-as}
-use Rattle.thin.proofs.Passed.{Passed, Helds, tys, anew, helds, helds-anew, behind, borrowing, operands, borrows, passed-on}
+use Rattle.thin.proofs.Passed.{Passed, Helds, tys, anew, helds, helds-anew, localAfter, borrowing, operands, borrows, passed-on}
 use Rattle.thin.proofs.Passed.{Found, last-env, whole-env, own-found, found}
 
 module _ (D X : Data) (O : Pair D X) (n : ℕ) (ss : List (Slot n)) (kept : Kepts ss)
@@ -73,13 +73,13 @@ module _ (D X : Data) (O : Pair D X) (n : ℕ) (ss : List (Slot n)) (kept : Kept
   -- ---- the thin call: local 0 is its result, 1 the reference, then come the parameters, then v and r, then what is reborrowed
   module _ (ps : List Passed) where
     abbrev v : ℕ
-    v = suc (suc (behind ps 0))
+    v = suc (suc (localAfter ps 0))
 
     abbrev r : ℕ
-    r = suc (suc (behind ps 1))
+    r = suc (suc (localAfter ps 1))
 
     abbrev t : ℕ
-    t = suc (suc (behind ps 2))
+    t = suc (suc (localAfter ps 2))
 
     abbrev ref-ty : Ty
     ref-ty = tyRef (named 0) mut (pointee (D .row .written))
@@ -99,7 +99,7 @@ module _ (D X : Data) (O : Pair D X) (n : ℕ) (ss : List (Slot n)) (kept : Kept
     thin k = record {
       lifetimes = suc n;
       outlives = [];
-      params = suc (behind ps 0);
+      params = suc (localAfter ps 0);
       locals = local (X .ty) valueLocal ∷ local ref-ty valueLocal ∷ locals (tys ps) own-locals;
       body = seq (assign (place v []) (rvOpd (copy (place 1 (deref (D .ty) ∷ []))))) (borrowing ps 2 t (calls-core k));
     }

@@ -20,7 +20,7 @@ use Rattle.wrapper.specs.declared.DataDirection.the-variants.{Out, In, N
 use Rattle.wrapper.specs.declared.Wrapper.{Wrapper}
 use Rattle.wrapper.specs.declared.Head.{Head}
 use Rattle.wrapper.specs.declared.Parsed.{Parsed}
-use Rattle.wrapper.specs.Wrapper.{wrapperSignature, dCBWSignature, dCBWTag, dCBWDataTransferLength, direction, bCBWLUN, bCBWCBLength, CBWCB, Valid, isSigned, isBlockLength, isValid, directionOf, wrapperOf, blank, taken, parsed}
+use Rattle.wrapper.specs.Wrapper.{wrapperSignature, dCBWSignature, dCBWTag, dCBWDataTransferLength, directionBit, bCBWLUN, bCBWCBLength, CBWCB, Valid, isSigned, isBlockLength, isValid, directionOfFlags, wrapperOf, noWrapper, parsedAs, parsed}
 use Rattle.wrapper.specs.Inner.Wrapper.{headOf}
 
 -- ---- the tests
@@ -81,7 +81,7 @@ valid-is m v = rw (eq-eqb _ _ (v .whole), eq-eqb _ _ (v .signature), le-leb _ _ 
 pub valid-whole : (m : List ℕ) {r : Bool} → r ≡ isValid m → r ≡ true → length m ≡ 31
 valid-whole m er e = is-valid m (sym er ∙ e) .whole
 
-pub parsed-valid : (m : List ℕ) → Valid m → parsed m ≡ taken (wrapperOf m)
+pub parsed-valid : (m : List ℕ) → Valid m → parsed m ≡ parsedAs (wrapperOf m)
 unfolding parsed
 parsed-valid m v = rw (valid-is m v)
 
@@ -90,7 +90,7 @@ pub parsed-is : (m : List ℕ) → parsed m .valid ≡ isValid m
 unfolding parsed
 parsed-is m = picked (isValid m)
   where
-    picked : (b : Bool) → cond b (taken (wrapperOf m)) (record { valid = false; wrapper = blank }) .valid ≡ b
+    picked : (b : Bool) → cond b (parsedAs (wrapperOf m)) (record { valid = false; wrapper = noWrapper }) .valid ≡ b
     picked true = refl
     picked false = refl
 
@@ -103,8 +103,8 @@ length-block m v = length-part 15 16 m (omega (arith, v .whole))
 
 -- ---- the fields
 
-pub no-data : (l b : ℕ) → l ≡ 0 → NotExpected ≡ directionOf l b
-unfolding directionOf
+pub no-data : (l b : ℕ) → l ≡ 0 → NotExpected ≡ directionOfFlags l b
+unfolding directionOfFlags
 no-data l b e = rw (eq-eqb _ _ e)
 
 -- Only a length of 0 means no data (`no-data-only`). The proof of this tells the directions apart by this test.
@@ -113,18 +113,18 @@ isExpected Out = true
 isExpected In = true
 isExpected NotExpected = false
 
-pub no-data-only : (l b : ℕ) → directionOf l b ≡ NotExpected → l ≡ 0
-unfolding directionOf
+pub no-data-only : (l b : ℕ) → directionOfFlags l b ≡ NotExpected → l ≡ 0
+unfolding directionOfFlags
 no-data-only l b e =
     cases (eqb l 0) (λ h. eqb-true l 0 h)
     (λ h. cases (eqb b 1) (λ k. absurd (clash (ap isExpected (rw (h, k) at e)))) (λ k. absurd (clash (ap isExpected (rw (h, k) at e)))))
 
-pub to-host : (l b : ℕ) → (l ≡ 0 → ⊥) → b ≡ 1 → In ≡ directionOf l b
-unfolding directionOf
+pub to-host : (l b : ℕ) → (l ≡ 0 → ⊥) → b ≡ 1 → In ≡ directionOfFlags l b
+unfolding directionOfFlags
 to-host l b n e = rw (ne-eqb _ _ n, eq-eqb _ _ e)
 
-pub from-host : (l b : ℕ) → (l ≡ 0 → ⊥) → (b ≡ 1 → ⊥) → Out ≡ directionOf l b
-unfolding directionOf
+pub from-host : (l b : ℕ) → (l ≡ 0 → ⊥) → (b ≡ 1 → ⊥) → Out ≡ directionOfFlags l b
+unfolding directionOfFlags
 from-host l b n k = rw (ne-eqb _ _ n, ne-eqb _ _ k)
 
 pub block-listed : (m : List ℕ) → length m ≡ 31 → listed m 15 16 ≡ bytesAt CBWCB m
@@ -132,7 +132,7 @@ unfolding bytesAt
 block-listed m h = sym (part-listed m 15 16 (omega arith))
 
 pub heads : (m : List ℕ) {t l x u b : ℕ} {d : DataDirection}
-    → t ≡ get dCBWTag m → l ≡ get dCBWDataTransferLength m → x ≡ getBits direction m → d ≡ directionOf l x → u ≡ getBits bCBWLUN m → b ≡ get bCBWCBLength m
+    → t ≡ get dCBWTag m → l ≡ get dCBWDataTransferLength m → x ≡ getBits directionBit m → d ≡ directionOfFlags l x → u ≡ getBits bCBWLUN m → b ≡ get bCBWCBLength m
     → _≡_ {A = Head} (record { tag = t; length = l; direction = d; lun = u; blocklength = b }) (headOf (wrapperOf m))
 unfolding wrapperOf
 heads m et el ex ed eu eb = rw (ed, ex, et, el, eu, eb)
@@ -147,7 +147,7 @@ pub parses : (m : List ℕ) {r : Bool} {w : Wrapper} → r ≡ isValid m → r �
 unfolding parsed
 parses m er e ew = rw (sym er ∙ e, ew)
 
-pub parses-not : (m : List ℕ) {r : Bool} {w : Wrapper} → r ≡ isValid m → r ≡ false → w ≡ blank
+pub parses-not : (m : List ℕ) {r : Bool} {w : Wrapper} → r ≡ isValid m → r ≡ false → w ≡ noWrapper
     → _≡_ {A = Parsed} (record { valid = false; wrapper = w }) (parsed m)
 unfolding parsed
 parses-not m er e ew = rw (sym er ∙ e, ew)

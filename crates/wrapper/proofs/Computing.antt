@@ -2,9 +2,9 @@
 use Rattle.fields.proofs.Computing as fields
 use Rattle.wrapper.specs.Counters.{fallen, residueOf}
 use Rattle.wrapper.specs.Status.{statusOfNumber, statusBytes, statusCall}
-use Rattle.wrapper.specs.Wrapper.{isSigned, isBlockLength, isValid, directionOf, directionOfNumber, wrapperOf, blank, parsed}
+use Rattle.wrapper.specs.Wrapper.{isSigned, isBlockLength, isValid, directionOfFlags, directionOfNumber, wrapperOf, noWrapper, parsed}
 use Rattle.wrapper.specs.Verdict.{isMeaningful, verdictOf}
 
 unfoldable pub computing : Unit {0}
-unfolding fallen residueOf statusOfNumber statusBytes statusCall isSigned isBlockLength isValid directionOf directionOfNumber wrapperOf blank parsed isMeaningful verdictOf fields.computing
+unfolding fallen residueOf statusOfNumber statusBytes statusCall isSigned isBlockLength isValid directionOfFlags directionOfNumber wrapperOf noWrapper parsed isMeaningful verdictOf fields.computing
 computing = tt

@@ -18,15 +18,15 @@ use Rattle.wrapper.specs.declared.status.CommandStatus.{CommandStatus}
 use Rattle.wrapper.specs.declared.status.CommandStatus.the-variants.{Passed, Failed, PhaseError}
 use Rattle.wrapper.specs.declared.status.StatusByte.the-variants.{Known, Refused}
 use Rattle.wrapper.specs.declared.counters.Residue.{Residue}
-use Rattle.wrapper.specs.Status.{statusSignature, dCSWSignature, dCSWTag, dCSWDataResidue, bCSWStatus, statusNumber, statusBytes, Taken, answerOf, statusCall}
+use Rattle.wrapper.specs.Status.{statusSignature, dCSWSignature, dCSWTag, dCSWDataResidue, bCSWStatus, statusNumber, statusBytes, StatusAnswering, answerOf, statusCall}
 
 -- ---- the status byte
 
-pub status-known : (b k : ℕ) → k ≤ 2 → b ≡ k → _≡_ {A = Taken} (record { answer = 0; status = k }) (statusCall b)
+pub status-known : (b k : ℕ) → k ≤ 2 → b ≡ k → _≡_ {A = StatusAnswering} (record { answer = 0; status = k }) (statusCall b)
 unfolding statusCall
 status-known b k h e = rw (e, le-leb k 2 h)
 
-pub status-refused : (b : ℕ) → 2 < b → _≡_ {A = Taken} (record { answer = 12; status = 0 }) (statusCall b)
+pub status-refused : (b : ℕ) → 2 < b → _≡_ {A = StatusAnswering} (record { answer = 12; status = 0 }) (statusCall b)
 unfolding statusCall
 status-refused b h = rw (lt-leb b 2 h)
 
@@ -36,15 +36,15 @@ unfolding statusCall
 status-accepted b s e = picked (leb b 2) refl e
   where
     picked : (t : Bool) → leb b 2 ≡ t → answerOf (Known s) ≡ cond t (record { answer = 0; status = b }) (record { answer = 12; status = 0 }) → (b ≤ 2) × (statusNumber s ≡ b)
-    picked true h e = (leb-true b 2 h, ap (λ (x : Taken). x .status) e)
-    picked false h e = let n : _≡_ {A = ℕ} 0 12 = ap (λ (x : Taken). x .answer) e in omega arith
+    picked true h e = (leb-true b 2 h, ap (λ (x : StatusAnswering). x .status) e)
+    picked false h e = let n : _≡_ {A = ℕ} 0 12 = ap (λ (x : StatusAnswering). x .answer) e in omega arith
 
 pub status-above : (b : ℕ) → answerOf Refused ≡ statusCall b → 2 < b
 unfolding statusCall
 status-above b e = picked (leb b 2) refl e
   where
     picked : (t : Bool) → leb b 2 ≡ t → answerOf Refused ≡ cond t (record { answer = 0; status = b }) (record { answer = 12; status = 0 }) → 2 < b
-    picked true h e = let n : _≡_ {A = ℕ} 12 0 = ap (λ (x : Taken). x .answer) e in omega arith
+    picked true h e = let n : _≡_ {A = ℕ} 12 0 = ap (λ (x : StatusAnswering). x .answer) e in omega arith
     picked false h e = leb-false b 2 h
 
 -- ---- the 13 bytes, as each field is written in turn

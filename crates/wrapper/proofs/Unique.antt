@@ -7,7 +7,7 @@ use Rattle.fields.proofs.Only.{Only}
 use Rattle.wrapper.specs.declared.status.CommandStatus.the-variants.{Passed, Failed, PhaseError}
 use Rattle.wrapper.specs.declared.status.StatusByte.{StatusByte}
 use Rattle.wrapper.specs.declared.status.StatusByte.the-variants.{Known, Refused}
-use Rattle.wrapper.specs.Status.{statusOfNumber, Taken, answerOf}
+use Rattle.wrapper.specs.Status.{statusOfNumber, StatusAnswering, answerOf}
 use Rattle.wrapper.proofs.counters.left_after.Kinds as left-after-kinds
 use Rattle.wrapper.proofs.counters.left_after.Reads as left-after
 use Rattle.wrapper.proofs.counters.residue_of.Kinds as residue-of-kinds
@@ -40,7 +40,7 @@ use Rattle.wrapper.proofs.verdict.verdict_number.Kinds as verdict-numbe
 use Rattle.wrapper.proofs.verdict.verdict_number.Reads as verdict-number
 
 -- Document 01's number and the number of the status determine the answer.
-named : Taken → StatusByte
+named : StatusAnswering → StatusByte
 named t = cond (eqb (t .answer) 12) Refused (Known (statusOfNumber (t .status)))
 
 named-answer : (x : StatusByte) → named (answerOf x) ≡ x

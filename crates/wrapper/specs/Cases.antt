@@ -11,7 +11,7 @@ use Rattle.wrapper.specs.declared.status.CommandStatus.the-variants.{Fai
 use Rattle.wrapper.specs.declared.verdict.Verdict.the-variants.{Invalid, ValidOnly, Meaningful}
 use Rattle.wrapper.specs.Counters.{fallen, residueOf}
 use Rattle.wrapper.specs.Status.{statusTable, statusSignature, statusNumber, statusBytes, statusCall}
-use Rattle.wrapper.specs.Wrapper.{wrapperTable, wrapperSignature, directionOf, wrapperOf, blank, parsed}
+use Rattle.wrapper.specs.Wrapper.{wrapperTable, wrapperSignature, directionOfFlags, wrapperOf, noWrapper, parsed}
 use Rattle.wrapper.specs.Verdict.{verdictOf}
 
 -- This is a wrapper with tag 01020304 and L = 512, in which `flags`, `lun` and `blocklength` are the bytes 12, 13 and 14.
@@ -41,8 +41,8 @@ ours =
     -- A whole wrapper to the host; the direction from the host, and without data; a message of 30 bytes, which is invalid.
     ∷ case (parsed (message 0x80 0 10)) (record { valid = true; wrapper = record { tag = 0x01020304; length = 512; direction = In; lun = 0; blocklength = 10; block = 0x28 ∷ replicate 15 0 } })
     ∷ case (wrapperOf (message 0x7F 0 10) .direction) Out
-    ∷ case (directionOf 0 1) NotExpected
-    ∷ case (parsed (0x55 ∷ 0x53 ∷ 0x42 ∷ 0x43 ∷ replicate 26 1)) (record { valid = false; wrapper = blank })
+    ∷ case (directionOfFlags 0 1) NotExpected
+    ∷ case (parsed (0x55 ∷ 0x53 ∷ 0x42 ∷ 0x43 ∷ replicate 26 1)) (record { valid = false; wrapper = noWrapper })
     -- The bytes of a status with tag 01020304 and residue 12, failed.
     ∷ case (statusBytes 0x01020304 (residueOf 512 500) (statusNumber Failed)) (0x55 ∷ 0x53 ∷ 0x42 ∷ 0x53 ∷ 4 ∷ 3 ∷ 2 ∷ 1 ∷ 12 ∷ 0 ∷ 0 ∷ 0 ∷ 1 ∷ [])
     -- Status byte 2 is taken, and 3 is refused.

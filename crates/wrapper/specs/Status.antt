@@ -54,19 +54,19 @@ statusBytes tag residue status =
     (replicate 13 0))))
 
 -- This is the result for a status byte: `answer` is 01's answer number, and `status` is the number of the status that the byte stands for,
--- 0 if it stands for none. `taken` makes one from the answer `n` and the status `s`.
-pub record Taken : Type 0 where
+-- 0 if it stands for none. `statusAnswering` makes one from the answer `n` and the status `s`.
+pub record StatusAnswering : Type 0 where
   pub answer : ℕ
   pub status : ℕ
 
-abbrev taken : ℕ → ℕ → Taken
-taken n s = record { answer = n; status = s }
+abbrev statusAnswering : ℕ → ℕ → StatusAnswering
+statusAnswering n s = record { answer = n; status = s }
 
 -- These are the two numbers for each answer of the code; `s` is the status that it carries.
-abbrev pub answerOf : StatusByte → Taken
-answerOf (Known s) = taken 0 (statusNumber s)
-answerOf Refused = taken 12 0
+abbrev pub answerOf : StatusByte → StatusAnswering
+answerOf (Known s) = statusAnswering 0 (statusNumber s)
+answerOf Refused = statusAnswering 12 0
 
 -- This is the result for the status byte `byte`: 0 to 2 stand for themselves, and for "a status byte above 2" the answer is 12.
-unfoldable pub statusCall : ℕ → Taken
-statusCall byte = cond (leb byte 2) (taken 0 byte) (taken 12 0)
+unfoldable pub statusCall : ℕ → StatusAnswering
+statusCall byte = cond (leb byte 2) (statusAnswering 0 byte) (statusAnswering 12 0)

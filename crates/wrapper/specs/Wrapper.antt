@@ -29,8 +29,8 @@ abbrev pub bmCBWFlags : Field
 bmCBWFlags = oneByte 12
 
 -- Bit 7 of the flags gives the direction.
-abbrev pub direction : Bits
-direction = bits 12 7 1
+abbrev pub directionBit : Bits
+directionBit = bits 12 7 1
 
 -- 01 says of it: "13 LUN, low four bits". BOT reserves the other four.
 abbrev pub bCBWLUN : Bits
@@ -73,8 +73,8 @@ unfoldable pub isValid : List ℕ → Bool
 isValid m = isSigned m && isBlockLength (get bCBWCBLength m)
 
 -- "L = 0 means no data, flags ignored; otherwise flag bit 7 set means to the host." `length` is L, and `toHost` is that bit.
-unfoldable pub directionOf : ℕ → ℕ → DataDirection
-directionOf length toHost = cond (eqb length 0) NotExpected (cond (eqb toHost 1) In Out)
+unfoldable pub directionOfFlags : ℕ → ℕ → DataDirection
+directionOfFlags length toHost = cond (eqb length 0) NotExpected (cond (eqb toHost 1) In Out)
 
 -- These are our numbers for the directions, for callers in C and Rust: 0 is no data, 1 is to the host, 2 is from the host.
 abbrev pub directionNumber : DataDirection → ℕ
@@ -91,20 +91,20 @@ unfoldable pub wrapperOf : List ℕ → Wrapper
 wrapperOf m = record {
   tag = get dCBWTag m;
   length = get dCBWDataTransferLength m;
-  direction = directionOf (get dCBWDataTransferLength m) (getBits direction m);
+  direction = directionOfFlags (get dCBWDataTransferLength m) (getBits directionBit m);
   lun = getBits bCBWLUN m;
   blocklength = get bCBWCBLength m;
   block = bytesAt CBWCB m;
 }
 
 -- This wrapper stands where there is none: all its numbers are 0, and no data is expected.
-unfoldable pub blank : Wrapper
-blank = record { tag = 0; length = 0; direction = NotExpected; lun = 0; blocklength = 0; block = replicate 16 0 }
+unfoldable pub noWrapper : Wrapper
+noWrapper = record { tag = 0; length = 0; direction = NotExpected; lun = 0; blocklength = 0; block = replicate 16 0 }
 
 -- Parsing a valid message with the wrapper `w` gives this.
-abbrev pub taken : Wrapper → Parsed
-taken w = record { valid = true; wrapper = w }
+abbrev pub parsedAs : Wrapper → Parsed
+parsedAs w = record { valid = true; wrapper = w }
 
 -- Parsing any message `m` gives this: if it is valid, all its fields; otherwise only that it is invalid, with the blank wrapper.
 unfoldable pub parsed : List ℕ → Parsed
-parsed m = cond (isValid m) (taken (wrapperOf m)) (record { valid = false; wrapper = blank })
+parsed m = cond (isValid m) (parsedAs (wrapperOf m)) (record { valid = false; wrapper = noWrapper })

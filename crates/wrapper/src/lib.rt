@@ -13,7 +13,7 @@ use fields::le32;
 ghost use mathlib.Core.Path.{_≡_};
 ghost use lib.ListN.{length};
 ghost use Rattle.fields.specs.Field.{bytesAt};
-ghost use Rattle.wrapper.specs.Wrapper.{CBWCB, isSigned, isBlockLength, isValid, directionOf, directionNumber, directionOfNumber, wrapperOf, blank, parsed};
+ghost use Rattle.wrapper.specs.Wrapper.{CBWCB, isSigned, isBlockLength, isValid, directionOfFlags, directionNumber, directionOfNumber, wrapperOf, noWrapper, parsed};
 ghost use Rattle.wrapper.specs.Inner.Wrapper.{headOf};
 
 // The bytes 55 53 42 43 are this little-endian number.
@@ -83,7 +83,7 @@ pub fn valid(message: &[u8]) -> bool
 
 // Gives the direction of the data. If `length` is 0 there is no data, and the flag `tohost` does not count.
 fn direction_of(length: u32, tohost: u8) -> DataDirection
-    ensures { λ r. ⌜ r ≡ directionOf length tohost ⌝ }
+    ensures { λ r. ⌜ r ≡ directionOfFlags length tohost ⌝ }
 {
     if length == 0 {
         return DataDirection::NotExpected;
@@ -177,7 +177,7 @@ pub fn read_wrapper(m: &[u8]) -> Wrapper
 
 // Gives the blank wrapper. A new device has it, and so has the result of parsing an invalid message.
 pub fn no_wrapper() -> Wrapper
-    ensures { λ r. ⌜ r ≡ blank ⌝ }
+    ensures { λ r. ⌜ r ≡ noWrapper ⌝ }
 {
     let direction = DataDirection::NotExpected;
     let block = [0u8; 16];

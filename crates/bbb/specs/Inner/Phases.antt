@@ -40,7 +40,7 @@ use Rattle.bbb.specs.declared.Polled.{Polled}
 use Rattle.bbb.specs.declared.Change.{Change}
 use Rattle.bbb.specs.declared.open.Opened.{Opened}
 use Rattle.bbb.specs.declared.act.Did.{Did}
-use Rattle.bbb.specs.Poll.{Given, leftThen, messageAt, fallsShort, offers, offeredBy, statusPut}
+use Rattle.bbb.specs.Poll.{Given, leftThen, messageAt, fallsShort, offeredPacket, offeredBy, statusPut}
 
 -- ---- check
 
@@ -52,7 +52,7 @@ refusedBy d a = record { device = d; report = record { answer = a; taken = 0; se
 
 -- Opening leaves these: what it `found`, the marks, left, the direction of a valid wrapper, the answer by its number, the number of
 -- packets `taken`, and whether it `cleared` the status because 0 was entered.
-pub record Open : Type 0 where
+pub record Opening : Type 0 where
   pub found : Found
   pub marks : Marks
   pub left : Left
@@ -61,12 +61,12 @@ pub record Open : Type 0 where
   pub taken : ℕ
   pub cleared : Bool
 
-abbrev pub opening : Found → Marks → Left → DataDirection → Answering → ℕ → Bool → Open
+abbrev pub opening : Found → Marks → Left → DataDirection → Answering → ℕ → Bool → Opening
 opening f m l d t taken cleared = record { found = f; marks = m; left = l; direction = d; answer = t; taken = taken; cleared = cleared }
 
 -- This reads what the code returned, `o`, as such a record.
-abbrev pub openOf : Opened → Open
-openOf o = opening (o .found) (o .marks) (o .left) (o .direction) (answerOf (o .answer)) (o .taken) (o .cleared)
+abbrev pub openingOf : Opened → Opening
+openingOf o = opening (o .found) (o .marks) (o .left) (o .direction) (answerOf (o .answer)) (o .taken) (o .cleared)
 
 -- This is true if a valid wrapper was found.
 abbrev pub isValidFound : Found → Bool
@@ -80,24 +80,24 @@ InFront r = isValidFound (r .found) ≡ true → 31 ≤ r .marks .read
 
 -- A function that opens promises this: it returns `r`, which is `x`; the IO buffer is then `io′`, which is `io`; the marks are sound; at
 -- most one packet was taken; and `InFront` is true.
-pub record Opens (x : Open) (io : List ℕ) (r : Opened) (io′ : List ℕ) : Type 0 where
-  pub leaves : openOf r ≡ x
+pub record Opens (x : Opening) (io : List ℕ) (r : Opened) (io′ : List ℕ) : Type 0 where
+  pub leaves : openingOf r ≡ x
   pub bytes : io′ ≡ io
   pub sound : Sound (buffer io′ (r .marks))
   pub once : r .taken ≤ 1
   pub front : InFront r
 
 -- These are the marks `m` after 31 bytes were read.
-abbrev pub behind : Marks → Marks
-behind m = at (m .read + 31) (m .write)
+abbrev pub marksPast31 : Marks → Marks
+marksPast31 m = at (m .read + 31) (m .write)
 
 -- The first 31 unread bytes of the buffer `s` are parsed. With a valid wrapper, its length is left and its direction counts; with an
 -- invalid one, `left` stays. Either way one packet was taken, and `cleared` is passed on.
-unfoldable pub parsedOpen : Buffer → Left → Bool → Open
+unfoldable pub parsedOpen : Buffer → Left → Bool → Opening
 parsedOpen s left cleared =
     cond (isValid (messageAt s))
-    (opening found.Valid (behind (s .marks)) (record { 0 = wrapperOf (messageAt s) .length }) (wrapperOf (messageAt s) .direction) (answer 0) 1 cleared)
-    (opening found.Invalid (behind (s .marks)) left NotExpected (answer 0) 1 cleared)
+    (opening found.Valid (marksPast31 (s .marks)) (record { 0 = wrapperOf (messageAt s) .length }) (wrapperOf (messageAt s) .direction) (answer 0) 1 cleared)
+    (opening found.Invalid (marksPast31 (s .marks)) left NotExpected (answer 0) 1 cleared)
 
 -- One packet was taken if `took` is true, and none otherwise.
 abbrev pub countOf : Bool → ℕ
@@ -105,12 +105,12 @@ countOf took = cond took 1 0
 
 -- A read gave the buffer `t`: `took` says whether it took a packet, and `said` is its answer. If it took one and 31 or more bytes are
 -- unread, they are parsed; otherwise no wrapper was found.
-unfoldable pub openAfter : Buffer → Bool → Answering → Left → Bool → Open
+unfoldable pub openAfter : Buffer → Bool → Answering → Left → Bool → Opening
 openAfter t took said left cleared = cond (took && leb 31 (unread t)) (parsedOpen t left cleared) (opening found.Nothing (t .marks) left NotExpected said (countOf took) cleared)
 
 -- The offer `one` is read into the buffer `s`: `p` is the packet size, and `e` is what the OUT endpoint does. What follows is
 -- `openAfter`.
-unfoldable pub readOpen : ℕ → Endpoint → List ℕ → Left → Bool → Buffer → Open
+unfoldable pub readOpen : ℕ → Endpoint → List ℕ → Left → Bool → Buffer → Opening
 readOpen p e one left cleared s = openAfter (received p e one s) (takesOne p e s) (readAnswer p e s) left cleared
 
 -- These are the bytes of the IO buffer after that read.
@@ -118,8 +118,8 @@ abbrev pub readIo : ℕ → Endpoint → List ℕ → Buffer → List ℕ
 readIo p e one s = received p e one s .bytes
 
 -- A poll reads for a wrapper in state 0, and in state 3 if nothing is unread (`empty`).
-unfoldable pub opens : ℕ → Bool → Bool
-opens state empty = cond (eqb state 0) true (cond (eqb state 3) empty false)
+unfoldable pub opensIn : ℕ → Bool → Bool
+opensIn state empty = cond (eqb state 0) true (cond (eqb state 3) empty false)
 
 -- `left` becomes 0 if 0 is entered.
 abbrev pub leftWhen : Bool → Left → Left
@@ -128,7 +128,7 @@ leftWhen false left = left
 
 -- This says whether a poll that starts with the numbers `n` reads for a wrapper.
 unfoldable pub isOpening : Numbers → Bool
-isOpening n = opens (stateNumber (n .state)) (eqb (n .marks .write - n .marks .read) 0)
+isOpening n = opensIn (stateNumber (n .state)) (eqb (n .marks .write - n .marks .read) 0)
 
 -- This says whether such a poll enters 0 and so clears status and left: it does if it starts in 3.
 abbrev pub clears : Numbers → Bool
@@ -136,7 +136,7 @@ clears n = eqb (stateNumber (n .state)) 3
 
 -- A poll that starts with the numbers `n` opens like this: if `isOpening` says so, the offer `one` is read into the IO buffer `io`;
 -- otherwise nothing happens. `e` is what the OUT endpoint does.
-unfoldable pub opened : Numbers → List ℕ → List ℕ → Endpoint → Open
+unfoldable pub opened : Numbers → List ℕ → List ℕ → Endpoint → Opening
 opened n io one e =
     cond (isOpening n)
     (readOpen (n .fixed .packetsize) e one (leftWhen (clears n) (n .left)) (clears n) (buffer io (n .marks)))
@@ -154,14 +154,14 @@ justRead io m = take 31 (drop (m .read - 31) io)
 
 -- The record then has the wrapper that opening found valid, which stands in `io`, or else keeps the wrapper `w`. `o` is what opening
 -- gave. The wrapper is read before the act, because acting may overwrite its bytes.
-unfoldable pub wrapperThen : Open → List ℕ → Wrapper → Wrapper
+unfoldable pub wrapperThen : Opening → List ℕ → Wrapper → Wrapper
 wrapperThen o io w = cond (isValidFound (o .found)) (wrapperOf (justRead io (o .marks))) w
 
 -- ---- act
 
 -- An act leaves these: the marks, left, the number of bytes `sent`, the answer by its number, the number of packets `taken` in the whole
 -- poll, whether both endpoints are `stalled`, and the bytes of the IO buffer.
-pub record Done : Type 0 where
+pub record Doing : Type 0 where
   pub marks : Marks
   pub left : Left
   pub sent : ℕ
@@ -170,17 +170,17 @@ pub record Done : Type 0 where
   pub stalled : Bool
   pub io : List ℕ
 
-abbrev pub done : Marks → Left → ℕ → Answering → ℕ → Bool → List ℕ → Done
-done m l sent t taken stalled io = record { marks = m; left = l; sent = sent; answer = t; taken = taken; stalled = stalled; io = io }
+abbrev pub doing : Marks → Left → ℕ → Answering → ℕ → Bool → List ℕ → Doing
+doing m l sent t taken stalled io = record { marks = m; left = l; sent = sent; answer = t; taken = taken; stalled = stalled; io = io }
 
 -- This reads what the code returned, `r`, and the IO buffer `io` after it, as such a record.
-abbrev pub doneOf : Did → List ℕ → Done
-doneOf r io = done (r .marks) (r .left) (r .sent) (answerOf (r .answer)) (r .taken) (r .stalled) io
+abbrev pub doingOf : Did → List ℕ → Doing
+doingOf r io = doing (r .marks) (r .left) (r .sent) (answerOf (r .answer)) (r .taken) (r .stalled) io
 
 -- A function that acts promises this: it returns `r` and leaves `io′`, which together are `x`; the packet buffer is then `packet′`, which
 -- is `packet`.
-pub record Acts (x : Done) (packet : List ℕ) (r : Did) (io′ packet′ : List ℕ) : Type 0 where
-  pub leaves : doneOf r io′ ≡ x
+pub record Acts (x : Doing) (packet : List ℕ) (r : Did) (io′ packet′ : List ℕ) : Type 0 where
+  pub leaves : doingOf r io′ ≡ x
   pub into : packet′ ≡ packet
 
 -- Nothing crosses the wire after opening gave `o`. This is what the code returns.
@@ -188,8 +188,8 @@ abbrev pub restDid : Opened → Bool → Did
 restDid o stalled = record { marks = o .marks; left = o .left; sent = 0; answer = o .answer; taken = o .taken; stalled = stalled }
 
 -- This is the same by 01's numbers, with the IO buffer `io`.
-abbrev pub rested : Open → Bool → List ℕ → Done
-rested o stalled io = done (o .marks) (o .left) 0 (o .answer) (o .taken) stalled io
+abbrev pub rested : Opening → Bool → List ℕ → Doing
+rested o stalled io = doing (o .marks) (o .left) 0 (o .answer) (o .taken) stalled io
 
 -- The marks `m` become 0 if the act says that the buffer is emptied first.
 abbrev pub emptiedMarks : Before → Marks → Marks
@@ -205,21 +205,21 @@ oneMore taken more = cond more (taken + 1) taken
 
 -- The offered `packet` is read into the buffer `s`, and left falls by its bytes: `p` is the packet size, and `e` is what the OUT endpoint
 -- does. Opening gave `o`.
-unfoldable pub tookFrom : ℕ → Endpoint → List ℕ → Buffer → Open → Done
-tookFrom p e packet s o = done (received p e packet s .marks) (fallen (o .left) (brought p e packet s)) 0 (readAnswer p e s) (oneMore (o .taken) (takesOne p e s)) false (received p e packet s .bytes)
+unfoldable pub tookFrom : ℕ → Endpoint → List ℕ → Buffer → Opening → Doing
+tookFrom p e packet s o = doing (received p e packet s .marks) (fallen (o .left) (brought p e packet s)) 0 (readAnswer p e s) (oneMore (o .taken) (takesOne p e s)) false (received p e packet s .bytes)
 
 -- A packet of data is read into the IO buffer `io` from the offers `one` and `two`, with the OUT answers of `turn`: `b` says what is done
 -- to the buffer first, and `p` is the packet size. Opening gave `o`.
-unfoldable pub took : Before → ℕ → Open → List ℕ → List ℕ → List ℕ → Turn → Done
-took b p o io one two turn = tookFrom p (offeredBy (o .taken) turn) (offers (o .taken) one two) (buffer io (emptiedMarks b (o .marks))) o
+unfoldable pub took : Before → ℕ → Opening → List ℕ → List ℕ → List ℕ → Turn → Doing
+took b p o io one two turn = tookFrom p (offeredBy (o .taken) turn) (offeredPacket (o .taken) one two) (buffer io (emptiedMarks b (o .marks))) o
 
 -- A packet is refused with 4 only if a whole one is due: `left` is at least `p`, and `n`, the number of unread bytes, is below `p`.
-abbrev pub refuses : Before → ℕ → Left → ℕ → Bool
-refuses before.Nothing p left n = false
-refuses before.Whole p left n = fallsShort p left n
-refuses before.Fill p left n = false
-refuses before.Status p left n = false
-refuses before.Empty p left n = false
+abbrev pub isRefused : Before → ℕ → Left → ℕ → Bool
+isRefused before.Nothing p left n = false
+isRefused before.Whole p left n = fallsShort p left n
+isRefused before.Fill p left n = false
+isRefused before.Status p left n = false
+isRefused before.Empty p left n = false
 
 -- This is the buffer from which the packet is sent: `s` itself, `s` filled up, or `s` with the status of `n` in it.
 abbrev pub readied : Before → ℕ → Buffer → Left → Numbers → Buffer
@@ -231,21 +231,21 @@ readied before.Empty p s left n = s
 
 -- One packet is sent from the buffer `s`: `p` is the packet size, and `e` is what the IN endpoint does. Opening gave `o`. If `counts` is
 -- true, left falls by the bytes sent.
-unfoldable pub sentFrom : Bool → ℕ → Endpoint → Buffer → Open → Done
-sentFrom counts p e s o = done (sentOff p e s .marks) (leftThen counts (o .left) (sentCount p e s)) (sentCount p e s) (sendAnswer e (unread s)) (o .taken) false (sentOff p e s .bytes)
+unfoldable pub sentFrom : Bool → ℕ → Endpoint → Buffer → Opening → Doing
+sentFrom counts p e s o = doing (sentOff p e s .marks) (leftThen counts (o .left) (sentCount p e s)) (sentCount p e s) (sendAnswer e (unread s)) (o .taken) false (sentOff p e s .bytes)
 
--- This is the same with a check before it, in a poll that starts with the numbers `n`: if `refuses` is true, nothing is sent, and the
+-- This is the same with a check before it, in a poll that starts with the numbers `n`: if `isRefused` is true, nothing is sent, and the
 -- answer is 4. Otherwise the buffer is readied as `b` says, and a packet is sent. Opening gave `o` and the IO buffer `io`.
-unfoldable pub sentBy : Before → Bool → Numbers → Open → List ℕ → Endpoint → Done
+unfoldable pub sentBy : Before → Bool → Numbers → Opening → List ℕ → Endpoint → Doing
 sentBy b counts n o io e =
-    cond (refuses b (n .fixed .packetsize) (o .left) (o .marks .write - o .marks .read))
-    (done (o .marks) (o .left) 0 (answer 4) (o .taken) false io)
+    cond (isRefused b (n .fixed .packetsize) (o .left) (o .marks .write - o .marks .read))
+    (doing (o .marks) (o .left) 0 (answer 4) (o .taken) false io)
     (sentFrom counts (n .fixed .packetsize) e (readied b (n .fixed .packetsize) (buffer io (o .marks)) (o .left) n) o)
 
 -- This is the packet buffer after that; it was `packet`.
-unfoldable pub sentPacket : Before → Numbers → Open → List ℕ → Endpoint → List ℕ → List ℕ
+unfoldable pub sentPacket : Before → Numbers → Opening → List ℕ → Endpoint → List ℕ → List ℕ
 sentPacket b n o io e packet =
-    cond (refuses b (n .fixed .packetsize) (o .left) (o .marks .write - o .marks .read))
+    cond (isRefused b (n .fixed .packetsize) (o .left) (o .marks .write - o .marks .read))
     packet
     (sentInto (n .fixed .packetsize) e (readied b (n .fixed .packetsize) (buffer io (o .marks)) (o .left) n) packet)
 
@@ -258,7 +258,7 @@ byKind kind.Read a b c d = c
 byKind kind.Send a b c d = d
 
 -- An act does what its `row` says, in a poll that starts with the numbers `n` and was given `g`. Opening gave `o` and the IO buffer `io`.
-unfoldable pub acted : Row → Numbers → Open → List ℕ → Given → Done
+unfoldable pub acted : Row → Numbers → Opening → List ℕ → Given → Doing
 acted row n o io g =
     byKind (row .1)
     (rested o false io)
@@ -267,7 +267,7 @@ acted row n o io g =
     (sentBy (row .2) (row .3) n o io (endpointOf (g .turn .write)))
 
 -- This is the packet buffer after that act.
-unfoldable pub actedPacket : Row → Numbers → Open → List ℕ → Given → List ℕ
+unfoldable pub actedPacket : Row → Numbers → Opening → List ℕ → Given → List ℕ
 actedPacket row n o io g = byKind (row .1) (g .packet) (g .packet) (g .packet) (sentPacket (row .2) n o io (endpointOf (g .turn .write)) (g .packet))
 
 -- ---- what a poll changes
@@ -291,15 +291,15 @@ abbrev pub endedOf : Change → List ℕ → List ℕ → Ended
 endedOf c io packet = record { state = c .state; marks = c .marks; left = c .left; cleared = c .cleared; answer = answerOf (c .report .answer); taken = c .report .taken; sent = c .report .sent; stalls = c .report .stalls; io = io; packet = packet }
 
 -- The poll ends in the state `s`, after opening gave `o` and the act gave `x`, with the packet buffer `packet`.
-abbrev pub endedBy : State → Open → Done → List ℕ → Ended
+abbrev pub endedBy : State → Opening → Doing → List ℕ → Ended
 endedBy s o x packet = record { state = s; marks = x .marks; left = x .left; cleared = o .cleared; answer = x .answer; taken = x .taken; sent = x .sent; stalls = stallsOf (o .cleared) (x .stalled); io = x .io; packet = packet }
 
 -- The poll ends with the act of this `row`.
-unfoldable pub endsWith : Row → Numbers → Open → List ℕ → Given → Ended
+unfoldable pub endsWith : Row → Numbers → Opening → List ℕ → Given → Ended
 endsWith row n o io g = endedBy (row .0) o (acted row n o io g) (actedPacket row n o io g)
 
 -- After opening gave `o`, the handlers decide on the act, and the poll ends with it.
-unfoldable pub goneOn : Numbers → Open → List ℕ → Given → Ended
+unfoldable pub goneOn : Numbers → Opening → List ℕ → Given → Ended
 goneOn n o io g = endsWith (rowOf (settled (n .state) (n .left .0) (isPresent (n .status)) (eqb (n .marks .write - n .marks .read) 0) (o .found) (o .direction) (o .left .0))) n o io g
 
 -- This is the record `d` with the changes `c` and the wrapper `w`.

@@ -5,17 +5,17 @@ use mathlib.Core.List.{List}
 use lib.ListN.{length}
 use Rattle.fields.specs.Overlay.{overlay}
 use Rattle.benchline.specs.declared.Line.{Line}
-use Rattle.benchline.specs.Line.{number}
+use Rattle.benchline.specs.Line.{numberText}
 
 -- How long the numbers of the line `l` are, with their spaces.
 abbrev pub numbersLength : Line → ℕ
 numbersLength l =
-    length (number (l .index))
-    + length (number (l .answer))
-    + length (number (l .state))
-    + length (number (l .left))
-    + length (number (l .unread))
-    + length (number (l .count))
+    length (numberText (l .index))
+    + length (numberText (l .answer))
+    + length (numberText (l .state))
+    + length (numberText (l .left))
+    + length (numberText (l .unread))
+    + length (numberText (l .count))
 
 -- Enough room for any line with `n` bytes: six numbers of 20 digits, a space after each, two letters for the stalls, a space, a dash or
 -- two digits for each byte, and the end of the line.

@@ -7,7 +7,7 @@ use Rattle.calls.specs.declared.Moved as value
 
 -- The numbers of `m`, which a read or a write by value returned, have 32 bits, as their places in the record and in the result have: both
 -- marks, and the count.
-pub record Storable (m : value.Moved) : Type 0 where
+pub record StorableMove (m : value.Moved) : Type 0 where
   pub read : m .device .marks .read < 2 ^ 32
   pub write : m .device .marks .write < 2 ^ 32
   pub count : m .report .count < 2 ^ 32

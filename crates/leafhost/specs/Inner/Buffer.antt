@@ -5,10 +5,10 @@ use Rattle.buffer.specs.declared.Answer.{Answer}
 use Rattle.buffer.specs.declared.Answer.the-variants.{Done, Overflow, Broken}
 
 -- This is 01's number of each answer.
-abbrev pub numberOf : Answer → ℕ
-numberOf (Done n t) = 0
-numberOf (Overflow t) = 1
-numberOf Broken = 10
+abbrev pub answerNumber : Answer → ℕ
+answerNumber (Done n t) = 0
+answerNumber (Overflow t) = 1
+answerNumber Broken = 10
 
 -- These are the caller's three numbers after each answer: the read mark and the write mark of `t`, and the count `n`, which is 0 for an
 -- overflow. `was` are the numbers before the call, which stay if the marks are broken.

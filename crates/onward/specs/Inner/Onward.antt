@@ -8,12 +8,12 @@ use lib.Dec.{eqb}
 use lib.ListN.{length}
 use Rattle.fields.specs.Field.{get}
 use Rattle.fields.specs.Overlay.{overlay}
-use Rattle.buffer.specs.Buffer.{Buffer, buffer, at, ready, given, readOff}
+use Rattle.buffer.specs.Buffer.{Buffer, buffer, at, ready, readyBytes, readOff}
 use Rattle.ring.specs.declared.State.the-variants.{DataTransferToHostEnding}
 use Rattle.ring.specs.States.{stateNumber}
 use Rattle.wrapper.specs.Counters.{fallen}
 use Rattle.device.specs.declared.Numbers.{Numbers}
-use Rattle.device.specs.Create.{creation}
+use Rattle.device.specs.Create.{creationChecks}
 use Rattle.device.specs.Device.{isPresent, numbersOf}
 use Rattle.device.specs.Broken.{Whole}
 use Rattle.bbb.specs.Poll.{isFitting}
@@ -27,7 +27,7 @@ use Rattle.border.specs.Word.{word}
 -- changes. `len` is the length of the lent IO buffer.
 pub record Steady (r : List ℕ) (len : ℕ) : Type 0 where
   pub lent : get field.size r ≡ len
-  pub created : creation (fixedAt r) ≡ 0
+  pub created : creationChecks (fixedAt r) ≡ 0
   pub status : get field.status r ≤ 2
   pub direction : get field.direction r ≤ 2
   pub lun : get field.lun r ≤ 15
@@ -77,15 +77,15 @@ pub record MayTake (r : List ℕ) (len packet one two first : ℕ) : Type 0 wher
 -- ---- what they leave
 
 -- The IO buffer `io`, with the marks of the numbers `n`.
-abbrev pub bufferOf : Numbers → List ℕ → Buffer
-bufferOf n io = buffer io (n .marks)
+abbrev pub bufferOfNumbers : Numbers → List ℕ → Buffer
+bufferOfNumbers n io = buffer io (n .marks)
 
 -- What a poll that sends a packet leaves. `n` are the numbers in the record `r`, `io` is the IO buffer, `p` is the packet buffer. The
 -- poll returns `result`, and leaves the record `r′` and the packet buffer `p′`.
 pub record SendsOn (n : Numbers) (io r p : List ℕ) (result : ℕ) (r′ p′ : List ℕ) : Type 0 where
-  pub answer : result ≡ word 0 0 0 0 (ready (n .fixed .packetsize) (bufferOf n io))
-  pub bytes : r′ ≡ storeLeft (fallen (n .left) (ready (n .fixed .packetsize) (bufferOf n io))) (storeMarks (readOff (n .fixed .packetsize) (bufferOf n io) .marks) (storeState DataTransferToHostEnding r))
-  pub packet : p′ ≡ overlay p 0 (given (n .fixed .packetsize) (bufferOf n io))
+  pub answer : result ≡ word 0 0 0 0 (ready (n .fixed .packetsize) (bufferOfNumbers n io))
+  pub bytes : r′ ≡ storeLeft (fallen (n .left) (ready (n .fixed .packetsize) (bufferOfNumbers n io))) (storeMarks (readOff (n .fixed .packetsize) (bufferOfNumbers n io) .marks) (storeState DataTransferToHostEnding r))
+  pub packet : p′ ≡ overlay p 0 (readyBytes (n .fixed .packetsize) (bufferOfNumbers n io))
 
 -- What a poll that takes the packet `one` leaves. `n` are the numbers in the record `r`, `b` is the IO buffer. The poll returns `result`,
 -- and leaves the record `r′` and the IO buffer `b′`.

@@ -29,7 +29,7 @@ pub record RecordOf (d : Device) (r : List ℕ) : Type 0 where
   pub fixed : fixedAt r ≡ d .fixed
 
 -- What creation fixes, `f`, fits into its fields.
-pub record Fixable (f : Fixed) : Type 0 where
+pub record StorableFixed (f : Fixed) : Type 0 where
   pub packetsize : f .packetsize < 256
   pub maxlun : f .maxlun < 256
   pub size : f .size < 2 ^ 32

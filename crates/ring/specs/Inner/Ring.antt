@@ -82,9 +82,9 @@ extra true = 2
 extra false = 0
 
 -- If nothing is unread, the handler of 3 needs four more calls: 0, the start, 2 and 5.
-abbrev pub whole : Bool → ℕ
-whole true = 4
-whole false = 0
+abbrev pub wholeRing : Bool → ℕ
+wholeRing true = 4
+wholeRing false = 0
 
 -- A row has the state `s` in which an act is done, what crosses the wire (`k`), what is done to the buffer first (`b`), and whether left
 -- falls (`counts`).

@@ -8,12 +8,12 @@ use Rattle.recordbytes.specs.Record.{storeState, storeMarks, storeLeft, storeSt
 
 -- The numbers of the change `c` have 32 bits, as their places in the record and in the result have: both marks, and the count of bytes
 -- sent.
-pub record Keepable (c : Change) : Type 0 where
+pub record StorableChange (c : Change) : Type 0 where
   pub read : c .marks .read < 2 ^ 32
   pub write : c .marks .write < 2 ^ 32
   pub sent : c .report .sent < 2 ^ 32
 
 -- The record's bytes `r` with the change `c` stored in them: the status where it was cleared, the state, the marks and left. The wrapper
 -- is not stored here.
-unfoldable pub keptChange : Change → List ℕ → List ℕ
-keptChange c r = storeLeft (c .left) (storeMarks (c .marks) (storeState (c .state) (cond (c .cleared) (storeStatus Absent r) r)))
+unfoldable pub storeChange : Change → List ℕ → List ℕ
+storeChange c r = storeLeft (c .left) (storeMarks (c .marks) (storeState (c .state) (cond (c .cleared) (storeStatus Absent r) r)))
