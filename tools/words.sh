@@ -4,11 +4,8 @@
 # That starts no other program, for the gate calls some of the scripts hundreds of times.
 set -euo pipefail
 
-# The repository.
-cd "${BASH_SOURCE[0]%/*}/.."
-root=$PWD
-cd "$OLDPWD"
-# The folder beside it: the Rust's text, document 01, a laptop's recordings.
+# The repository, and the folder beside it with the Rust's text, document 01 and a laptop's recordings.
+cd "${BASH_SOURCE[0]%/*}/.." && root=$PWD && cd "$OLDPWD"
 shared=$root/../shared
 rustc=${RUSTC:-rustc}
 
@@ -17,8 +14,7 @@ rustc=${RUSTC:-rustc}
 # the_kit: sets kit to the folder of the Rattle kit, and own to what it has for this processor.
 the_kit() {
     kit=$(rt doc)
-    kit=${kit%/*/*}
-    own=$kit/on/$(uname -m)
+    kit=${kit%/*/*} own=$kit/on/$(uname -m)
 }
 
 # scratch: sets dir to a new folder in TMPDIR, which is gone when the script ends, also when a signal ends it.
