@@ -3,17 +3,10 @@
 # of the code CRATE::TYPE or CRATE::MODULE::TYPE, a function likewise.
 #
 # What a text rests on is read off its words: a word is the file's own definition, or an imported one, or a name of an imported module.
-# Names that a definition gives to its parameters are no such words, and nor are fields, which stand behind a point.
-
-function joined(path, from, to,    parts, n, i, s) { # the parts FROM to TO (from the end) of PATH, with points
-    n = split(path, parts, "/")
-    s = parts[from]
-    for (i = from + 1; i <= n - to; i++) s = s "." parts[i]
-    return s
-}
+# Names that a definition gives to its parameters are no such words, and nor are fields, which come after a point.
 
 # 'Rattle.buffer.specs.Buffer' and 'Rattle.buffer.specs.Buffer' are buffer.specs.Buffer; types of the code are declared in it.
-function module_of(path,    crate, rest, at, parts, n, i, s) {
+function module_of(path,    crate, rest, at) {
     sub(/^Rattle·/, "", path)
     at = index(path, ".")
     crate = substr(path, 1, at - 1); rest = substr(path, at + 1)
@@ -28,7 +21,7 @@ function module_of(path,    crate, rest, at, parts, n, i, s) {
 # An imported name: NAME of the module, or the type itself where the module is one.
 function member(module, name) { return index(module, "::") ? module : module "." name }
 
-function import_line(line,    at, list, names, n, i, module, as, before) {
+function import_line(line,    at, list, names, n, i, module, as) {
     sub(/;$/, "", line)
     if ((at = index(line, ".{")) > 0) {
         module = module_of(substr(line, 1, at - 1))
@@ -52,7 +45,7 @@ function bring(name, target,    parts, n, i) {
 
 function starts(name, keep_all) {
     now = name
-    text[now] = ""; whole[now] = keep_all; place[now] = shown_file; first_line[now] = FNR; last_line[now] = FNR
+    text[now] = ""; whole[now] = keep_all; place[now] = FILENAME; first_line[now] = FNR; last_line[now] = FNR
     order[++count] = now; home[now] = here
     comment[now] = pending; pending = 0
 }
@@ -64,16 +57,12 @@ function unbound(line) {
 }
 
 FNR == 1 {
-    now = ""; pending = 0; in_contract = 0; in_type = 0
-    shown_file = FILENAME
+    now = ""; own = ""; pending = 0; in_contract = 0; in_type = 0
     here = FILENAME; sub(/\.(antt|rt)$/, "", here); sub(/^crates\//, "", here)
     language = FILENAME ~ /\.antt$/ ? "antt" : FILENAME ~ /\.rt$/ ? "rt" : "entries"
     split(here, part, "/"); crate = part[1]
     if (language == "antt") gsub(/\//, ".", here)
-    if (language == "rt") {
-        sub(/\/src/, "", here); sub(/\/(lib|main)$/, "", here); gsub(/\//, "::", here)
-        current_file[here] = FILENAME
-    }
+    if (language == "rt") { sub(/\/src/, "", here); sub(/\/(lib|main)$/, "", here); gsub(/\//, "::", here) }
 }
 
 # ---- definitions and theorems
@@ -91,8 +80,8 @@ language == "antt" {
         name = head; sub(/[ (].*/, "", name)
         if (name == own) { # a clause of the definition that stands above
             parameters = " "
-            if ((at = index(line, " = ")) > 0) {
-                clause = substr(line, 1, at - 1); sub(/^[^ ]+/, "", clause); gsub(/[(){}]/, " ", clause)
+            if (match(line, / =( |$)/)) {
+                clause = substr(line, 1, RSTART - 1); sub(/^[^ ]+/, "", clause); gsub(/[(){}]/, " ", clause)
                 m = split(clause, words, " ")
                 for (i = 1; i <= m; i++) if (words[i] ~ /^[a-z]/) parameters = parameters words[i] " "
             }
@@ -108,7 +97,7 @@ language == "antt" {
     last_line[now] = FNR
     if (line ~ /^unfolding /) { in_statement = 0; next } # what a proof may look into is no part of what it proves
     # Of a theorem only the statement counts, not the proof.
-    if (in_statement || whole[now]) { n_of[now]++; text[now] = text[now] "\n" parameters "\t" (in_statement ? unbound(line) : line) }
+    if (in_statement || whole[now]) text[now] = text[now] "\n" parameters "\t" (in_statement ? unbound(line) : line)
     next
 }
 
