@@ -27,7 +27,7 @@ use Rattle.readout.specs.History.{Socket, Event, poll, status, shows, ne
 -- ---- a command's story
 
 -- The story of one command, from the socket `start` on. In `arrival` its wrapper arrives, all but the last packet, with any events
--- between the packets. The poll that is given `completing` takes the last packet. The events `before` follow. Then `given` is the last
+-- between the packets. The poll that is given `completing` takes the last packet. The events `before` follow. Then `lastStatus` is the last
 -- status that is accepted for this command. The events `after` follow it.
 pub record Story : Type 0 where
   pub start : Socket
