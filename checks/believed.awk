@@ -23,6 +23,7 @@ function member(module, name) { return index(module, "::") ? module : module "."
 
 function import_line(line,    at, list, names, n, i, module, as) {
     sub(/;$/, "", line)
+    if (here ~ /\.specs\./ && here !~ /\.specs\.Inner\./ && line ~ /\.specs\.Inner\./) fault(here " imports an inner module")
     if ((at = index(line, ".{")) > 0) {
         module = module_of(substr(line, 1, at - 1))
         list = substr(line, at + 2); sub(/}$/, "", list)
