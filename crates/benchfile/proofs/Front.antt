@@ -14,7 +14,7 @@ use Rattle.fields.specs.Field.{get}
 use Rattle.fields.proofs.Bools.{and-left, and-right, not-true, not-false}
 use Rattle.fields.proofs.Field.{get-append, get-front}
 use Rattle.fields.proofs.Seq.{drop-front}
-use Rattle.benchfile.specs.declared.event.Head.{Head}
+use Rattle.benchfile.specs.declared.event.EventHead.{EventHead}
 use Rattle.benchfile.specs.Event.{kindByte, lengthField, bodyOf, isLong, suits, mayStand, isEvent, frontOf, noEvent, eventHeadOf, eventAt}
 
 -- ---- an event
@@ -44,7 +44,7 @@ module _ (first : Bool) (e : List ℕ) (h : isEvent first e ≡ true) where
 -- ---- the front of any bytes
 
 module _ (first : Bool) (xs : List ℕ) where
-  no-event : isEvent first (frontOf xs) ≡ false → {r : Head} → r ≡ noEvent → r ≡ eventHeadOf first xs
+  no-event : isEvent first (frontOf xs) ≡ false → {r : EventHead} → r ≡ noEvent → r ≡ eventHeadOf first xs
   unfolding eventHeadOf
   no-event e hr = rw (e, hr)
 
@@ -52,13 +52,13 @@ module _ (first : Bool) (xs : List ℕ) where
   unfolding frontOf
   within = rw (length-take (3 + get lengthField xs) xs) (min-le-right (3 + get lengthField xs) (length xs))
 
-  pub front-short : length xs < 3 → {r : Head} → r ≡ noEvent → r ≡ eventHeadOf first xs
+  pub front-short : length xs < 3 → {r : EventHead} → r ≡ noEvent → r ≡ eventHeadOf first xs
   unfolding isEvent
   front-short h =
       no-event (rw (ne-eqb (length (frontOf xs)) (3 + get lengthField (frontOf xs)) (λ q. absurd (omega (arith, q, within)))))
 
   module _ (h : 3 ≤ length xs) {n : ℕ} (hn : n ≡ get lengthField xs) where
-    pub front-cut : length xs - 3 < n → {r : Head} → r ≡ noEvent → r ≡ eventHeadOf first xs
+    pub front-cut : length xs - 3 < n → {r : EventHead} → r ≡ noEvent → r ≡ eventHeadOf first xs
     unfolding isEvent frontOf
     front-cut k =
         no-event (rw (take-all (3 + get lengthField xs) xs (omega (arith, hn)), ne-eqb (length xs) (3 + get lengthField xs) (λ q. absurd (omega (arith, q, hn)))))
@@ -72,11 +72,11 @@ module _ (first : Bool) (xs : List ℕ) where
           rw (← hn, length-take-le (3 + n) xs whole, get-front lengthField (3 + n) xs (omega arith) whole, ← hn, eq-eqb (3 + n) (3 + n) refl, get-front kindByte (3 + n) xs (omega arith) whole, ← hk, drop-front 3 n xs h, rest)
 
       module _ {b : Bool} (hb : b ≡ mayStand first kind) where
-        pub front-misplaced : not b ≡ true → {r : Head} → r ≡ noEvent → r ≡ eventHeadOf first xs
+        pub front-misplaced : not b ≡ true → {r : EventHead} → r ≡ noEvent → r ≡ eventHeadOf first xs
         front-misplaced q = no-event (front-there ∙ rw (← hb, not-true b q))
 
         module _ (q : not b ≡ false) {s : Bool} (hs : s ≡ suits kind (take (3 + n - 3) (drop 3 xs))) where
-          pub front-unsuited : s ≡ false → {r : Head} → r ≡ noEvent → r ≡ eventHeadOf first xs
+          pub front-unsuited : s ≡ false → {r : EventHead} → r ≡ noEvent → r ≡ eventHeadOf first xs
           front-unsuited e = no-event (front-there ∙ rw (← hb, not-false b q, ← hs, e))
 
           pub front-suited : s ≡ true → record { whole = true; kind = kind; length = n } ≡ eventHeadOf first xs
@@ -85,11 +85,11 @@ module _ (first : Bool) (xs : List ℕ) where
 
 module _ (xs : List ℕ) (at : ℕ) where
   -- After the end nothing stands.
-  pub front-behind : length xs < at → {r : Head} → r ≡ noEvent → r ≡ eventAt xs at
+  pub front-behind : length xs < at → {r : EventHead} → r ≡ noEvent → r ≡ eventAt xs at
   unfolding eventAt
   front-behind h = front-short (eqb at 0) (drop at xs) (rw (drop-of-length-le xs {i = at} (omega arith)) (lit< tt))
 
-  pub front-at : {r : Head} → r ≡ eventHeadOf (eqb at 0) (take (length xs - at) (drop at xs)) → r ≡ eventAt xs at
+  pub front-at : {r : EventHead} → r ≡ eventHeadOf (eqb at 0) (take (length xs - at) (drop at xs)) → r ≡ eventAt xs at
   unfolding eventAt
   front-at e = e ∙ ap (eventHeadOf (eqb at 0)) (take-all (length xs - at) (drop at xs) (rw (length-drop at xs) (le-refl (length xs - at))))
 
@@ -136,7 +136,7 @@ module _ (xs : List ℕ) (at : ℕ) (w : eventAt xs at .whole ≡ true) where
 
   -- All of the event is there.
   pub whole-fits : at + 3 + eventAt xs at .length ≤ length xs
-  whole-fits = omega (arith, ap (λ (x : Head). x .length) numbers, whole-within (eqb at 0) (drop at xs) there, length-drop at xs)
+  whole-fits = omega (arith, ap (λ (x : EventHead). x .length) numbers, whole-within (eqb at 0) (drop at xs) there, length-drop at xs)
 
   -- Its body is as its kind asks.
   pub whole-suits : suits (eventAt xs at .kind) (take (eventAt xs at .length) (drop (at + 3) xs)) ≡ true

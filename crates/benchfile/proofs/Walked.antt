@@ -10,7 +10,7 @@ use lib.Seq.{take-all, take-add, drop-drop, drop-at, length-take-le}
 use borrow.Author.Tests.{ne-eqb}
 use Rattle.fields.specs.Field.{get}
 use Rattle.fields.proofs.Bools.{not-true, not-false, clash}
-use Rattle.benchfile.specs.declared.event.Head.{Head}
+use Rattle.benchfile.specs.declared.event.EventHead.{EventHead}
 use Rattle.benchfile.specs.Event.{lengthField, frontOf, eventHeadOf, eventAt}
 use Rattle.benchfile.specs.File.{joined, areEvents, lastOffset}
 use Rattle.benchfile.specs.Inner.Walk.{Fills, Tallies}
@@ -61,16 +61,16 @@ module _ (xs : List ℕ) (at : ℕ) {count last : ℕ} (w : Walked xs at count l
   pub goes-count : at < length xs → count + 1 ≤ length xs
   goes-count h = omega (arith, w .few)
 
-  module _ (h : at < length xs) {head : Head} (e : head ≡ eventAt xs at) where
+  module _ (h : at < length xs) {head : EventHead} (e : head ≡ eventAt xs at) where
     -- The event at the offset is one more.
     module _ (q : not (head .whole) ≡ false) where
       there : eventHeadOf (eqb at 0) (drop at xs) .whole ≡ true
       unfolding eventAt
-      there = sym (ap (λ (x : Head). x .whole) e) ∙ not-false (head .whole) q
+      there = sym (ap (λ (x : EventHead). x .whole) e) ∙ not-false (head .whole) q
 
       long : head .length ≡ get lengthField (drop at xs)
       unfolding eventAt
-      long = ap (λ (x : Head). x .length) (e ∙ whole-numbers (eqb at 0) (drop at xs) there)
+      long = ap (λ (x : EventHead). x .length) (e ∙ whole-numbers (eqb at 0) (drop at xs) there)
 
       abbrev next : List ℕ
       next = frontOf (drop at xs)
@@ -134,7 +134,7 @@ module _ (xs : List ℕ) (at : ℕ) {count last : ℕ} (w : Walked xs at count l
           let s = standing h all f in
           let bytes : drop at xs ≡ s .event ++ joined (s .others) = b .bytes ∙ ap joined (s .split) in
           let there : head .whole ≡ true =
-          ap (λ (x : Head). x .whole) (e ∙ ap (eventHeadOf (eqb at 0)) bytes ∙ head-event (eqb at 0) (s .event) (s .is) (joined (s .others)))
+          ap (λ (x : EventHead). x .whole) (e ∙ ap (eventHeadOf (eqb at 0)) bytes ∙ head-event (eqb at 0) (s .event) (s .is) (joined (s .others)))
           in
           absurd (clash (sym there ∙ not-true (head .whole) q));
     }

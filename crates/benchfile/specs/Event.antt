@@ -6,7 +6,7 @@ use mathlib.Core.List.{List}
 use lib.Dec.{eqb, leb}
 use lib.ListN.{length, take, drop}
 use Rattle.fields.specs.Field.{Field, littleEndian, oneByte, get}
-use Rattle.benchfile.specs.declared.event.Head.{Head}
+use Rattle.benchfile.specs.declared.event.EventHead.{EventHead}
 
 -- The kind of an event, and its length n, in the bytes of the event.
 abbrev pub kindByte : Field
@@ -126,14 +126,14 @@ unfoldable pub frontOf : List ℕ → List ℕ
 frontOf xs = take (3 + get lengthField xs) xs
 
 -- What is said where no event stands.
-abbrev pub noEvent : Head
+abbrev pub noEvent : EventHead
 noEvent = record { whole = false; kind = 0; length = 0 }
 
 -- What stands at the front of `xs`: the kind and the length of an event, or `noEvent`. `first` says whether it would be the first one of
 -- its file.
-unfoldable pub eventHeadOf : Bool → List ℕ → Head
+unfoldable pub eventHeadOf : Bool → List ℕ → EventHead
 eventHeadOf first xs = cond (isEvent first (frontOf xs)) (record { whole = true; kind = get kindByte xs; length = get lengthField xs }) noEvent
 
 -- What stands at the offset `at` of the events `xs`. An event at the offset 0 is the first one of its file.
-unfoldable pub eventAt : List ℕ → ℕ → Head
+unfoldable pub eventAt : List ℕ → ℕ → EventHead
 eventAt xs at = eventHeadOf (eqb at 0) (drop at xs)

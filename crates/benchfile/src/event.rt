@@ -6,17 +6,17 @@ ghost use Rattle.benchfile.specs.Event.{agrees, isPollBody, isStatusBody
 
 // What stands at an offset: whether it is a whole event that the rules allow, its kind, and the length of its body. Where no event
 // stands, the numbers are 0.
-pub struct Head {
+pub struct EventHead {
     pub whole: bool,
     pub kind: u8,
     pub length: usize,
 }
 
 // This is said where no event stands.
-fn none() -> Head
+fn none() -> EventHead
     ensures { λ r. ⌜ r ≡ noEvent ⌝ }
 {
-    Head {
+    EventHead {
         whole: false,
         kind: 0,
         length: 0,
@@ -113,7 +113,7 @@ fn may_stand(first: bool, kind: u8) -> bool
 }
 
 // What stands at the front of the bytes `rest`; `first` says whether they begin the file.
-fn front(first: bool, rest: &[u8]) -> Head
+fn front(first: bool, rest: &[u8]) -> EventHead
     ensures { λ r. ⌜ r ≡ eventHeadOf first (now (rest .entry)) ⌝ }
 {
     if rest.len() < 3 {
@@ -129,7 +129,7 @@ fn front(first: bool, rest: &[u8]) -> Head
         return none();
     }
     if suit(kind, &rest[3..end]) {
-        return Head {
+        return EventHead {
             whole: true,
             kind: kind,
             length: length,
@@ -139,7 +139,7 @@ fn front(first: bool, rest: &[u8]) -> Head
 }
 
 // What stands at the offset `at` of the events.
-pub fn event_at(events: &[u8], at: usize) -> Head
+pub fn event_at(events: &[u8], at: usize) -> EventHead
     ensures { λ r. ⌜ r ≡ eventAt (now (events .entry)) at ⌝ }
 {
     if events.len() < at {

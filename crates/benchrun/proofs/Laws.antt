@@ -17,7 +17,7 @@ use Rattle.ring.specs.States.{stateNumber}
 use Rattle.device.specs.declared.Device.{Device}
 use Rattle.device.specs.declared.create.Created.{Created}
 use Rattle.device.specs.Create.{fixed, noDevice, creationOf, createCall}
-use Rattle.benchfile.specs.declared.event.Head.{Head}
+use Rattle.benchfile.specs.declared.event.EventHead.{EventHead}
 use Rattle.benchfile.specs.Event.{packetSize, maxLun, bufferSize, suits, eventAt}
 use Rattle.benchfile.specs.File.{Judges}
 use Rattle.benchfile.proofs.Front.{whole-fits, whole-suits, first-long}
@@ -70,14 +70,14 @@ pub creates : (body : List ℕ) {p m s : ℕ} → p ≡ get packetSize body → 
 unfolding creationOfBody
 creates body hp hm hs c hc = rw (← hp, ← hm, ← hs) hc
 
-module _ (events text : List ℕ) {e : Head} (he : e ≡ eventAt events 0) where
+module _ (events text : List ℕ) {e : EventHead} (he : e ≡ eventAt events 0) where
   pub begins-none : not (e .whole) ≡ true → {d : Device} → d ≡ noDevice → {r : Run} → r ≡ stoppedAt d 0 0 → beginningOf r text ≡ beginBy events text
   unfolding beginBy
   begins-none q hd hr = rw (← he, not-true (e .whole) q, hr, hd)
 
   module _ (q : not (e .whole) ≡ false) where
     pub begins-fits : 10 ≤ length events
-    begins-fits = first-long events (sym (ap (λ (x : Head). x .whole) he) ∙ not-false (e .whole) q)
+    begins-fits = first-long events (sym (ap (λ (x : EventHead). x .whole) he) ∙ not-false (e .whole) q)
 
     pub begins-made : (c : Created) → creationOf c ≡ creationOfBody (take 7 (drop 3 events)) → {k : ℕ} → k ≡ answerOf (c .answer) .number
         → {after : List ℕ} {n : ℕ} → Puts 0 (lineText 0 (c .device) (answerOf (c .answer) .number) 0 Kept []) text after n
@@ -126,9 +126,9 @@ module _ (file text : List ℕ) {verdict : Bool} (j : Judges verdict file) where
 pub still-roomy : {lent text : List ℕ} (after : List ℕ) → length after ≡ length lent → Roomy lent text → roomFor (length after) ≤ length text
 still-roomy after e r = rw e (r .tells)
 
-module _ (events : List ℕ) (at : ℕ) {e : Head} (he : e ≡ eventAt events at) (q : not (e .whole) ≡ false) where
+module _ (events : List ℕ) (at : ℕ) {e : EventHead} (he : e ≡ eventAt events at) (q : not (e .whole) ≡ false) where
   whole : eventAt events at .whole ≡ true
-  whole = sym (ap (λ (x : Head). x .whole) he) ∙ not-false (e .whole) q
+  whole = sym (ap (λ (x : EventHead). x .whole) he) ∙ not-false (e .whole) q
 
   pub steps-fits : at + 3 + e .length ≤ length events
   steps-fits = rw he (whole-fits events at whole)
@@ -138,7 +138,7 @@ module _ (events : List ℕ) (at : ℕ) {e : Head} (he : e ≡ eventAt events at
       let n : at + 3 + e .length - (at + 3) ≡ e .length = omega arith in
       rw (n, he) (whole-suits events at whole)
 
-module _ (run : Run) (events io lent text : List ℕ) {e : Head} (he : e ≡ eventAt events (run .at)) where
+module _ (run : Run) (events io lent text : List ℕ) {e : EventHead} (he : e ≡ eventAt events (run .at)) where
   pub steps-none : not (e .whole) ≡ true → {r : Run} → r ≡ stoppedAt (run .device) (run .at) (run .index) → runningOf r io lent text ≡ stepBy run events io lent text
   unfolding stepBy
   steps-none q hr = rw (← he, not-true (e .whole) q, hr)

@@ -18,7 +18,7 @@ use Rattle.fields.specs.Field.{get}
 use Rattle.fields.proofs.Bools.{and-left, clash}
 use Rattle.answers.specs.declared.Stalls.the-variants.{Kept}
 use Rattle.device.specs.Create.{noDevice, Creation}
-use Rattle.benchfile.specs.declared.event.Head.{Head}
+use Rattle.benchfile.specs.declared.event.EventHead.{EventHead}
 use Rattle.benchfile.specs.Event.{kindByte, bodyOf, isEvent, eventAt}
 use Rattle.benchfile.specs.File.{joined, areEvents, Good, Judges}
 use Rattle.benchfile.specs.Inner.File.{ReadAt}
@@ -43,7 +43,7 @@ front-put text ys = take-append-seam ys (drop (0 + length ys) text)
 ends-there : (xs : List ℕ) (at : ℕ) → length xs ≤ at → eventAt xs at .whole ≡ false
 unfolding eventAt
 ends-there xs at h =
-    sym (ap (λ (x : Head). x .whole) (front-short (eqb at 0) (drop at xs) (rw (drop-of-length-le xs {i = at} h) (lit< tt)) refl))
+    sym (ap (λ (x : EventHead). x .whole) (front-short (eqb at 0) (drop at xs) (rw (drop-of-length-le xs {i = at} h) (lit< tt)) refl))
 
 -- The event that is read at the offset of the run is the one that the step makes.
 step-read : (run : Run) (xs io lent text : List ℕ) (e : List ℕ) → ReadAt xs (run .at) e

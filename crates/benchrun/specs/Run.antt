@@ -12,7 +12,7 @@ use Rattle.answers.specs.declared.Stalls.the-variants.{Kept}
 use Rattle.ring.specs.States.{stateNumber}
 use Rattle.device.specs.declared.Device.{Device}
 use Rattle.device.specs.Create.{fixed, Creation, noDevice, createCall}
-use Rattle.benchfile.specs.declared.event.Head.{Head}
+use Rattle.benchfile.specs.declared.event.EventHead.{EventHead}
 use Rattle.benchfile.specs.Event.{packetSize, maxLun, bufferSize, eventAt}
 use Rattle.benchfile.specs.File.{Judges}
 use Rattle.benchline.specs.declared.Line.{Line}
@@ -119,7 +119,7 @@ wentOn index next a text = runningOf
 
 -- What the event with the head `e` leaves. It stands in `events` at the offset of the run `run`, and its call is given the device of
 -- `run`, the IO buffer `io` and the lent bytes `lent`.
-unfoldable pub eventBy : Run → Head → List ℕ → List ℕ → List ℕ → List ℕ → Running
+unfoldable pub eventBy : Run → EventHead → List ℕ → List ℕ → List ℕ → List ℕ → Running
 eventBy run e events io lent text =
     wentOn (run .index) (run .at + 3 + e .length) (actBy (e .kind) (take (e .length) (drop (run .at + 3) events)) (run .device) io lent) text
 
