@@ -20,12 +20,12 @@ use Rattle.starred.proofs.Hold.{hold}
 abbrev computed : Bool
 computed = parsed (message 0x80 0 0) .valid
 
-abbrev behind : List Case
-behind = drop 1 wrapper.starred ++ (bbb.starred ++ (readout.starred ++ scsi.starred))
+abbrev rest : List Case
+rest = drop 1 wrapper.starred ++ (bbb.starred ++ (readout.starred ++ scsi.starred))
 
 -- The table with `expected` as the value that is expected in that row.
 abbrev expecting : Bool → List Case
-expecting expected = device.starred ++ case computed expected ∷ behind
+expecting expected = device.starred ++ case computed expected ∷ rest
 
 -- With 01's value it is the starred table, which holds.
 pub right : AllHold (expecting false)
@@ -34,7 +34,7 @@ right = hold
 
 -- With the other value it does not hold.
 pub wrong : AllHold (expecting true) → ⊥
-wrong = bites device.starred computed true behind (λ (valid : computed ≡ true). clash (sym valid ∙ invalid))
+wrong = bites device.starred computed true rest (λ (valid : computed ≡ true). clash (sym valid ∙ invalid))
   where
     invalid : computed ≡ false
-    invalid = holds-there device.starred (case computed false) behind right
+    invalid = holds-there device.starred (case computed false) rest right
