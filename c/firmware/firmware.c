@@ -103,7 +103,8 @@ static bool ordinary(uint32_t answer) {
 
 /* A wrapper is one message of exactly 31 bytes. The socket also takes longer ones, and would send the bytes after a wrapper
    back to the host, before the data. So while the socket waits for a command, a message that the standard calls invalid is
-   offered as 31 zeros. The socket then does what the standard says: it has both endpoints stalled until a reset. */
+   offered as 31 zeros. The socket then does what the standard says: it has both endpoints stalled until a reset. A message that
+   is valid only is offered as it came: some laptops set a reserved bit, and shall have the list all the same. */
 static const struct packet *checked(const struct packet *came) {
     static const struct packet no_wrapper = {.length = 31};
     bool is_command = record[SOUK_AT_STATE] == SOUK_COMMAND_TRANSFER || record[SOUK_AT_STATE] == SOUK_STATUS_TRANSFER;

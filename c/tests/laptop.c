@@ -12,8 +12,9 @@ enum { BLOCK = 512, LINE = 32, WRAPPER = 31, STATUS = 13, LONGEST = 3 * BLOCK };
 enum { LARGEST_STATUS = 2 };
 enum { PATIENCE = 10000 }; /* turns */
 
-static unsigned waits; /* turns that the laptop lets pass before it fetches a packet */
-static uint32_t tag;   /* of the last command */
+static unsigned waits;      /* turns that the laptop lets pass before it fetches a packet */
+static uint8_t stray_flags; /* reserved bits that the driver sets */
+static uint32_t tag;        /* of the last command */
 static uint8_t data[LONGEST], list[LONGEST];
 
 struct request {
@@ -77,7 +78,7 @@ static void fill_wrapper(uint8_t *bytes, const struct request *r) {
     memcpy(bytes, "USBC", 4);
     put_le32(bytes + 4, ++tag);
     put_le32(bytes + 8, r->length);
-    bytes[12] = r->to_host ? 0x80 : 0;
+    bytes[12] = (r->to_host ? 0x80 : 0) | stray_flags;
     bytes[13] = r->lun;
     bytes[14] = r->block_length;
     memcpy(bytes + 15, r->block, r->block_length);
@@ -303,6 +304,10 @@ int main(void) {
     waits = 3;
     read_again();
     printf("the disk found the laptop busy %u times\n", bus_in_was_busy());
+    printf("-- the same, from a laptop whose driver sets flag bit 3\n");
+    stray_flags = 1 << 3;
+    read_again();
+    stray_flags = 0;
     printf("-- what the recorder refuses\n");
     refusals();
     printf("-- what goes wrong\n");

@@ -286,6 +286,8 @@ static void verdicts(void) {
     fill_wrapper(bytes, 0, 0);
     SAME(SOUK_VALID_ONLY, souk_verdict(bytes, sizeof bytes, LUN - 1));
     SAME(SOUK_MEANINGFUL, souk_verdict(bytes, sizeof bytes, LUN));
+    fill_wrapper(bytes, 0, 0x88);
+    SAME(SOUK_VALID_ONLY, souk_verdict(bytes, sizeof bytes, LUN));
 }
 
 int main(void) {

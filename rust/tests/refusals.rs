@@ -112,7 +112,7 @@ fn endpoint_errors_are_2_to_255() {
 fn a_verdict_looks_at_31_bytes_alone() {
     let mut message = [0; 32];
     message[..4].copy_from_slice(b"USBC");
-    message[13] = 0xF3;
+    message[13] = 3;
     message[14] = 16;
     assert_eq!(verdict(&message[..31], 3), Verdict::Meaningful);
     assert_eq!(verdict(&message[..31], 2), Verdict::ValidOnly);
@@ -121,4 +121,23 @@ fn a_verdict_looks_at_31_bytes_alone() {
     assert_eq!(verdict(&[], 3), Verdict::Invalid);
     message[14] = 17;
     assert_eq!(verdict(&message[..31], 3), Verdict::ValidOnly);
+}
+
+/// Each of the two bytes with each value: flags 00 and 80 and LUN bytes 00 to 0F have no reserved bit.
+#[test]
+fn a_reserved_bit_makes_a_message_valid_only() {
+    let mut message = [0; 31];
+    message[..4].copy_from_slice(b"USBC");
+    message[14] = 16;
+    for flags in 0..=255 {
+        for lun in 0..=255 {
+            message[12] = flags;
+            message[13] = lun;
+            let due = match (flags, lun) {
+                (0 | 0x80, 0..16) => Verdict::Meaningful,
+                _ => Verdict::ValidOnly,
+            };
+            assert_eq!(verdict(&message, 255), due, "{flags:02X} {lun:02X}");
+        }
+    }
 }

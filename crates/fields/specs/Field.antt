@@ -4,7 +4,7 @@ use mathlib.Core.List.{List, [], _∷_, reverse}
 use mathlib.Core.Bool.{Bool, _&&_}
 use Prim.Native.Nat.{ℕ, zero, suc, _+_, _*_, _^_, _/_, _%_}
 use lib.Dec.{eqb}
-use lib.ListN.{take, drop, getD}
+use lib.ListN.{take, drop, getD, set}
 use Rattle.fields.specs.Overlay.{overlay}
 
 -- A number's bytes stand in one of two orders: `little` (little-endian) has the least significant byte
@@ -78,3 +78,12 @@ bits byte low width = record { byte = byte; low = low; width = width }
 -- This is the number that the bits of the field `f` hold in the message `m`. A byte that `m` does not have counts as 0.
 unfoldable pub getBits : Bits → List ℕ → ℕ
 getBits f m = getD m (f .byte) 0 / 2 ^ f .low % 2 ^ f .width
+
+-- This is the byte `b` with the number `n` in the bits of the field `f`. It has three parts: the bits above the field, as they were; as
+-- many low bits of `n` as the field has; the bits below the field, as they were.
+unfoldable pub withBits : Bits → ℕ → ℕ → ℕ
+withBits f n b = (b / 2 ^ (f .low + f .width) * 2 ^ f .width + n % 2 ^ f .width) * 2 ^ f .low + b % 2 ^ f .low
+
+-- This is the message `m` with the number `n` written to the bits of the field `f`. Nothing is written if `m` does not have that byte.
+unfoldable pub putBits : Bits → ℕ → List ℕ → List ℕ
+putBits f n m = set m (f .byte) (withBits f n (getD m (f .byte) 0))

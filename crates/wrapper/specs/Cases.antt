@@ -12,7 +12,7 @@ use Rattle.wrapper.specs.declared.verdict.Verdict.the-variants.{Invalid,
 use Rattle.wrapper.specs.Counters.{fallen, residueOf}
 use Rattle.wrapper.specs.Status.{statusTable, statusSignature, statusNumber, statusBytes, statusCall}
 use Rattle.wrapper.specs.Wrapper.{wrapperTable, wrapperSignature, directionOfFlags, wrapperOf, noWrapper, parsed}
-use Rattle.wrapper.specs.Verdict.{verdictOf}
+use Rattle.wrapper.specs.Verdict.{verdictOf, cleared}
 
 -- This is a wrapper with tag 01020304 and L = 512, in which `flags`, `lun` and `blocklength` are the bytes 12, 13 and 14.
 abbrev pub message : ℕ → ℕ → ℕ → List ℕ
@@ -50,11 +50,20 @@ ours =
     ∷ case (statusCall 3) (record { answer = 12; status = 0 })
     -- More bytes move than are left.
     ∷ case (fallen (record { 0 = 5 }) 7 .0) 0
-    -- The verdict: the LUN is at max LUN, and then above it. The upper four bits of its byte do not count.
-    ∷ case (verdictOf 3 (message 0 0xF3 10)) Meaningful
-    ∷ case (verdictOf 2 (message 0 0xF3 10)) ValidOnly
+    -- The verdict: the LUN is at max LUN, and then above it.
+    ∷ case (verdictOf 3 (message 0 3 10)) Meaningful
+    ∷ case (verdictOf 2 (message 0 3 10)) ValidOnly
     -- No device has this max LUN, and every LUN is below it.
     ∷ case (verdictOf 16 (message 0 0x0F 10)) Meaningful
+    -- "A laptop driver set flag bit 3"; then obsolete bit 6 is set, a bit beside the LUN is set, and four are.
+    ∷ case (verdictOf 15 (message 0x88 0 10)) ValidOnly
+    ∷ case (verdictOf 15 (message 0xC0 0 10)) ValidOnly
+    ∷ case (verdictOf 255 (message 0x80 0x10 10)) ValidOnly
+    ∷ case (verdictOf 3 (message 0x80 0xF3 10)) ValidOnly
+    -- With its reserved bits cleared it is another message.
+    ∷ case (cleared (message 0xFF 0xF3 10)) (message 0x80 3 10)
+    -- The direction bit is free, also without data, and so are the bytes behind a block of one byte.
+    ∷ case (verdictOf 0 ((0x55 ∷ 0x53 ∷ 0x42 ∷ 0x43 ∷ replicate 8 0) ++ (0x80 ∷ 0 ∷ 1 ∷ replicate 16 0xFF))) Meaningful
     -- The block length is 17; then there is a byte too many; then the signature is wrong.
     ∷ case (verdictOf 15 (message 0 0 17)) ValidOnly
     ∷ case (verdictOf 15 (message 0 0 10 ++ (0 ∷ []))) Invalid

@@ -32,9 +32,19 @@ bmCBWFlags = oneByte 12
 abbrev pub directionBit : Bits
 directionBit = bits 12 7 1
 
+-- BOT calls bit 6 of the flags obsolete, and reserves bits 0 to 5. The host has to set all of them to 0.
+abbrev pub obsoleteFlag : Bits
+obsoleteFlag = bits 12 6 1
+
+abbrev pub reservedFlags : Bits
+reservedFlags = bits 12 0 6
+
 -- 01 says of it: "13 LUN, low four bits". BOT reserves the other four.
 abbrev pub bCBWLUN : Bits
 bCBWLUN = bits 13 0 4
+
+abbrev pub reservedBesideLun : Bits
+reservedBesideLun = bits 13 4 4
 
 -- For the block length BOT has bits 0 to 4 of this byte and reserves the others. 01 and the Rust look at the whole
 -- byte, which is above 16 if a reserved bit is set.

@@ -1,10 +1,10 @@
-// The verdict of BOT on one received message is added by document 01; the Rust does not have it.
+// The verdict of BOT on one received message is added by document 01, and completed by request 3 of document 02; the Rust does not have it.
 use crate::in_wrapper;
 use fields::bits_of;
 use fields::byte;
 ghost use mathlib.Core.Path.{_≡_};
 ghost use lib.ListN.{length};
-ghost use Rattle.wrapper.specs.Verdict.{isMeaningful, verdictOf, verdictNumber};
+ghost use Rattle.wrapper.specs.Verdict.{isClear, isMeaningful, verdictOf, verdictNumber};
 
 // A message gets one of these three verdicts.
 pub enum Verdict {
@@ -13,13 +13,26 @@ pub enum Verdict {
     Meaningful,
 }
 
-// Tests whether `message`, which has 31 bytes, has a LUN of at most `maxlun` and a block length of 1 to 16.
+// Tests whether `message`, which has 31 bytes, has no reserved bit set: in the flags all but the direction are, and all beside the LUN.
+fn clear(message: &[u8]) -> bool
+    requires { ⌜ length (now message) ≡ 31 ⌝ }
+    ensures { λ r. ⌜ r ≡ isClear (now (message .entry)) ⌝ }
+{
+    if bits_of(message, in_wrapper::FLAGS, 0, 7) == 0 {
+        return bits_of(message, in_wrapper::LUN, 4, 4) == 0;
+    }
+    false
+}
+
+// Tests whether `message`, which has 31 bytes, has no reserved bit set, a LUN of at most `maxlun` and a block length of 1 to 16.
 fn meaningful(message: &[u8], maxlun: u8) -> bool
     requires { ⌜ length (now message) ≡ 31 ⌝ }
     ensures { λ r. ⌜ r ≡ isMeaningful maxlun (now (message .entry)) ⌝ }
 {
-    if bits_of(message, in_wrapper::LUN, 0, 4) <= maxlun {
-        return crate::block_fits(byte(message, in_wrapper::BLOCK_LENGTH));
+    if clear(message) {
+        if bits_of(message, in_wrapper::LUN, 0, 4) <= maxlun {
+            return crate::block_fits(byte(message, in_wrapper::BLOCK_LENGTH));
+        }
     }
     false
 }

@@ -1,4 +1,4 @@
-//! `judge/oracle/codec-inputs`: lines for `--decode`, `--parse` and `--status`, the same for the same seed.
+//! `judge/oracle/codec-inputs`: lines for `--decode`, `--parse`, `--status` and the verdict, the same for the same seed.
 
 use crate::host::known_opcode;
 use crate::lines::hex;
@@ -16,15 +16,33 @@ const STATUSES: usize = 110_000;
 /// One in this many statuses has any byte, each value in turn; the others have one of the three good ones.
 const ANY_BYTE_EVERY: usize = 10;
 
+const TWINS: usize = 60_000;
+/// The reserved bits, and obsolete bit 6 of the flags, which counts as one: byte and bit.
+const RESERVED: [(usize, u8); 11] = [
+    (12, 0),
+    (12, 1),
+    (12, 2),
+    (12, 3),
+    (12, 4),
+    (12, 5),
+    (12, 6),
+    (13, 4),
+    (13, 5),
+    (13, 6),
+    (13, 7),
+];
+
 pub fn write(seed: u64, folder: &str) -> io::Result<()> {
     let mut rng = Rng::new(seed);
     let blocks = hex_lines(&blocks(&mut rng));
     let messages = hex_lines(&messages(&mut rng));
     let statuses = statuses(&mut rng);
+    let verdicts = verdicts(&mut rng);
     fs::create_dir_all(folder)?;
     fs::write(format!("{folder}/blocks.txt"), blocks)?;
     fs::write(format!("{folder}/messages.txt"), messages)?;
-    fs::write(format!("{folder}/statuses.txt"), statuses)
+    fs::write(format!("{folder}/statuses.txt"), statuses)?;
+    fs::write(format!("{folder}/verdicts.txt"), verdicts)
 }
 
 fn blocks(rng: &mut Rng) -> Vec<Vec<u8>> {
@@ -129,6 +147,53 @@ fn statuses(rng: &mut Rng) -> String {
         writeln!(text, "{tag} {length} {figure} {byte}").expect("a string");
     }
     text
+}
+
+/// Max LUN and message. Each message stands twice, first with all reserved bits clear and then with some of them set. Most are
+/// meaningful but for those bits.
+fn verdicts(rng: &mut Rng) -> String {
+    let mut text = String::new();
+    for index in 0..TWINS {
+        let (max_lun, mut message) = judged(rng);
+        judged_line(&mut text, max_lun, &message);
+        set_reserved(rng, index, &mut message);
+        judged_line(&mut text, max_lun, &message);
+    }
+    text
+}
+
+fn judged(rng: &mut Rng) -> (u8, Vec<u8>) {
+    let lun = rng.below(16) as u8;
+    let mut message = Wrapper {
+        flags: rng.pick(&[0, 0x80]),
+        lun,
+        ..wrapper(rng)
+    }
+    .bytes();
+    let any = rng.byte();
+    let max_lun = rng.pick(&[lun, lun.wrapping_sub(1), 15, 16, 255, any]);
+    match rng.below(16) {
+        0 => message[14] = rng.byte(),
+        1 => message[rng.below(4)] ^= 1 << rng.below(8),
+        _ => {}
+    }
+    (max_lun, message)
+}
+
+/// One bit alone, each in turn; in every second message others beside it.
+fn set_reserved(rng: &mut Rng, index: usize, message: &mut [u8]) {
+    let alone = RESERVED[index / 2 % RESERVED.len()];
+    for (byte, bit) in RESERVED {
+        if (byte, bit) == alone || index % 2 == 1 && rng.percent(50) {
+            message[byte] |= 1 << bit;
+        }
+    }
+}
+
+fn judged_line(text: &mut String, max_lun: u8, message: &[u8]) {
+    write!(text, "{max_lun} ").expect("a string");
+    hex(text, message);
+    text.push('\n');
 }
 
 fn number(rng: &mut Rng) -> u32 {
