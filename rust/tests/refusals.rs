@@ -134,7 +134,7 @@ fn a_reserved_bit_makes_a_message_valid_only() {
             message[12] = flags;
             message[13] = lun;
             let due = match (flags, lun) {
-                (0 | 0x80, 0..16) => Verdict::Meaningful,
+                (0 | 0x80, 0..=15) => Verdict::Meaningful,
                 _ => Verdict::ValidOnly,
             };
             assert_eq!(verdict(&message, 255), due, "{flags:02X} {lun:02X}");

@@ -37,8 +37,9 @@ verdictNumber Invalid = 0
 verdictNumber ValidOnly = 1
 verdictNumber Meaningful = 2
 
--- This is BOT 6.2.2, "Meaningful CBW", over the fields of BOT's own table: the message `m` is valid, its LUN is one that the device has,
--- and no reserved bit is set. "(we count obsolete bit 6)". Bits 5 to 7 of byte 14 are reserved too, but a valid message has 1 to 16 there.
+-- This is BOT 6.2.2, "Meaningful CBW", over the fields of BOT's own table: the message `m` has 31 bytes, the signature and a legal block
+-- length (`Valid`), its LUN is one that the device has, and no reserved bit is set "(we count obsolete bit 6)". Bits 5 to 7 of byte 14 are
+-- reserved too; they are 0 where that byte is 1 to 16.
 pub record MeaningfulCBW (maxLun : ℕ) (m : List ℕ) : Type 0 where
   pub valid : Valid m
   pub lun : getBits bCBWLUN m ≤ maxLun
