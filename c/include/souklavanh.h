@@ -324,10 +324,10 @@ uint32_t souk_decode(const uint8_t *block, size_t block_len, uint64_t *command, 
 /* The same, but if extended is 1, READ (16) and WRITE (16) are known too; if it is 0, they are not. Any other number: 10. */
 uint32_t souk_decode_told(const uint8_t *block, size_t block_len, uint32_t extended, uint64_t *command, size_t command_len);
 
-/* What BOT says of one received message: an enum souk_verdict, not an answer. Reserved are all flags but the direction (bits 0 to 6
-   of byte 12) and what stands beside the unit (bits 4 to 7 of byte 13). The polls do not use it: they take messages that BOT
-   calls invalid (in pieces, or longer than 31 bytes), units above max_lun and reserved bits. A firmware refuses SOUK_INVALID
-   alone: there are laptops whose driver sets a reserved bit, and they would lose the disk. */
+/* What BOT says of one received message: an enum souk_verdict, not an answer. Reserved are all flags but the direction (bits 0
+   to 6 of byte 12) and what stands beside the unit (bits 4 to 7 of byte 13). The polls do not use it: they take messages that
+   BOT calls invalid (in pieces, or longer than 31 bytes), units above max_lun and reserved bits. A firmware refuses
+   SOUK_INVALID alone: there are laptops whose driver sets a reserved bit, and they would lose the disk. */
 uint32_t souk_verdict(const uint8_t *message, size_t message_len, uint8_t max_lun);
 
 #ifdef __cplusplus
