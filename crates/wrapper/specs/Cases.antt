@@ -62,7 +62,8 @@ ours =
     ∷ case (verdictOf 3 (message 0x80 0xF3 10)) ValidOnly
     -- With its reserved bits cleared it is another message.
     ∷ case (cleared (message 0xFF 0xF3 10)) (message 0x80 3 10)
-    -- The direction bit is free, also without data, and so are the bytes behind a block of one byte.
+    -- The direction bit is free, with data and without, and so are the bytes behind a block of one byte.
+    ∷ case (verdictOf 0 (message 0x80 0 10)) Meaningful
     ∷ case (verdictOf 0 ((0x55 ∷ 0x53 ∷ 0x42 ∷ 0x43 ∷ replicate 8 0) ++ (0x80 ∷ 0 ∷ 1 ∷ replicate 16 0xFF))) Meaningful
     -- The block length is 17; then there is a byte too many; then the signature is wrong.
     ∷ case (verdictOf 15 (message 0 0 17)) ValidOnly
