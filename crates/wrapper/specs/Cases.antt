@@ -60,7 +60,7 @@ ours =
     ∷ case (verdictOf 15 (message 0xC0 0 10)) ValidOnly
     ∷ case (verdictOf 255 (message 0x80 0x10 10)) ValidOnly
     ∷ case (verdictOf 3 (message 0x80 0xF3 10)) ValidOnly
-    -- With its reserved bits cleared it is another message.
+    -- Where the reserved bits are cleared, direction and LUN stay.
     ∷ case (cleared (message 0xFF 0xF3 10)) (message 0x80 3 10)
     -- The direction bit is free, with data and without, and so are the bytes behind a block of one byte.
     ∷ case (verdictOf 0 (message 0x80 0 10)) Meaningful

@@ -16,6 +16,7 @@ const STATUSES: usize = 110_000;
 /// One in this many statuses has any byte, each value in turn; the others have one of the three good ones.
 const ANY_BYTE_EVERY: usize = 10;
 
+/// Messages for the verdict, each with its reserved bits clear and then with some set.
 const TWINS: usize = 60_000;
 /// The reserved bits, and obsolete bit 6 of the flags, which counts as one: byte and bit.
 const RESERVED: [(usize, u8); 11] = [
