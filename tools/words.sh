@@ -79,6 +79,36 @@ same_answers() {
     [[ $(wc -l <"$3") -eq $(wc -l <"$1") ]] || failed "${*:4}: there is another number of answers than of questions"
 }
 
+# le WIDTH NUMBER..: little-endian bytes of each number
+le() {
+    local wide=$1 n k text=''
+    shift
+    for n; do
+        for ((k = 0; k < wide; k++)); do
+            printf -v text '%s\\x%02x' "$text" "$((n >> 8 * k & 255))"
+        done
+    done
+    printf '%b' "$text"
+}
+
+# framed FILE..: what benches reads
+framed() {
+    local file
+    for file; do
+        le 4 "$(wc -c <"$file")"
+        cat "$file"
+    done
+}
+
+# due_lines FILE.bot..: what benches has to print for these vectors
+due_lines() {
+    local file
+    for file; do
+        echo '=='
+        cat "${file%bot}out"
+    done
+}
+
 # skipped WHAT WHY: a line that ./check gathers.
 skipped() { echo "skipped: $1: $2"; }
 

@@ -84,6 +84,24 @@
 #include <stddef.h>
 #include <stdint.h>
 
+/* Where size_t has 32 bits, each call goes by a symbol that says so. An archive whose lengths have another width lacks these
+   symbols, so the linker refuses it. Without them it would link, and take parts of other arguments for lengths. */
+#if SIZE_MAX == 0xFFFFFFFF
+#define souk_create souk_create_size32
+#define souk_poll souk_poll_size32
+#define souk_set_status souk_set_status_size32
+#define souk_read_data souk_read_data_size32
+#define souk_write_data souk_write_data_size32
+#define souk_try_write_data_all souk_try_write_data_all_size32
+#define souk_reset souk_reset_size32
+#define souk_control souk_control_size32
+#define souk_command souk_command_size32
+#define souk_command_step souk_command_step_size32
+#define souk_decode souk_decode_size32
+#define souk_decode_told souk_decode_told_size32
+#define souk_verdict souk_verdict_size32
+#endif
+
 #ifdef __cplusplus
 extern "C" {
 #endif

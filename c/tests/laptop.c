@@ -121,7 +121,7 @@ static uint32_t receive_status(const struct request *r) {
     uint32_t residue = le32(came.bytes + 8);
     require(residue <= r->length, "a residue above the length");
     require(came.bytes[12] <= LARGEST_STATUS, "no such status");
-    printf("status %s, residue %u\n", names[came.bytes[12]], residue);
+    printf("status %s, residue %u\n", names[came.bytes[12]], (unsigned)residue);
     return residue;
 }
 
@@ -130,7 +130,7 @@ static uint32_t receive_status(const struct request *r) {
 static uint32_t run(const struct request *r) {
     size_t got = 0;
     printf("%s: ", r->name);
-    if (r->length > 0) printf("%u bytes %s, ", r->length, r->to_host ? "asked" : "offered");
+    if (r->length > 0) printf("%u bytes %s, ", (unsigned)r->length, r->to_host ? "asked" : "offered");
     send_wrapper(r);
     if (r->to_host && r->length > 0) got = receive_data(r->length);
     else send_data(r->length);
@@ -194,7 +194,7 @@ static void print_list(uint32_t length) {
 
 static void ask_why(void) {
     uint32_t length = run(&request_sense);
-    printf("    %u bytes: sense %X/%02X/%02X\n", length, data[2] & 15u, data[12], data[13]);
+    printf("    %u bytes: sense %X/%02X/%02X\n", (unsigned)length, data[2] & 15u, data[12], data[13]);
 }
 
 static void ask_name(void) {
@@ -207,7 +207,7 @@ static void plug_in(void) {
     ask_name();
     run(&test_unit_ready);
     run(&read_capacity);
-    printf("    %u blocks of %u bytes\n", be32(data) + 1, be32(data + 4));
+    printf("    %u blocks of %u bytes\n", (unsigned)be32(data) + 1, (unsigned)be32(data + 4));
     run(&mode_sense);
     printf("    %s\n", data[2] & 0x80 ? "write protected" : "writable");
     run(&read_block_0);

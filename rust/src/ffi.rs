@@ -42,8 +42,10 @@ impl Word {
 }
 
 mod archive {
-    // Each slice is two arguments: its pointer and its length.
+    // Each slice is two arguments: its pointer and its length. Where a length has 32 bits, the symbol says so: an archive with
+    // lengths of another width lacks it, and is refused by the linker.
     unsafe extern "C" {
+        #[cfg_attr(target_pointer_width = "32", link_name = "souk_create_size32")]
         pub fn souk_create(
             record: *mut u8,
             record_len: usize,
@@ -51,6 +53,7 @@ mod archive {
             max_lun: u8,
             size: u32,
         ) -> u32;
+        #[cfg_attr(target_pointer_width = "32", link_name = "souk_poll_size32")]
         pub fn souk_poll(
             record: *mut u8,
             record_len: usize,
@@ -66,6 +69,7 @@ mod archive {
             second: u8,
             write: u8,
         ) -> u64;
+        #[cfg_attr(target_pointer_width = "32", link_name = "souk_set_status_size32")]
         pub fn souk_set_status(
             record: *mut u8,
             record_len: usize,
@@ -74,6 +78,7 @@ mod archive {
             status: u8,
             figure: u32,
         ) -> u32;
+        #[cfg_attr(target_pointer_width = "32", link_name = "souk_read_data_size32")]
         pub fn souk_read_data(
             record: *mut u8,
             record_len: usize,
@@ -82,6 +87,7 @@ mod archive {
             dst: *mut u8,
             dst_len: usize,
         ) -> u64;
+        #[cfg_attr(target_pointer_width = "32", link_name = "souk_write_data_size32")]
         pub fn souk_write_data(
             record: *mut u8,
             record_len: usize,
@@ -90,6 +96,7 @@ mod archive {
             src: *const u8,
             src_len: usize,
         ) -> u64;
+        #[cfg_attr(target_pointer_width = "32", link_name = "souk_try_write_data_all_size32")]
         pub fn souk_try_write_data_all(
             record: *mut u8,
             record_len: usize,
@@ -98,7 +105,9 @@ mod archive {
             src: *const u8,
             src_len: usize,
         ) -> u64;
+        #[cfg_attr(target_pointer_width = "32", link_name = "souk_reset_size32")]
         pub fn souk_reset(record: *mut u8, record_len: usize, io: *const u8, io_len: usize) -> u64;
+        #[cfg_attr(target_pointer_width = "32", link_name = "souk_control_size32")]
         pub fn souk_control(
             record: *mut u8,
             record_len: usize,
@@ -107,6 +116,7 @@ mod archive {
             request_type: u8,
             request: u8,
         ) -> u64;
+        #[cfg_attr(target_pointer_width = "32", link_name = "souk_command_size32")]
         pub fn souk_command(
             record: *const u8,
             record_len: usize,
@@ -115,6 +125,7 @@ mod archive {
             block: *mut u8,
             block_len: usize,
         ) -> u64;
+        #[cfg_attr(target_pointer_width = "32", link_name = "souk_command_step_size32")]
         pub fn souk_command_step(
             record: *const u8,
             record_len: usize,
@@ -123,12 +134,14 @@ mod archive {
             command: *mut u64,
             command_len: usize,
         ) -> u64;
+        #[cfg_attr(target_pointer_width = "32", link_name = "souk_decode_size32")]
         pub fn souk_decode(
             block: *const u8,
             block_len: usize,
             command: *mut u64,
             command_len: usize,
         ) -> u32;
+        #[cfg_attr(target_pointer_width = "32", link_name = "souk_decode_told_size32")]
         pub fn souk_decode_told(
             block: *const u8,
             block_len: usize,
@@ -136,6 +149,7 @@ mod archive {
             command: *mut u64,
             command_len: usize,
         ) -> u32;
+        #[cfg_attr(target_pointer_width = "32", link_name = "souk_verdict_size32")]
         pub fn souk_verdict(message: *const u8, message_len: usize, max_lun: u8) -> u32;
     }
 }
