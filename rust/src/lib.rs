@@ -49,8 +49,10 @@
 //!
 //! # The build
 //!
-//! The build links the archive that the variable `SOUKLAVANH_ARCHIVE` names; `tools/archive` makes one. The package has no
-//! dependencies and does not use `std`. The archive itself needs `memset`.
+//! The build links the archive that the variable `SOUKLAVANH_ARCHIVE` names; `tools/archive` makes one for this machine, and
+//! `tools/archive cortex-m3` one for a microcontroller. The package has no dependencies and does not use `std`. The archive
+//! itself needs `memset`, on a microcontroller also `memcpy` and `memmove`; on Arm by the names of its run-time ABI, such as
+//! `__aeabi_memcpy`.
 
 #![no_std]
 
