@@ -1,6 +1,7 @@
 //! The exported calls, made directly: `ffi`'s functions are inlined, so that only the call itself remains.
 
-use crate::story::{BUFFER, LARGEST_PACKET, Side};
+use crate::cells::LARGEST_PACKET;
+use crate::story::{BUFFER, Side};
 use souklavanh::RECORD_LENGTH;
 use souklavanh::ffi::{self, Turn};
 

@@ -4,6 +4,7 @@
 //!     time BLOCKS ROUNDS               a line for each packet size and direction: ns per block of both, and their ratio
 //!     run SIDE DIRECTION P BLOCKS      one side alone, once, and nothing is printed: for counting instructions
 
+mod cells;
 mod exported;
 mod original;
 mod story;
@@ -125,7 +126,7 @@ fn by_exported(story: &Story, watch: &mut impl Watch) {
 }
 
 fn by_original(story: &Story, watch: &mut impl Watch) {
-    let allocator = original::allocator();
+    let allocator = cells::allocator();
     let mut side = original::Original::new(&allocator, story.packet_size);
     story.run(&mut side, watch);
 }

@@ -1,54 +1,11 @@
 //! The Rust of docs/src over endpoints that are a few cells. Its calls are made through functions that are not inlined, like
 //! the functions of a library.
 
-use crate::story::{BUFFER, LARGEST_PACKET, Side};
-use std::cell::{Cell, UnsafeCell};
-use usb_device::bus::{UsbBus, UsbBusAllocator};
-use usb_device::{Result, UsbError};
+use crate::cells::{Cells, LARGEST_PACKET};
+use crate::story::{BUFFER, Side};
+use usb_device::bus::UsbBusAllocator;
 use usbd_storage::transport::bbb::{BulkOnly, BulkOnlyError};
 use usbd_storage::transport::{CommandStatus, Transport, TransportError};
-
-/// One packet from the host, and the last one to it.
-pub struct Cells {
-    offered: Cell<Option<*const [u8]>>,
-    packet: UnsafeCell<[u8; LARGEST_PACKET]>,
-    sent: Cell<usize>,
-    stalled: Cell<bool>,
-}
-
-pub fn allocator() -> UsbBusAllocator<Cells> {
-    UsbBusAllocator::new(Cells {
-        offered: Cell::new(None),
-        packet: UnsafeCell::new([0; LARGEST_PACKET]),
-        sent: Cell::new(0),
-        stalled: Cell::new(false),
-    })
-}
-
-impl UsbBus for Cells {
-    #[inline(always)]
-    fn read(&self, room: &mut [u8]) -> Result<usize> {
-        let packet = self.offered.take().ok_or(UsbError::WouldBlock)?;
-        // SAFETY: `Original::poll` sets it from a slice that it holds until the poll is over.
-        let packet = unsafe { &*packet };
-        room[..packet.len()].copy_from_slice(packet);
-        Ok(packet.len())
-    }
-
-    #[inline(always)]
-    fn write(&self, packet: &[u8]) -> Result<usize> {
-        // SAFETY: the cell is read only between polls (`Original::packet`), and only one thread has it.
-        let to = unsafe { &mut *self.packet.get() };
-        to[..packet.len()].copy_from_slice(packet);
-        self.sent.set(packet.len());
-        Ok(packet.len())
-    }
-
-    #[inline(always)]
-    fn set_stalled(&self, _endpoint: &'static str, stalled: bool) {
-        self.stalled.set(stalled);
-    }
-}
 
 type Device<'a> = BulkOnly<'a, Cells, [u8; BUFFER]>;
 type Polled = core::result::Result<(), TransportError<BulkOnlyError>>;
@@ -71,17 +28,14 @@ impl<'a> Original<'a> {
 impl Side for Original<'_> {
     #[inline(always)]
     fn poll(&mut self, offered: Option<&[u8]>) -> (u8, usize) {
-        self.bus
-            .offered
-            .set(offered.map(|packet| packet as *const [u8]));
-        self.bus.sent.set(0);
+        self.bus.offer(offered.map(|packet| packet as *const [u8]));
         let polled = poll(&mut self.device);
-        (number(polled), self.bus.sent.get())
+        (number(polled), self.bus.sent())
     }
 
     fn packet(&self) -> &[u8; LARGEST_PACKET] {
         // SAFETY: no poll runs, so nobody writes.
-        unsafe { &*self.bus.packet.get() }
+        unsafe { &*self.bus.packet() }
     }
 
     #[inline(always)]

@@ -1,12 +1,12 @@
 //! The same work for both sides: the host sends a wrapper, a block of 512 bytes goes one way or the other, the firmware
 //! sets a status, and polls go on until its 13 bytes are out.
 
+use crate::cells::LARGEST_PACKET;
 use crate::watch::Watch;
 
 pub const BLOCK: usize = 512;
 /// The length of the IO buffer.
 pub const BUFFER: usize = 512;
-pub const LARGEST_PACKET: usize = 64;
 const STATUS: usize = 13;
 const WRAPPER: usize = 31;
 

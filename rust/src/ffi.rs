@@ -96,7 +96,10 @@ mod archive {
             src: *const u8,
             src_len: usize,
         ) -> u64;
-        #[cfg_attr(target_pointer_width = "32", link_name = "souk_try_write_data_all_size32")]
+        #[cfg_attr(
+            target_pointer_width = "32",
+            link_name = "souk_try_write_data_all_size32"
+        )]
         pub fn souk_try_write_data_all(
             record: *mut u8,
             record_len: usize,

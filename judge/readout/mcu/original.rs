@@ -1,49 +1,21 @@
-//! The Rust of docs/src behind the C functions that side.h declares, over endpoints that are a few cells as in
-//! judge/readout/original.rs. Here each function is itself the call out of the loop, so nothing in it has to stay a call.
+//! The Rust of docs/src behind the C functions that side.h declares, over endpoints that are a few cells.
+//! Here each function is itself the call out of the loop, so nothing in it has to stay a call.
 #![no_std]
 
-use core::cell::{Cell, UnsafeCell};
+#[path = "../cells.rs"]
+mod cells;
+
+use cells::Cells;
 use core::mem::MaybeUninit;
+use core::ptr;
 use core::slice;
-use usb_device::bus::{UsbBus, UsbBusAllocator};
-use usb_device::{Result, UsbError};
+use usb_device::UsbError;
+use usb_device::bus::UsbBusAllocator;
 use usbd_storage::transport::bbb::{BulkOnly, BulkOnlyError};
 use usbd_storage::transport::{CommandStatus, Transport, TransportError};
 
 /// The length of the IO buffer: `SIDE_IO` of side.h.
 const BUFFER: usize = 512;
-const LARGEST_PACKET: usize = 64;
-
-/// One packet from the host, and the last one to it.
-pub struct Cells {
-    offered: Cell<Option<&'static [u8]>>,
-    packet: UnsafeCell<[u8; LARGEST_PACKET]>,
-    sent: Cell<usize>,
-    stalled: Cell<bool>,
-}
-
-impl UsbBus for Cells {
-    #[inline(always)]
-    fn read(&self, room: &mut [u8]) -> Result<usize> {
-        let packet = self.offered.take().ok_or(UsbError::WouldBlock)?;
-        room[..packet.len()].copy_from_slice(packet);
-        Ok(packet.len())
-    }
-
-    #[inline(always)]
-    fn write(&self, packet: &[u8]) -> Result<usize> {
-        // SAFETY: the loop reads the cell only between polls, and there is only one thread.
-        let to = unsafe { &mut *self.packet.get() };
-        to[..packet.len()].copy_from_slice(packet);
-        self.sent.set(packet.len());
-        Ok(packet.len())
-    }
-
-    #[inline(always)]
-    fn set_stalled(&self, _endpoint: &'static str, stalled: bool) {
-        self.stalled.set(stalled);
-    }
-}
 
 pub struct Original {
     device: BulkOnly<'static, Cells, [u8; BUFFER]>,
@@ -57,15 +29,9 @@ static mut ORIGINAL: MaybeUninit<Original> = MaybeUninit::uninit();
 /// What an earlier call gave is used no more.
 #[unsafe(no_mangle)]
 pub unsafe extern "C" fn original_create(packet_size: u16) -> Option<&'static mut Original> {
-    let cells = Cells {
-        offered: Cell::new(None),
-        packet: UnsafeCell::new([0; LARGEST_PACKET]),
-        sent: Cell::new(0),
-        stalled: Cell::new(false),
-    };
     // SAFETY: there is only one thread, and no reference into either place is left.
     let (allocator, original) = unsafe { (&mut *&raw mut ALLOCATOR, &mut *&raw mut ORIGINAL) };
-    let allocator: &'static UsbBusAllocator<Cells> = allocator.write(UsbBusAllocator::new(cells));
+    let allocator: &'static UsbBusAllocator<Cells> = allocator.write(cells::allocator());
     let device = BulkOnly::new(allocator, packet_size, 0, [0; BUFFER]).ok()?;
     Some(original.write(Original {
         device,
@@ -84,22 +50,20 @@ pub unsafe extern "C" fn original_poll(
     length: usize,
     first: u8,
 ) -> u64 {
-    // SAFETY: the cell is emptied by the poll or set anew before the next one.
-    let offered = (first == 0).then(|| unsafe { slice::from_raw_parts(one, length) });
-    original.bus.offered.set(offered);
-    original.bus.sent.set(0);
+    let offered = (first == 0).then(|| ptr::slice_from_raw_parts(one, length));
+    original.bus.offer(offered);
     let answer = match original.device.poll() {
         Ok(()) => 0,
         Err(TransportError::Error(BulkOnlyError::FullPacketExpected)) => 4,
         Err(TransportError::Usb(UsbError::WouldBlock)) => 6,
         Err(_) => 255,
     };
-    answer | (original.bus.sent.get() as u64) << 32
+    answer | (original.bus.sent() as u64) << 32
 }
 
 #[unsafe(no_mangle)]
 pub extern "C" fn original_packet(original: &Original) -> *const u8 {
-    original.bus.packet.get().cast()
+    original.bus.packet().cast()
 }
 
 /// # Safety
