@@ -1,10 +1,12 @@
 /* The exported calls, made over memory that a test lends. It is part of the one file of a test that includes it.
    Each area that is lent stands between two guards. After each call this is tested, and the first breach ends the program:
-     - the guards are kept, and so is all that is lent for reading;
+     - the answer is one that the call has, and bits of the result that have no meaning are 0;
+     - the guards are kept, and so is all that is lent for reading or for other calls;
      - a refusal changes nothing;
      - a packet after the bytes sent, and a destination after the bytes read, are kept;
-     - block and command are kept if no command is shown, offered or decoded;
-     - bits of the result that have no meaning are 0.
+     - block and command are kept if no command is shown, offered or decoded.
+   The test has to define print_where, for the line about a breach.
+   If GUARD is defined as 0, what is lent ends where its heap block ends, for a tool that watches the ends of blocks.
    If STACK_WATCH is defined, the stack that each call needs is measured. */
 #ifndef LENDING_H
 #define LENDING_H
@@ -21,14 +23,41 @@
 
 #define BIT(n) (1u << (n))
 
+/* ---- Numbers that are the same in every run. No expression draws two of them if C leaves open which comes first. */
+
+static inline uint64_t random_word(void) {
+    static uint64_t seed = 1;
+    seed += 0x9E3779B97F4A7C15u;
+    uint64_t z = seed;
+    z = (z ^ z >> 30) * 0xBF58476D1CE4E5B9u;
+    z = (z ^ z >> 27) * 0x94D049BB133111EBu;
+    return z ^ z >> 31;
+}
+
+static inline uint32_t random_below(uint32_t limit) {
+    return (uint32_t)(random_word() >> 32) % limit;
+}
+
+static inline bool one_in(uint32_t n) {
+    return random_below(n) == 0;
+}
+
+static inline uint8_t random_byte(void) {
+    return (uint8_t)random_below(256);
+}
+
 /* ---- Areas */
 
 enum area { RECORD, IO, PACKET, DST, BLOCK, COMMAND, SRC, ONE, TWO, AREAS };
-enum { GUARD = 16 }; /* bytes on both sides of what is lent; a multiple of 8, for the numbers of a command */
+
+#ifndef GUARD
+#define GUARD 16 /* bytes on both sides of what is lent; a multiple of 8, for the numbers of a command */
+#endif
 
 static const char *const area_names[AREAS] = {"record", "io", "packet", "dst", "block", "command", "src", "one", "two"};
-static uint8_t *now[AREAS], *before[AREAS]; /* whole areas, with their guards */
-static size_t length[AREAS];                /* how much of each is lent */
+static uint8_t *now[AREAS], *before[AREAS]; /* whole blocks, with their guards */
+static size_t capacity[AREAS];              /* how much of each block can be lent */
+static size_t start[AREAS], length[AREAS];  /* where the part that is lent starts, and how long it is */
 
 static void *block_of(size_t size) {
     void *block = malloc(size);
@@ -36,14 +65,28 @@ static void *block_of(size_t size) {
     return block;
 }
 
-static void make_area(enum area a, size_t capacity) {
-    now[a] = block_of(GUARD + capacity + GUARD);
-    before[a] = block_of(GUARD + capacity + GUARD);
-    memset(now[a], 0, GUARD + capacity + GUARD);
+static size_t whole(enum area a) {
+    return GUARD + capacity[a] + GUARD;
 }
 
 static uint8_t *lent(enum area a) {
-    return now[a] + GUARD;
+    return now[a] + start[a];
+}
+
+/* Lends so many bytes, and leaves in them what was there. They are the last of their block, so that the guard, or without one
+   the end of the block, comes right after them. */
+static uint8_t *lend_unfilled(enum area a, size_t count) {
+    start[a] = GUARD + capacity[a] - count;
+    length[a] = count;
+    return lent(a);
+}
+
+static void make_area(enum area a, size_t most) {
+    capacity[a] = most;
+    now[a] = block_of(whole(a));
+    before[a] = block_of(whole(a));
+    memset(now[a], 0, whole(a));
+    lend_unfilled(a, 0);
 }
 
 /* Lends so many bytes. All of them, and the guards, have the same value: another one each time, so that a call that writes
@@ -51,8 +94,7 @@ static uint8_t *lent(enum area a) {
 static uint8_t *lend(enum area a, size_t count) {
     static uint8_t fill;
     fill += 89;
-    length[a] = count;
-    memset(now[a], fill, GUARD + count + GUARD);
+    memset(lend_unfilled(a, count) - GUARD, fill, GUARD + count + GUARD);
     return lent(a);
 }
 
@@ -60,7 +102,7 @@ static void lend_copy(enum area a, const uint8_t *bytes, size_t count) {
     memcpy(lend(a, count), bytes, count);
 }
 
-static void lend_command(size_t numbers) {
+static inline void lend_command(size_t numbers) {
     lend(COMMAND, numbers * sizeof(uint64_t));
 }
 
@@ -83,27 +125,31 @@ enum call {
     CALLS
 };
 
+enum { ANSWERS = SOUK_EMPTY_BLOCK + 1 };
+
 #define DEVICE (BIT(RECORD) | BIT(IO))
 
-/* What each call is lent, what of it the call may write, and which bits of the result have a meaning. */
+/* What each call is lent, what of it the call may write, which answers it has, and which bits of the result have a meaning. */
 static const struct call_kind {
     const char *name;
-    unsigned lent, writes;
+    unsigned lent, writes, answers;
     uint64_t named;
 } calls[CALLS] = {
-    [CREATE] = {"souk_create", BIT(RECORD), BIT(RECORD), 0xFF},
-    [POLL] = {"souk_poll", DEVICE | BIT(PACKET) | BIT(ONE) | BIT(TWO), DEVICE | BIT(PACKET), 0xFFFFFFFFFFFFFFFF},
-    [SET_STATUS] = {"souk_set_status", DEVICE, BIT(RECORD), 0xFF},
-    [READ_DATA] = {"souk_read_data", DEVICE | BIT(DST), BIT(RECORD) | BIT(DST), 0xFFFFFFFF000000FF},
-    [WRITE_DATA] = {"souk_write_data", DEVICE | BIT(SRC), DEVICE, 0xFFFFFFFF000000FF},
-    [TRY_WRITE_DATA_ALL] = {"souk_try_write_data_all", DEVICE | BIT(SRC), DEVICE, 0xFFFFFFFF000000FF},
-    [RESET] = {"souk_reset", DEVICE, BIT(RECORD), 0xFF00FF},
-    [CONTROL] = {"souk_control", DEVICE, BIT(RECORD), 0xFF01FF00FF},
-    [SHOW_COMMAND] = {"souk_command", DEVICE | BIT(BLOCK), BIT(BLOCK), 0xFF0100FFFF},
-    [COMMAND_STEP] = {"souk_command_step", DEVICE | BIT(COMMAND), BIT(COMMAND), 0x0100FFFF},
-    [DECODE] = {"souk_decode", BIT(SRC) | BIT(COMMAND), BIT(COMMAND), 0xFF},
-    [DECODE_TOLD] = {"souk_decode_told", BIT(SRC) | BIT(COMMAND), BIT(COMMAND), 0xFF},
-    [VERDICT] = {"souk_verdict", BIT(SRC), 0, 0xFF},
+    [CREATE] = {"souk_create", BIT(RECORD), BIT(RECORD), BIT(0) | BIT(2) | BIT(5) | BIT(8) | BIT(9) | BIT(10), 0xFF},
+    [POLL] = {"souk_poll", DEVICE | BIT(PACKET) | BIT(ONE) | BIT(TWO), DEVICE | BIT(PACKET),
+              BIT(0) | BIT(1) | BIT(4) | BIT(6) | BIT(7) | BIT(10) | BIT(11), 0xFFFFFFFFFFFFFFFF},
+    [SET_STATUS] = {"souk_set_status", DEVICE, BIT(RECORD), BIT(0) | BIT(10) | BIT(12), 0xFF},
+    [READ_DATA] = {"souk_read_data", DEVICE | BIT(DST), BIT(RECORD) | BIT(DST), BIT(0) | BIT(3) | BIT(10), 0xFFFFFFFF000000FF},
+    [WRITE_DATA] = {"souk_write_data", DEVICE | BIT(SRC), DEVICE, BIT(0) | BIT(3) | BIT(10), 0xFFFFFFFF000000FF},
+    [TRY_WRITE_DATA_ALL] = {"souk_try_write_data_all", DEVICE | BIT(SRC), DEVICE, BIT(0) | BIT(1) | BIT(3) | BIT(10),
+                            0xFFFFFFFF000000FF},
+    [RESET] = {"souk_reset", DEVICE, BIT(RECORD), BIT(0) | BIT(10), 0xFF00FF},
+    [CONTROL] = {"souk_control", DEVICE, BIT(RECORD), BIT(0) | BIT(10), 0xFF01FF00FF},
+    [SHOW_COMMAND] = {"souk_command", DEVICE | BIT(BLOCK), BIT(BLOCK), BIT(0) | BIT(10), 0xFF0100FFFF},
+    [COMMAND_STEP] = {"souk_command_step", DEVICE | BIT(COMMAND), BIT(COMMAND), BIT(0) | BIT(10) | BIT(13), 0x0100FFFF},
+    [DECODE] = {"souk_decode", BIT(SRC) | BIT(COMMAND), BIT(COMMAND), BIT(0) | BIT(10) | BIT(13), 0xFF},
+    [DECODE_TOLD] = {"souk_decode_told", BIT(SRC) | BIT(COMMAND), BIT(COMMAND), BIT(0) | BIT(10) | BIT(13), 0xFF},
+    [VERDICT] = {"souk_verdict", BIT(SRC), 0, BIT(0) | BIT(1) | BIT(2), 0xFF},
 };
 
 /* The numbers that go with the areas. */
@@ -163,53 +209,67 @@ static uint64_t make(enum call which) {
 
 /* ---- What a call has to keep */
 
-static unsigned run_number, event_number; /* where the test is: which file or device, and which event */
+static uint64_t result; /* of the last call */
+
+/* Says where the test is. Each test has its own. */
+static void print_where(void);
 
 static void require(bool ok, enum call which, const char *part, const char *what) {
     if (ok) return;
-    printf("BREACH: run %u, event %u, %s: %s %s\n", run_number, event_number, calls[which].name, part, what);
+    printf("BREACH: ");
+    print_where();
+    printf(", %s: %s %s (result %llx)\n", calls[which].name, part, what, (unsigned long long)result);
     exit(1);
+}
+
+static bool has_answer(enum call which, uint32_t answer) {
+    return answer < ANSWERS && (calls[which].answers & BIT(answer));
 }
 
 /* Answers after which something may be written. All others are refusals. */
 static bool may_write(uint32_t answer) {
     const unsigned writing = BIT(SOUK_DONE) | BIT(SOUK_IO_BUFFER_OVERFLOW) | BIT(SOUK_FULL_PACKET_EXPECTED) |
                              BIT(SOUK_WOULD_BLOCK) | BIT(SOUK_ENDPOINT_FAILED);
-    return answer < 32 && (writing & BIT(answer));
+    return writing & BIT(answer);
+}
+
+/* The result has the number of bytes that the call put into this area. */
+static bool is_counted(enum call which, enum area a) {
+    return (calls[which].writes & BIT(a)) && (a == PACKET || a == DST);
 }
 
 /* How many bytes of the area, from its first, may be others after the call. */
-static size_t open_to_change(enum call which, enum area a, uint64_t word) {
-    if (!(calls[which].writes & BIT(a)) || !may_write(souk_answer(word))) return 0;
-    if (a == PACKET || a == DST) return souk_count(word);
-    if (which == SHOW_COMMAND || which == COMMAND_STEP) return souk_flag(word) ? length[a] : 0;
+static size_t open_to_change(enum call which, enum area a) {
+    if (!(calls[which].writes & BIT(a)) || !may_write(souk_answer(result))) return 0;
+    if (is_counted(which, a)) return souk_count(result);
+    if (which == SHOW_COMMAND || which == COMMAND_STEP) return souk_flag(result) ? length[a] : 0;
     return length[a];
 }
 
+/* From the guard before what is lent to the end of the guard after it. */
 static void remember(enum area a) {
-    memcpy(before[a], now[a], GUARD + length[a] + GUARD);
+    size_t from = start[a] - GUARD;
+    memcpy(before[a] + from, now[a] + from, whole(a) - from);
 }
 
-static bool kept_behind(enum area a, size_t count) {
-    size_t from = GUARD + count, end = GUARD + length[a] + GUARD;
-    return memcmp(now[a], before[a], GUARD) == 0 && memcmp(now[a] + from, before[a] + from, end - from) == 0;
+static bool kept(enum area a, size_t from, size_t end) {
+    return memcmp(now[a] + from, before[a] + from, end - from) == 0;
 }
 
-static void require_kept(enum call which, enum area a, uint64_t word) {
-    size_t open = open_to_change(which, a, word);
-    bool counted = a == PACKET || a == DST;
-    require(!counted || souk_count(word) <= length[a], which, area_names[a], "is shorter than the count");
-    require(kept_behind(a, open), which, area_names[a], "or bytes beside it changed where they must not");
+static void require_kept(enum call which, enum area a) {
+    size_t open = open_to_change(which, a);
+    require(!is_counted(which, a) || souk_count(result) <= length[a], which, area_names[a], "is shorter than the count");
+    require(kept(a, start[a] - GUARD, start[a]) && kept(a, start[a] + open, whole(a)), which, area_names[a],
+            "or bytes beside it changed where they must not");
 }
 
 static uint64_t call(enum call which) {
-    for (enum area a = 0; a < AREAS; a++)
-        if (calls[which].lent & BIT(a)) remember(a);
-    uint64_t word = make(which);
-    require(!(word & ~calls[which].named), which, "the result", "has bits without a meaning");
-    for (enum area a = 0; a < AREAS; a++)
-        if (calls[which].lent & BIT(a)) require_kept(which, a, word);
-    return word;
+    for (enum area a = 0; a < AREAS; a++) remember(a);
+    result = make(which);
+    require(has_answer(which, souk_answer(result)), which, "the answer", "is none that this call has");
+    require(!(result & ~calls[which].named), which, "the result", "has bits without a meaning");
+    for (enum area a = 0; a < AREAS; a++) require_kept(which, a);
+    return result;
 }
 
 #endif

@@ -11,6 +11,11 @@ enum { SPARE = 3 }; /* bytes that a packet may have above P */
 
 static uint8_t file[LONGEST + 1];
 static size_t file_length;
+static unsigned file_number, event_number;
+
+static void print_where(void) {
+    printf("file %u, event %u", file_number, event_number);
+}
 
 /* ---- Reading */
 
@@ -267,7 +272,7 @@ int main(void) {
     make_area(SRC, LONGEST);
     make_area(ONE, LONGEST_OFFER);
     make_area(TWO, LONGEST_OFFER);
-    for (; read_file(); run_number++) {
+    for (; read_file(); file_number++) {
         printf("==\n");
         if (is_good_file()) play_file();
         else printf("%u\n", REFUSED_FILE);
