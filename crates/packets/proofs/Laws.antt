@@ -4,18 +4,20 @@ use mathlib.Core.Bool.{Bool, true, false, not, cond}
 use mathlib.Core.List.{List, []}
 use Prim.Native.Nat.{ℕ, _-_, _≤_, min, max, zero-le}
 use native.Mathlib.Omega.{arith}
-use native.Mathlib.Nat.{add-zero, max-eq-left, min-zero}
-use lib.Dec.{eqb}
-use lib.ListN.{length, take}
+use native.Mathlib.Nat.{add-zero, max-eq-left, min-zero, min-le-left, sub-zero, zero-add}
+use lib.Dec.{eqb, ltb}
+use lib.ListN.{length, take, length-take}
+use lib.Seq.{take-length, take-take}
 use borrow.Author.Tests.{eq-eqb, ne-eqb}
 use Rattle.fields.specs.Overlay.{overlay}
 use Rattle.fields.proofs.Bools.{of-picked}
 use Rattle.fields.proofs.Overlay.{overlay-nothing}
 use Rattle.buffer.specs.declared.Marks.{Marks}
 use Rattle.buffer.specs.declared.marked.Put.{Put}
-use Rattle.buffer.specs.Buffer.{Buffer, buffer, at, unread, lacksRoom, writtenAll, filled, written, emptied, ready, readyBytes, readOff}
+use Rattle.buffer.specs.Buffer.{Buffer, buffer, at, unread, lacksRoom, withRoom, writtenAll, filled, emptied, ready, readyBytes, readOff}
 use Rattle.buffer.specs.Inner.Buffer.{Sound, Leaves}
-use Rattle.buffer.proofs.Unread.{filled-none}
+use Rattle.buffer.proofs.Unread.{moved-emptied, filled-none}
+use Rattle.buffer.proofs.Ways.{writes}
 use Rattle.answers.specs.declared.Answer.the-variants.{Done, IoBufferOverflow}
 use Rattle.answers.specs.declared.Endpoint.{Endpoint}
 use Rattle.answers.specs.declared.Endpoint.the-variants.{Served, Busy, Failed}
@@ -24,6 +26,7 @@ use Rattle.answers.specs.Answers.{Answering, answerOf, answer, serves, answered
 use Rattle.wrapper.specs.declared.counters.Left.{Left}
 use Rattle.wrapper.specs.declared.counters.Residue.{Residue}
 use Rattle.wrapper.specs.Status.{statusBytes}
+use Rattle.wrapper.proofs.Csw.{length-status}
 use Rattle.packets.specs.declared.Received.{Received}
 use Rattle.packets.specs.Packets.{handed, readAnswer, takesOne, brought, received, accepted, sendAnswer, sentCount, sentOff, sentInto, filledUp, statusWritten}
 use Rattle.packets.specs.Inner.Packets.{Reports, Reads, Sends}
@@ -147,12 +150,27 @@ module _ (p : ℕ) (left : Left) (s : Buffer) {w : ℕ} (hw : w ≡ min (left .0
       let none : min (left .0) p - unread s ≡ 0 = omega arith in
       record { same = rw (none, filled-none 0xFF s); sound = g }
 
-pub puts-status : (tag : ℕ) (residue : Residue) (status : ℕ) (io : List ℕ) {ys : List ℕ} {m : Marks} {t : Buffer}
-    → ys ≡ statusBytes tag residue status → m ≡ at 0 0 → Leaves t (written ys (buffer io m)) → Leaves t (statusWritten tag residue status (buffer io (at 0 0)))
+-- In an empty buffer there is nothing to move, so asking for room changes nothing.
+room-in-empty : (n : ℕ) (io : List ℕ) → withRoom n (buffer io (at 0 0)) ≡ buffer io (at 0 0)
+unfolding withRoom emptied
+room-in-empty n io = of-picked (λ (t : Buffer). t ≡ buffer io (at 0 0)) (ltb (length io - 0) n) (λ _. moved-emptied (buffer io (at 0 0)) refl) (λ _. refl)
+
+-- A list gives no more than it has.
+take-most : (n : ℕ) (ys : List ℕ) → take n ys ≡ take (min n (length ys)) ys
+take-most n ys =
+    sym (take-length (take n ys)) ∙ ap (λ (k : ℕ). take k (take n ys)) (length-take n ys) ∙ take-take (min n (length ys)) n ys (min-le-left n (length ys))
+
+pub puts-status : (tag : ℕ) (residue : Residue) (status : ℕ) (io : List ℕ) {b : List ℕ} {k : ℕ}
+    → b ≡ overlay io 0 (take (length io) (statusBytes tag residue status)) → k ≡ min (length io) 13
+    → Leaves (buffer b (at 0 k)) (statusWritten tag residue status (buffer io (at 0 0)))
 unfolding statusWritten emptied
-puts-status tag residue status io hy hm h = rw (hy, hm) at h
+puts-status tag residue status io {b} {k} eb ek =
+    let ys : List ℕ = statusBytes tag residue status in
+    let s : Buffer = buffer io (at 0 0) in
+    let sound : Sound s = record { order = zero-le; within = zero-le } in
+    let fits : k ≡ min (length io) (length ys) = ek ∙ ap (min (length io)) (sym (length-status tag residue status)) in
+    rw zero-add at
+    (writes ys k s s sound (record { same = sym (room-in-empty (length ys) io); sound = sound }) (rw sub-zero fits) b
+    (eb ∙ ap (overlay io 0) (take-most (length io) ys ∙ ap (λ (n : ℕ). take n ys) (sym fits))))
 
-pub sound-clean : (io : List ℕ) {m : Marks} → m ≡ at 0 0 → Sound (buffer io m)
-sound-clean io h = rw h (record { order = zero-le; within = zero-le })
-
-pub ruleset ways = (handed-all, handed-none, reports-room, reports-none, reads, sends-nothing, sends-something, sends-served, sends-unserved, fills-up, fills-none, puts-status, sound-clean)
+pub ruleset ways = (handed-all, handed-none, reports-room, reports-none, reads, sends-nothing, sends-something, sends-served, sends-unserved, fills-up, fills-none, puts-status)

@@ -9,6 +9,7 @@ use buffer::marked::Put;
 use fields::least;
 use wrapper::counters::Left;
 use wrapper::counters::Residue;
+use wrapper::in_status;
 use wrapper::status::CommandStatus;
 ghost use mathlib.Core.Path.{_≡_};
 ghost use Prim.Native.Nat.{_≤_, min};
@@ -114,11 +115,11 @@ pub fn fill(io: &mut [u8], m: Marks, p: usize, left: Left) -> Marks
     m
 }
 
-// The buffer is emptied, and the status is written into it.
+// The buffer is emptied, and the status is written straight into it; of a status that is too long for it, what fits.
 pub fn put_status(io: &mut [u8], tag: u32, residue: Residue, status: CommandStatus) -> Marks
     ensures { λ r. ⌜ Leaves (buffer (now (io .exit)) r) (statusWritten tag residue (statusNumber status) (buffer (now (io .entry)) (at 0 0))) ⌝ }
 {
-    let bytes = wrapper::status::status_bytes(tag, residue, status);
-    let t = marked::write(io, marked::clean(), &bytes);
-    t.marks
+    let n = least(io.len(), in_status::SIZE);
+    wrapper::status::put_status(io, tag, residue, status);
+    Marks { read: 0, write: n }
 }

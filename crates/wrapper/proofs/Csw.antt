@@ -1,19 +1,25 @@
 -- These are laws of the status (CSW).
 --     status-accepted, status-above    a byte that is known stands for itself; one that is refused is above 2
 --     length-status                    a status has 13 bytes
+--     status-stored, status-whole      stores in order leave what fits of it; it hides an array of 13 bytes
 --     signature-read, tag-read, residue-read, status-read    a host that reads it by BOT's table finds what was put in
 --     ways                             what each way through a function owes
 -- Assumes nothing.
-use mathlib.Core.Path.{_≡_, refl, ap, _∙_}
+use mathlib.Core.Path.{_≡_, refl, sym, ap, _∙_}
 use mathlib.Core.Bool.{Bool, true, false, cond}
-use mathlib.Core.List.{List}
-use Prim.Native.Nat.{ℕ, _^_, _≤_, _<_}
+use mathlib.Core.List.{List, [], _∷_, _++_}
+use Prim.Native.Nat.{ℕ, suc, _+_, _^_, _/_, _%_, _≤_, _<_}
+use native.Mathlib.Numerals.{unary-clauses}
 use native.Mathlib.Omega.{arith}
 use lib.Dec.{leb, lit<, lit≤}
-use lib.ListN.{length, set, replicate}
+use lib.ListN.{length, take, set, replicate}
+use lib.Seq.{sets, set-out, take-all}
 use borrow.Author.Tests.{leb-true, leb-false, le-leb, lt-leb}
-use Rattle.fields.specs.Field.{get, put}
-use Rattle.fields.proofs.Field.{length-put, byte-stored, get-put, get-before}
+use Rattle.fields.specs.Field.{digits, get, put}
+use Rattle.fields.specs.Overlay.{overlay}
+use Rattle.fields.proofs.Field.{length-put, put-stored, byte-stored, get-put, get-before}
+use Rattle.fields.proofs.Overlay.{overlay-nothing, overlay-whole}
+use Rattle.fields.proofs.Seq.{all-stored}
 use Rattle.wrapper.specs.declared.status.CommandStatus.{CommandStatus}
 use Rattle.wrapper.specs.declared.status.CommandStatus.the-variants.{Passed, Failed, PhaseError}
 use Rattle.wrapper.specs.declared.status.StatusByte.the-variants.{Known, Refused}
@@ -82,13 +88,69 @@ number-small Passed = lit< tt
 number-small Failed = lit< tt
 number-small PhaseError = lit< tt
 
-pub status-laid : (tag : ℕ) (r : Residue) (s : CommandStatus) (a b c : List ℕ) (n : ℕ)
-    → a ≡ put dCSWSignature statusSignature (replicate 13 0) → b ≡ put dCSWTag tag a → c ≡ put dCSWDataResidue (r .0) b → n ≡ statusNumber s
-    → set c 12 n ≡ statusBytes tag r (statusNumber s)
-unfolding statusBytes blank signed tagged counted
-status-laid tag r s a b c n ea eb ec en =
-    let e : c ≡ counted tag r = rw (ec, eb, ea) in
-    rw (e, en) (byte-stored (counted tag r) 12 (statusNumber s) (number-small s) (omega (arith, length-counted tag r)))
+-- ---- bytes stored one after the other, as far as there is room
+
+-- A store at an index that the list does not have changes nothing.
+pub store-none : (d : List ℕ) (i b : ℕ) → length d ≤ i → d ≡ set d i b
+store-none d i b h = sym (set-out d i b h)
+
+pub number-stored : (d : List ℕ) (at n : ℕ) {a b c e : List ℕ}
+    → a ≡ set d at (n % 256) → b ≡ set a (at + 1) (n / 256 % 256) → c ≡ set b (at + 2) (n / 256 / 256 % 256) → e ≡ set c (at + 3) (n / 256 / 256 / 256 % 256)
+    → e ≡ sets d at (digits 4 n)
+unfolding digits
+number-stored d at n ea eb ec ee = rw (ee, ec, eb, ea) (simp unary-clauses)
+
+sets-nowhere : (i : ℕ) (ys : List ℕ) → sets [] i ys ≡ []
+sets-nowhere i [] = refl
+sets-nowhere i (y ∷ ys) = sets-nowhere (suc i) ys
+
+sets-behind : (x : ℕ) (d : List ℕ) (i : ℕ) (ys : List ℕ) → sets (x ∷ d) (suc i) ys ≡ x ∷ sets d i ys
+sets-behind x d i [] = refl
+sets-behind x d i (y ∷ ys) = sets-behind x (set d i y) (suc i) ys
+
+-- Stores from the front on leave what fits of ys.
+sets-front : (d ys : List ℕ) → sets d 0 ys ≡ overlay d 0 (take (length d) ys)
+unfolding overlay
+sets-front [] ys = sets-nowhere 0 ys
+sets-front (x ∷ d) [] = sym (overlay-nothing (x ∷ d) 0)
+sets-front (x ∷ d) (y ∷ ys) = simp unary-clauses (sets-behind y d 0 ys ∙ ap (λ (l : List ℕ). y ∷ l) (sets-front d ys))
+
+module _ (tag : ℕ) (r : Residue) (status : ℕ) where
+  -- These are the 13 bytes in their order.
+  ordered-bytes : List ℕ
+  ordered-bytes = digits 4 statusSignature ++ digits 4 tag ++ digits 4 (r .0) ++ (status ∷ [])
+
+  -- Field by field, they are stored from the front on.
+  in-order : (d : List ℕ) → set (sets (sets (sets d 0 (digits 4 statusSignature)) 4 (digits 4 tag)) 8 (digits 4 (r .0))) 12 status ≡ sets d 0 ordered-bytes
+  unfolding ordered-bytes digits
+  in-order d = refl
+
+  are-ordered : status < 256 → statusBytes tag r status ≡ ordered-bytes
+  unfolding statusBytes blank signed tagged counted ordered-bytes digits
+  are-ordered h =
+      sym (byte-stored (counted tag r) 12 status h (omega (arith, length-counted tag r)))
+      ∙ ap (λ (l : List ℕ). set l 12 status)
+        (sym (put-stored (tagged tag) 8 4 (r .0) (omega (arith, length-tagged tag)))
+        ∙ ap (λ (l : List ℕ). sets l 8 (digits 4 (r .0)))
+          (sym (put-stored signed 4 4 tag (omega (arith, length-signed)))
+          ∙ ap (λ (l : List ℕ). sets l 4 (digits 4 tag)) (sym (put-stored blank 0 4 statusSignature (lit≤ tt)))))
+      ∙ in-order blank
+      ∙ all-stored blank ordered-bytes refl
+
+pub status-stored : (tag : ℕ) (r : Residue) (s : CommandStatus) (d : List ℕ) {a b c : List ℕ} {n : ℕ}
+    → a ≡ sets d 0 (digits 4 statusSignature) → b ≡ sets a 4 (digits 4 tag) → c ≡ sets b 8 (digits 4 (r .0)) → n ≡ statusNumber s
+    → {e : List ℕ} → e ≡ set c 12 n → e ≡ overlay d 0 (take (length d) (statusBytes tag r (statusNumber s)))
+status-stored tag r s d ea eb ec en ee =
+    rw (ee, ec, eb, ea, en)
+    (in-order tag r (statusNumber s) d
+    ∙ sets-front d (ordered-bytes tag r (statusNumber s))
+    ∙ ap (λ (l : List ℕ). overlay d 0 (take (length d) l)) (sym (are-ordered tag r (statusNumber s) (number-small s))))
+
+-- An array of 13 bytes is hidden by the status.
+pub status-whole : (tag : ℕ) (r : Residue) (n : ℕ) (d : List ℕ) {m : List ℕ} → length d ≡ 13 → m ≡ overlay d 0 (take (length d) (statusBytes tag r n)) → m ≡ statusBytes tag r n
+status-whole tag r n d h e =
+    e ∙ ap (overlay d 0) (take-all (length d) (statusBytes tag r n) (omega (arith, length-status tag r n)))
+    ∙ overlay-whole d (statusBytes tag r n) (length-status tag r n ∙ sym h)
 
 -- ---- what a host reads
 
@@ -118,4 +180,4 @@ module _ (tag : ℕ) (r : Residue) (status : ℕ) where
   unfolding statusBytes blank signed tagged counted
   status-read h = get-put bCSWStatus status (counted tag r) (omega (arith, length-counted tag r)) h
 
-pub ruleset ways = (status-known, status-refused, status-laid)
+pub ruleset ways = (status-known, status-refused, store-none, number-stored, status-stored, status-whole)

@@ -3,6 +3,7 @@
 use mathlib.Core.Path.{_≡_, refl, sym, ap, _∙_}
 use mathlib.Core.Bool.{cond}
 use lib.Dec.{eqb}
+use denote.Ref.{now}
 use Rattle.fields.proofs.Only.{Only}
 use Rattle.wrapper.specs.declared.status.CommandStatus.the-variants.{Passed, Failed, PhaseError}
 use Rattle.wrapper.specs.declared.status.StatusByte.{StatusByte}
@@ -18,6 +19,8 @@ use Rattle.wrapper.proofs.status.status_number.Kinds as status-number-k
 use Rattle.wrapper.proofs.status.status_number.Reads as status-number
 use Rattle.wrapper.proofs.status.status_of_number.Kinds as status-of-number-kinds
 use Rattle.wrapper.proofs.status.status_of_number.Reads as status-of-number
+use Rattle.wrapper.proofs.status.put_status.Kinds as put-status-kinds
+use Rattle.wrapper.proofs.status.put_status.Reads as put-status
 use Rattle.wrapper.proofs.status.status_bytes.Kinds as status-bytes-kinds
 use Rattle.wrapper.proofs.status.status_bytes.Reads as status-bytes
 use Rattle.wrapper.proofs.valid.Kinds as valid-kinds
@@ -64,6 +67,9 @@ status-number-only κs a x y s t p q = (p ∙ sym q, refl)
 
 pub status-of-number-only : Only 0 status-of-number-kinds.ps status-of-number-kinds.r status-of-number.Post (λ κs s. tt {0})
 status-of-number-only κs a x y s t p q = (p ∙ sym q, refl)
+
+pub put-status-only : Only 1 put-status-kinds.ps put-status-kinds.r put-status.Post (λ κs s. now (s .0))
+put-status-only κs a x y s t p q = (refl, p ∙ sym q)
 
 pub status-bytes-only : Only 0 status-bytes-kinds.ps status-bytes-kinds.r status-bytes.Post (λ κs s. tt {0})
 status-bytes-only κs a x y s t p q = (p ∙ sym q, refl)

@@ -1,4 +1,4 @@
--- `packets::put_status` meets its contract: the 13 bytes of the status are written into the emptied buffer. Assumes nothing.
+-- `packets::put_status` meets its contract: what fits of the status stands at the front of the emptied buffer. Assumes nothing.
 use borrow.Author.Needs.{needs}
 use Rattle.packets.proofs.Laws.{ways}
 use Rattle.packets.proofs.put_status.Statement.{statement}
@@ -7,4 +7,4 @@ use Rattle.packets.proofs.put_status.Tie as tie
 pub put-status-spec : {M : Type 1} → statement M
 put-status-spec =
     tie.close (tie.spec
-    (λ c. search needs) (λ c. search needs) (λ c. search needs) (λ c. search (ways, needs)) (λ c. search needs) (λ c. search (ways, needs)))
+    (λ c. search needs) (λ c. search needs) (λ c. search needs) (λ c. search (ways, needs)))
