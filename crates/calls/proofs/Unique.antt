@@ -19,6 +19,8 @@ use Rattle.calls.specs.Status.{Stating, statingOf}
 use Rattle.calls.specs.Data.{Moving, movingOf}
 use Rattle.calls.specs.Bus.{Handling, replied, handlingOf}
 use Rattle.calls.specs.Command.{Showing, showingOf, Offered, offeredOf, Stepping, steppingOf}
+use Rattle.calls.proofs.is_in.Kinds as is-in-kinds
+use Rattle.calls.proofs.is_in.Reads as is-in
 use Rattle.calls.proofs.set_status.Kinds as set-status-kinds
 use Rattle.calls.proofs.set_status.Reads as set-status
 use Rattle.calls.proofs.read_data.Kinds as read-data-kinds
@@ -33,6 +35,8 @@ use Rattle.calls.proofs.control.Kinds as control-kinds
 use Rattle.calls.proofs.control.Reads as control
 use Rattle.calls.proofs.command.command.Kinds as command-kinds
 use Rattle.calls.proofs.command.command.Reads as command
+use Rattle.calls.proofs.command.offers.Kinds as offers-kinds
+use Rattle.calls.proofs.command.offers.Reads as offers
 use Rattle.calls.proofs.command.command_step.Kinds as command-step-kinds
 use Rattle.calls.proofs.command.command_step.Reads as command-step
 
@@ -118,6 +122,12 @@ control-only κs a x y s t p q = (once handlingOf unhandled unhandled-handled x 
 
 pub command-only : Only 1 command-kinds.ps command-kinds.r command.Post (λ κs s. tt {0})
 command-only κs a x y s t p q = (once showingOf unshown unshown-shown x y p q, refl)
+
+pub is-in-only : Only 0 is-in-kinds.ps is-in-kinds.r is-in.Post (λ κs s. tt {0})
+is-in-only κs a x y s t p q = (p ∙ sym q, refl)
+
+pub offers-only : Only 0 offers-kinds.ps offers-kinds.r offers.Post (λ κs s. tt {0})
+offers-only κs a x y s t p q = (p ∙ sym q, refl)
 
 pub command-step-only : Only 1 command-step-kinds.ps command-step-kinds.r command-step.Post (λ κs s. tt {0})
 command-step-only κs a x y s t p q = (once steppingOf unstepped unstepped-stepped x y p q, refl)

@@ -97,7 +97,7 @@ fn decoded(lun: u8, blocklength: u8, block: [u8; 16]) -> Step
 }
 
 // This says whether the step offers the command: it is shown, and no status is present.
-fn offers(device: Device) -> bool
+pub fn offers(device: Device) -> bool
     ensures { λ r. ⌜ r ≡ isOffered device ⌝ }
 {
     if is_in(device, 0) {

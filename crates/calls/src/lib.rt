@@ -89,7 +89,7 @@ pub(crate) fn broken(device: Device, len: usize) -> bool
 }
 
 // This says whether the device is in the state with this `number`.
-pub(crate) fn is_in(device: Device, number: u8) -> bool
+pub fn is_in(device: Device, number: u8) -> bool
     ensures { λ r. ⌜ r ≡ isIn number device ⌝ }
 {
     let state = device.state;

@@ -1,25 +1,146 @@
--- What each way through a call owes (`ways`): the call by value was made on the device that the bytes hold, and what it shows or offers
--- went into what the caller lent for it. Assumes nothing.
-use mathlib.Core.Path.{_≡_, sym, ap, _∙_}
-use mathlib.Core.Bool.{Bool, true, false, not}
-use mathlib.Core.List.{List}
-use Prim.Native.Nat.{ℕ}
-use lib.ListN.{length}
+-- What each way through a call owes (`ways`): the record is refused, it shows or offers nothing, or its command went into what the caller
+-- lent for it. Assumes nothing.
+use mathlib.Core.Path.{_≡_, refl, sym, ap, _∙_}
+use mathlib.Core.Bool.{Bool, true, false, not, cond, _&&_}
+use mathlib.Core.List.{List, [], _∷_}
+use Prim.Native.Nat.{ℕ, _+_, _-_, _≤_, _<_}
+use native.Mathlib.Nat.{add-sub-cancel-left}
+use native.Mathlib.Omega.{arith}
+use lib.Dec.{eqb}
+use lib.ListN.{length, take, drop}
+use lib.Seq.{take-take}
 use borrow.Author.Tests.{eq-eqb, ne-eqb}
+use Rattle.fields.specs.Field.{bytesAt, get}
 use Rattle.fields.specs.Overlay.{overlay}
+use Rattle.fields.proofs.Bools.{and-left, and-right, not-true, not-false}
 use Rattle.fields.proofs.Overlay.{overlay-whole}
-use Rattle.answers.specs.Answers.{answerOf}
+use Rattle.fields.proofs.Seq.{length-part}
+use Rattle.answers.specs.Answers.{answer}
 use Rattle.device.specs.declared.Device.{Device}
-use Rattle.scsi.specs.declared.ScsiCommand.{ScsiCommand}
-use Rattle.calls.specs.declared.command.Shown as command
-use Rattle.calls.specs.declared.command.Offer.the-variants.{Command, Nothing as None}
-use Rattle.calls.specs.declared.command.Step.{Step}
-use Rattle.calls.specs.Command.{showingOf, commandCall, Stepping, offeredOf, steppingOf, commandStepCall}
-use Rattle.scsi.specs.Numbers.{commandNumbers}
-use Rattle.recordbytes.specs.Record.{isKnown, deviceAt}
+use Rattle.device.specs.declared.Numbers.{Numbers}
+use Rattle.device.specs.Device.{numbersOf}
+use Rattle.device.specs.Broken.{isWhole, unlessBroken}
+use Rattle.device.proofs.Wholly.{is-whole}
+use Rattle.scsi.specs.Decoding.{Decoding, decoded, decodeCall, plainCall}
+use Rattle.scsi.specs.Numbers.{DecodeOutcome, decodeOutcome, decodeOutcomeOf, shownDecode}
+use Rattle.calls.specs.Checks.{isIn}
+use Rattle.calls.specs.Command.{Showing, hiding, showing, isShown, commandCall, Stepping, stepping, isOffered, steppingOfDecoding, blockOf, commandStepCall}
+use Rattle.recordbytes.specs.Layout as field
+use Rattle.recordbytes.specs.Record.{isKnown, wrapperAt, deviceAt}
+use Rattle.recordbytes.proofs.Stored.{is-known}
 use Rattle.border.specs.Word.{word, answerWord}
-use Rattle.border.proofs.Lending.{known-then, long-then, unknown, made}
-use Rattle.commandbytes.specs.Command.{commandOutcome, commandOutcomeOf, commandOn, commandOutcomeOfStep, commandStepOn}
+use Rattle.border.specs.Record.{onDevice}
+use Rattle.border.proofs.Lending.{long-then}
+use Rattle.commandbytes.specs.Command.{CommandOutcome, commandOutcome, commandOutcomeOf, commandOn, commandOutcomeOfStep, commandStepOn}
+
+-- ---- the record
+
+module _ (r io : List ℕ) where
+  -- This is the test of a call.
+  stands : Bool
+  stands = isKnown r && isWhole (numbersOf (deviceAt r)) (length io)
+
+  pub no-record : {k : Bool} → k ≡ isKnown r → not k ≡ true → false ≡ isKnown r && isWhole (numbersOf (deviceAt r)) (length io)
+  no-record {k} ek q = rw (← ek, not-true k q)
+
+  pub a-record : {k : Bool} → k ≡ isKnown r → not k ≡ false → {n : Numbers} → n ≡ numbersOf (deviceAt r) → {w : Bool} → w ≡ isWhole n (length io)
+      → w ≡ isKnown r && isWhole (numbersOf (deviceAt r)) (length io)
+  a-record {k} ek q en ew = rw (← ek, not-false k q, ← en) ew
+
+  module _ {u : Bool} (eu : u ≡ isKnown r && isWhole (numbersOf (deviceAt r)) (length io)) (q : not u ≡ false) where
+    holds : stands ≡ true
+    unfolding stands
+    holds = sym eu ∙ not-false u q
+
+    pub long : length r ≡ field.recordSize
+    unfolding stands
+    long = is-known r (and-left _ _ holds) .long
+
+    pub lun-stands : 26 < length r
+    lun-stands = omega (arith, long)
+
+    pub block-fits : get field.blockLength r ≤ 16
+    unfolding stands deviceAt wrapperAt
+    block-fits = is-whole _ _ (and-right (isKnown r) _ holds) .block
+
+  -- A record that is missing and one that is broken look the same to the caller; on any other the call is made.
+  module _ {A B : Type 0} (out : A → B) (refused : A) (done : Device → A) where
+    called : B
+    called = onDevice r (out refused) (λ (d : Device). out (unlessBroken d io refused (done d)))
+
+    none : stands ≡ false → out refused ≡ called
+    unfolding stands called onDevice unlessBroken
+    none = by (isKnown r)
+      where
+        by : (k : Bool) → k && isWhole (numbersOf (deviceAt r)) (length io) ≡ false
+            → out refused ≡ cond k (out (cond (isWhole (numbersOf (deviceAt r)) (length io)) (done (deviceAt r)) refused)) (out refused)
+        by true e = rw e
+        by false e = refl
+
+    made : stands ≡ true → out (done (deviceAt r)) ≡ called
+    unfolding stands called onDevice unlessBroken
+    made e = rw (and-left (isKnown r) _ e, and-right (isKnown r) _ e)
+
+-- ---- the block where it stands in the record
+
+pub shows-block : (r was : List ℕ) → length r ≡ field.recordSize → length was ≡ 16 → {lun n x : ℕ} {l : List ℕ}
+    → l ≡ overlay was 0 (take 16 (drop 36 r)) → lun ≡ get field.lun r → n ≡ get field.blockLength r → x ≡ word 0 lun 0 1 n
+    → commandOutcome x l ≡ commandOutcomeOf was (showing (wrapperAt r))
+unfolding wrapperAt bytesAt
+shows-block r was h e el en ek ex =
+    rw (ex, en, ek, el) (ap (commandOutcome _) (overlay-whole was (take 16 (drop 36 r)) (length-part 36 16 r (omega arith) ∙ sym e)))
+
+-- The part of the record up to the end of the block is the block of the wrapper.
+pub decodes-block : (r was : List ℕ) → get field.blockLength r ≤ 16 → {n : ℕ} → n ≡ get field.blockLength r → {a : ℕ} {l : List ℕ}
+    → decodeOutcome a l ≡ shownDecode (take (36 + n - 36) (drop 36 r)) was → decodeOutcome a l ≡ shownDecode (blockOf (wrapperAt r)) was
+unfolding wrapperAt blockOf bytesAt
+decodes-block r was h {n} en e =
+    e ∙ ap (λ (b : List ℕ). shownDecode b was)
+    (ap (λ (k : ℕ). take k (drop 36 r)) (add-sub-cancel-left 36 n ∙ en) ∙ sym (take-take (get field.blockLength r) 16 (drop 36 r) h))
+
+-- ---- a block that was decoded, as a step
+
+-- This is what a step that gives `o` leaves, where the numbers `was` were lent.
+left : List ℕ → Stepping → CommandOutcome
+left was o = commandOutcomeOfStep (o .answer .number) was (o .offers)
+
+module _ (lun : ℕ) (block was : List ℕ) {a : ℕ} {l : List ℕ} (six : length was ≡ 6) (h : decodeOutcome a l ≡ shownDecode block was) where
+  -- The decoder finds an empty block (`true`) or a command.
+  found : Bool → Decoding
+  found b = cond b (record { answer = 13; commands = [] }) (record { answer = 0; commands = decoded false block ∷ [] })
+
+  Decoded : Bool → Type 0
+  Decoded b = decodeOutcome a l ≡ decodeOutcomeOf was (found b)
+
+  Steps : Bool → ℕ → Type 0
+  Steps b x = commandOutcome x l ≡ left was (steppingOfDecoding lun (found b))
+
+  told : Decoded (eqb (length block) 0)
+  unfolding Decoded found shownDecode plainCall decodeCall
+  told = h
+
+  empty-by : (b : Bool) → Decoded b → (a ≡ 0 → ⊥) → Steps b a
+  unfolding Decoded Steps found left decodeOutcomeOf steppingOfDecoding word
+  empty-by true e n = rw (eq-eqb _ _ six) at (ap (λ (o : DecodeOutcome). commandOutcome (o .number) (o .lent)) e)
+  empty-by false e n = absurd (n (rw (eq-eqb _ _ six) at (ap (λ (o : DecodeOutcome). o .number) e)))
+
+  offered-by : (b : Bool) → Decoded b → a ≡ 0 → {x : ℕ} → x ≡ word 0 lun 0 1 0 → Steps b x
+  unfolding Decoded Steps found left decodeOutcomeOf steppingOfDecoding
+  offered-by true e z ex =
+      let n : a ≡ 13 = rw (eq-eqb _ _ six) at (ap (λ (o : DecodeOutcome). o .number) e) in
+      let no : ⊥ = omega arith in
+      absurd no
+  offered-by false e z ex = rw (ex, rw (eq-eqb _ _ six) at (ap (λ (o : DecodeOutcome). o .lent) e))
+
+  steps-empty : (a ≡ 0 → ⊥) → commandOutcome a l ≡ left was (steppingOfDecoding lun (plainCall block))
+  unfolding Steps found plainCall decodeCall
+  steps-empty n = empty-by (eqb (length block) 0) told n
+
+  steps-offered : a ≡ 0 → {x : ℕ} → x ≡ word 0 lun 0 1 0 → commandOutcome x l ≡ left was (steppingOfDecoding lun (plainCall block))
+  unfolding Steps found plainCall decodeCall
+  steps-offered z ex = offered-by (eqb (length block) 0) told z ex
+
+-- ---- the two calls
 
 module _ (r io was : List ℕ) where
   pub command-wrong : (length was ≡ 16 → ⊥) → commandOutcome 10 was ≡ commandOn r io was
@@ -30,42 +151,59 @@ module _ (r io was : List ℕ) where
   unfolding commandStepOn word
   step-wrong n = rw (ne-eqb _ _ n)
 
-  module _ {k : Bool} (ek : k ≡ isKnown r) where
-    pub command-unknown : length was ≡ 16 → not k ≡ true → commandOutcome 10 was ≡ commandOn r io was
-    unfolding commandOn word
-    command-unknown e q = rw (eq-eqb _ _ e) (unknown r ek (commandOutcome (answerWord 10) was) (λ (d : Device). commandOutcomeOf was (commandCall d io)) q)
+  -- These are the two calls on a device that is not broken.
+  shown : Device → Showing
+  shown d = cond (isShown d) (showing (d .wrapper)) (hiding (answer 0))
 
-    pub step-unknown : length was ≡ 6 → not k ≡ true → commandOutcome 10 was ≡ commandStepOn r io was
-    unfolding commandStepOn word
-    step-unknown e q =
-        rw (eq-eqb _ _ e) (unknown r ek (commandOutcome (answerWord 10) was) (λ (d : Device). commandOutcomeOfStep (commandStepCall d io .answer .number) was (commandStepCall d io .offers)) q)
+  stepped : Device → Stepping
+  stepped d = cond (isOffered d) (steppingOfDecoding (d .wrapper .lun) (plainCall (blockOf (d .wrapper)))) (stepping (answer 0) [])
 
-    module _ (q : not k ≡ false) {d : Device} (ed : d ≡ deviceAt r) where
-      pub command-made : length was ≡ 16 → (c : command.Shown) → showingOf c ≡ commandCall d io → {x : ℕ} {l : List ℕ} → commandOutcome x l ≡ commandOutcomeOf was (showingOf c) → commandOutcome x l ≡ commandOn r io was
-      unfolding commandOn
-      command-made e c ec ex =
-          rw (eq-eqb _ _ e) (ex ∙ ap (commandOutcomeOf was) (rw ed at ec) ∙ made r (commandOutcome (answerWord 10) was) (λ (d : Device). commandOutcomeOf was (commandCall d io)) (known-then r ek q))
+  module _ {u : Bool} (eu : u ≡ isKnown r && isWhole (numbersOf (deviceAt r)) (length io)) where
+    fails : not u ≡ true → stands r io ≡ false
+    unfolding stands
+    fails q = sym eu ∙ not-true u q
 
-      pub step-made : length was ≡ 6 → (s : Step) → steppingOf s ≡ commandStepCall d io → {x : ℕ} {l : List ℕ} → commandOutcome x l ≡ commandOutcomeOfStep (answerOf (s .answer) .number) was (offeredOf (s .offer)) → commandOutcome x l ≡ commandStepOn r io was
-      unfolding commandStepOn
-      step-made e s es ex =
-          rw (eq-eqb _ _ e)
-          (ex ∙ ap (λ (o : Stepping). commandOutcomeOfStep (o .answer .number) was (o .offers)) (rw ed at es)
-          ∙ made r (commandOutcome (answerWord 10) was) (λ (d : Device). commandOutcomeOfStep (commandStepCall d io .answer .number) was (commandStepCall d io .offers)) (known-then r ek q))
+    pub command-refused : length was ≡ 16 → not u ≡ true → commandOutcome 10 was ≡ commandOn r io was
+    unfolding commandOn commandCall called shown word
+    command-refused e q = rw (eq-eqb _ _ e) (none r io (commandOutcomeOf was) (hiding (answer 10)) shown (fails q))
 
-module _ (was : List ℕ) where
-  module _ (c : command.Shown) {a x : ℕ} (ea : a ≡ answerOf (c .answer) .number) where
-    pub shows-command : length was ≡ 16 → length (c .block) ≡ 16 → c .shown ≡ true → {l : List ℕ} → l ≡ overlay was 0 (c .block) → x ≡ word a (c .lun) 0 1 (c .blocklength) → commandOutcome x l ≡ commandOutcomeOf was (showingOf c)
-    shows-command e long t el ex = rw (t, el ∙ overlay-whole was (c .block) (long ∙ sym e), ex, ea)
+    pub step-refused : length was ≡ 6 → not u ≡ true → commandOutcome 10 was ≡ commandStepOn r io was
+    unfolding commandStepOn commandStepCall called stepped left word
+    step-refused e q = rw (eq-eqb _ _ e) (none r io (left was) (stepping (answer 10) []) stepped (fails q))
 
-    pub shows-none : c .shown ≡ false → x ≡ word a (c .lun) 0 0 (c .blocklength) → commandOutcome x was ≡ commandOutcomeOf was (showingOf c)
-    shows-none t ex = rw (t, ex, ea)
+    module _ (q : not u ≡ false) {d : Device} (ed : d ≡ deviceAt r) where
+      on-16 : length was ≡ 16 → commandOutcomeOf was (shown (deviceAt r)) ≡ commandOn r io was
+      unfolding commandOn commandCall called shown
+      on-16 e = rw (eq-eqb _ _ e) (made r io (commandOutcomeOf was) (hiding (answer 10)) shown (holds r io eu q))
 
-  module _ (s : Step) {a x : ℕ} (ea : a ≡ answerOf (s .answer) .number) where
-    pub offers-none : s .offer ≡ None → x ≡ word a 0 0 0 0 → commandOutcome x was ≡ commandOutcomeOfStep (answerOf (s .answer) .number) was (offeredOf (s .offer))
-    offers-none en ex = rw (en, ex, ea)
+      on-6 : length was ≡ 6 → left was (stepped (deviceAt r)) ≡ commandStepOn r io was
+      unfolding commandStepOn commandStepCall called stepped left
+      on-6 e = rw (eq-eqb _ _ e) (made r io (left was) (stepping (answer 10) []) stepped (holds r io eu q))
 
-    pub offers-one : (lun : ℕ) (kind : ScsiCommand) → s .offer ≡ Command lun kind → {l : List ℕ} → l ≡ commandNumbers kind → x ≡ word a lun 0 1 0 → commandOutcome x l ≡ commandOutcomeOfStep (answerOf (s .answer) .number) was (offeredOf (s .offer))
-    offers-one lun kind en el ex = rw (en, el, ex, ea)
+      module _ {t : Bool} (et : t ≡ isIn 0 d) where
+        pub command-none : length was ≡ 16 → t ≡ true → commandOutcome 0 was ≡ commandOn r io was
+        unfolding shown isShown word
+        command-none e p = rw (← ed, ← et, p) at (on-16 e)
 
-pub ruleset ways = (long-then, command-wrong, step-wrong, command-unknown, step-unknown, command-made, step-made, shows-command, shows-none, offers-none, offers-one)
+        pub command-shown : length was ≡ 16 → t ≡ false → {x : ℕ} {l : List ℕ} → commandOutcome x l ≡ commandOutcomeOf was (showing (wrapperAt r)) → commandOutcome x l ≡ commandOn r io was
+        unfolding shown isShown deviceAt
+        command-shown e p ex = ex ∙ rw (← ed, ← et, p) at (on-16 e)
+
+      module _ {t : Bool} (et : t ≡ isOffered d) where
+        pub step-none : length was ≡ 6 → not t ≡ true → commandOutcome 0 was ≡ commandStepOn r io was
+        unfolding stepped left word
+        step-none e p = rw (← ed, ← et, not-true t p) at (on-6 e)
+
+        module _ (e : length was ≡ 6) (p : not t ≡ false) {a : ℕ} {l : List ℕ} (h : decodeOutcome a l ≡ shownDecode (blockOf (wrapperAt r)) was) where
+          decoded-step : left was (steppingOfDecoding (wrapperAt r .lun) (plainCall (blockOf (wrapperAt r)))) ≡ commandStepOn r io was
+          unfolding stepped deviceAt
+          decoded-step = rw (← ed, ← et, not-false t p) at (on-6 e)
+
+          pub step-empty : (a ≡ 0 → ⊥) → commandOutcome a l ≡ commandStepOn r io was
+          step-empty n = steps-empty (wrapperAt r .lun) (blockOf (wrapperAt r)) was e h n ∙ decoded-step
+
+          pub step-offered : a ≡ 0 → {lun x : ℕ} → lun ≡ get field.lun r → x ≡ word 0 lun 0 1 0 → commandOutcome x l ≡ commandStepOn r io was
+          unfolding wrapperAt
+          step-offered z en ex = steps-offered (wrapperAt r .lun) (blockOf (wrapperAt r)) was e h z (rw en at ex) ∙ decoded-step
+
+pub ruleset ways = (long-then, no-record, a-record, long, lun-stands, block-fits, shows-block, decodes-block, command-wrong, step-wrong, command-refused, step-refused, command-none, command-shown, step-none, step-empty, step-offered)

@@ -1,33 +1,54 @@
 // The command shown to the firmware, and the command step, over a record of bytes. Each call takes any bytes of any length, and tests
 // first what it was lent. A refusal with 10 leaves all of it as it was.
-use answers::answer_number;
+// The block is shown and decoded where it stands in the record: copies of the block, and of the command by value, would be most of what
+// these calls need of the firmware's stack.
 use border::word::word;
 use buffer::span::put;
-use calls::command::Offer;
-use calls::command::Shown;
-use calls::command::Step;
+use calls::command::offers;
+use calls::is_in;
+use device::whole;
+use fields::byte;
 use recordbytes::device_at;
+use recordbytes::in_record;
 use recordbytes::known;
-use scsi::numbers::put_command;
+use recordbytes::numbers_at;
+use scsi::numbers::decode_into;
 ghost use mathlib.Core.Path.{_≡_};
+ghost use mathlib.Core.Bool.{_&&_};
+ghost use Prim.Native.Nat.{_≤_};
 ghost use lib.ListN.{length};
-ghost use Rattle.answers.specs.Answers.{answerOf};
-ghost use Rattle.calls.specs.Command.{showingOf, offeredOf};
-ghost use Rattle.commandbytes.specs.Command.{commandOutcome, commandOutcomeOf, commandOn, commandOutcomeOfStep, commandStepOn};
+ghost use Rattle.fields.specs.Field.{get};
+ghost use Rattle.scsi.specs.Numbers.{decodeOutcome, shownDecode};
+ghost use Rattle.device.specs.Device.{numbersOf};
+ghost use Rattle.device.specs.Broken.{isWhole};
+ghost use Rattle.calls.specs.Command.{showing, blockOf};
+ghost use Rattle.recordbytes.specs.Layout.{blockLength, recordSize};
+ghost use Rattle.recordbytes.specs.Record.{isKnown, wrapperAt, deviceAt};
+ghost use Rattle.commandbytes.specs.Command.{commandOutcome, commandOutcomeOf, commandOn, commandStepOn};
 
-// Puts the block of a command that is shown into the lent bytes `block`.
-fn show(c: Shown, block: &mut [u8]) -> u64
-    requires { ⌜ length (now block) ≡ 16 ⌝ }
-    ensures { λ x. ⌜ commandOutcome x (now (block .exit)) ≡ commandOutcomeOf (now (block .entry)) (showingOf c) ⌝ }
+// Says whether the bytes are a record, and one that is not broken.
+fn unbroken(record: &[u8], io: &[u8]) -> bool
+    ensures { λ r. ⌜ r ≡ isKnown (now («record» .entry)) && isWhole (numbersOf (deviceAt (now («record» .entry)))) (length (now (io .entry))) ⌝ }
 {
-    let answer = c.answer;
-    let bytes = c.block;
-    let number = answer_number(answer);
-    if c.shown {
-        put(block, 0, &bytes);
-        return word(number, c.lun, 0, 1, c.blocklength as u32);
+    if !known(record) {
+        return false;
     }
-    word(number, c.lun, 0, 0, c.blocklength as u32)
+    whole(numbers_at(record), io.len())
+}
+
+// Shows the record's command: its 16 bytes of block go into `block`.
+fn show_block(record: &[u8], block: &mut [u8]) -> u64
+    requires { ⌜ (length (now «record») ≡ recordSize) × (length (now block) ≡ 16) ⌝ }
+    ensures { λ x. ⌜ commandOutcome x (now (block .exit)) ≡ commandOutcomeOf (now (block .entry)) (showing (wrapperAt (now («record» .entry)))) ⌝ }
+{
+    put(block, 0, &record[in_record::BLOCK..in_record::SIZE]);
+    word(
+        0,
+        byte(record, in_record::LUN),
+        0,
+        1,
+        byte(record, in_record::BLOCK_LENGTH) as u32,
+    )
 }
 
 // Shows the command: its block goes into `block`, its LUN and the block length into the result.
@@ -37,28 +58,22 @@ pub fn command(record: &[u8], io: &[u8], block: &mut [u8]) -> u64
     if block.len() != 16 {
         return 10;
     }
-    if !known(record) {
+    if !unbroken(record, io) {
         return 10;
     }
-    let c = calls::command::command(device_at(record), io);
-    show(c, block)
+    if is_in(device_at(record), 0) {
+        return 0;
+    }
+    show_block(record, block)
 }
 
-// Puts a command that is offered into the six lent numbers `command`.
-fn offer(s: Step, command: &mut [u64]) -> u64
-    requires { ⌜ length (now command) ≡ 6 ⌝ }
-    ensures { λ x. ⌜ commandOutcome x (now (command .exit)) ≡ commandOutcomeOfStep (answerOf (s .answer) .number) (now (command .entry)) (offeredOf (s .offer)) ⌝ }
+// Decodes the block of the record's command into the six numbers `command`.
+fn decode_block(record: &[u8], command: &mut [u64]) -> u32
+    requires { ⌜ (length (now «record») ≡ recordSize) × (get blockLength (now «record») ≤ 16) ⌝ }
+    ensures { λ r. ⌜ decodeOutcome r (now (command .exit)) ≡ shownDecode (blockOf (wrapperAt (now («record» .entry)))) (now (command .entry)) ⌝ }
 {
-    let answer = s.answer;
-    let number = answer_number(answer);
-    let offer = s.offer;
-    match offer {
-        Offer::Nothing => word(number, 0, 0, 0, 0),
-        Offer::Command(lun, kind) => {
-            put_command(command, kind);
-            word(number, lun, 0, 1, 0)
-        }
-    }
+    let end = in_record::BLOCK + byte(record, in_record::BLOCK_LENGTH) as usize;
+    decode_into(&record[in_record::BLOCK..end], command)
 }
 
 // Offers the command, decoded: its numbers go into `command`, its LUN into the result.
@@ -68,9 +83,15 @@ pub fn command_step(record: &[u8], io: &[u8], command: &mut [u64]) -> u64
     if command.len() != 6 {
         return 10;
     }
-    if !known(record) {
+    if !unbroken(record, io) {
         return 10;
     }
-    let s = calls::command::command_step(device_at(record), io);
-    offer(s, command)
+    if !offers(device_at(record)) {
+        return 0;
+    }
+    let answer = decode_block(record, command);
+    if answer != 0 {
+        return answer as u64;
+    }
+    word(0, byte(record, in_record::LUN), 0, 1, 0)
 }

@@ -1,5 +1,6 @@
 -- These laws are about a command as six numbers: what each way through a function owes (`ways`). Assumes nothing.
 use mathlib.Core.Path.{_≡_, sym, ap, _∙_}
+use mathlib.Core.Bool.{Bool, false}
 use mathlib.Core.List.{List}
 use Prim.Native.Nat.{ℕ, _≤_, _<_}
 use lib.Dec.{eqb}
@@ -7,9 +8,7 @@ use lib.ListN.{length, set}
 use borrow.Author.Tests.{eq-eqb, ne-eqb, le-leb, lt-leb}
 use Rattle.fields.proofs.Seq.{all-stored}
 use Rattle.scsi.specs.declared.ScsiCommand.{ScsiCommand}
-use Rattle.scsi.specs.declared.Decoded.{Decoded}
-use Rattle.scsi.specs.declared.Decoded.the-variants.{Command, Empty}
-use Rattle.scsi.specs.Decoding.{Decoding, answerOf, decodeCall, plainCall}
+use Rattle.scsi.specs.Decoding.{Decoding, decoded, decodeCall, plainCall}
 use Rattle.scsi.specs.Numbers.{six, commandNumbers, decodeOutcome, decodeOutcomeOf, shownDecode, shownTold}
 
 pub six-stored : (l : List ℕ) (k a b c d e : ℕ) → length l ≡ 6 → set (set (set (set (set (set l 0 k) 1 a) 2 b) 3 c) 4 d) 5 e ≡ six k a b c d e
@@ -26,24 +25,26 @@ pub not-six : (was : List ℕ) (o : Decoding) → (length was ≡ 6 → ⊥) →
 unfolding decodeOutcomeOf
 not-six was o n = rw (ne-eqb _ _ n)
 
-pub reports : (was : List ℕ) (d : Decoded) (c : ScsiCommand) {l : List ℕ} → length was ≡ 6 → d ≡ Command c → l ≡ commandNumbers c → decodeOutcome 0 l ≡ decodeOutcomeOf was (answerOf d)
-unfolding decodeOutcomeOf
-reports was d c e ed el = rw (eq-eqb _ _ e, ed, el)
+module _ (extended : Bool) (was block : List ℕ) (six : length was ≡ 6) where
+  pub decodes : {c : ScsiCommand} {l : List ℕ} → (length block ≡ 0 → ⊥) → c ≡ decoded extended block → l ≡ commandNumbers c
+      → decodeOutcome 0 l ≡ decodeOutcomeOf was (decodeCall extended block)
+  unfolding decodeOutcomeOf decodeCall
+  decodes n ec el = rw (eq-eqb _ _ six, ne-eqb _ _ n, el, ec)
 
-pub reports-empty : (was : List ℕ) (d : Decoded) → length was ≡ 6 → d ≡ Empty → decodeOutcome 13 was ≡ decodeOutcomeOf was (answerOf d)
-unfolding decodeOutcomeOf
-reports-empty was d e ed = rw (eq-eqb _ _ e, ed)
+  pub decodes-nothing : length block ≡ 0 → decodeOutcome 13 was ≡ decodeOutcomeOf was (decodeCall extended block)
+  unfolding decodeOutcomeOf decodeCall
+  decodes-nothing e = rw (eq-eqb _ _ six, eq-eqb _ _ e)
 
-pub decodes : (was block : List ℕ) (d : Decoded) {r : ℕ} {l : List ℕ} → answerOf d ≡ plainCall block → decodeOutcome r l ≡ decodeOutcomeOf was (answerOf d) → decodeOutcome r l ≡ shownDecode block was
-unfolding shownDecode
-decodes was block d ed er = er ∙ ap (decodeOutcomeOf was) ed
+pub plainly : (was block : List ℕ) {r : ℕ} {l : List ℕ} → decodeOutcome r l ≡ decodeOutcomeOf was (decodeCall false block) → decodeOutcome r l ≡ shownDecode block was
+unfolding shownDecode plainCall
+plainly was block h = h
 
-pub decodes-told : (was block : List ℕ) (x : ℕ) (d : Decoded) {r : ℕ} {l : List ℕ} → x ≤ 1 → answerOf d ≡ decodeCall (eqb x 1) block → decodeOutcome r l ≡ decodeOutcomeOf was (answerOf d) → decodeOutcome r l ≡ shownTold x block was
+pub told : (was block : List ℕ) (x : ℕ) {r : ℕ} {l : List ℕ} → x ≤ 1 → decodeOutcome r l ≡ decodeOutcomeOf was (decodeCall (eqb x 1) block) → decodeOutcome r l ≡ shownTold x block was
 unfolding shownTold
-decodes-told was block x d h ed er = rw (le-leb x 1 h) (er ∙ ap (decodeOutcomeOf was) ed)
+told was block x h e = rw (le-leb x 1 h) e
 
 pub no-flag : (was block : List ℕ) (x : ℕ) → 1 < x → decodeOutcome 10 was ≡ shownTold x block was
 unfolding shownTold
 no-flag was block x h = rw (lt-leb x 1 h)
 
-pub ruleset ways = (six-stored, put-in, not-six, reports, reports-empty, decodes, decodes-told, no-flag)
+pub ruleset ways = (six-stored, put-in, not-six, decodes, decodes-nothing, plainly, told, no-flag)

@@ -1,11 +1,12 @@
 // For callers in C and Rust a command is six numbers: which command it is, in the order of the Rust's enum, and its fields. The decoder's
 // two entries stand here with the command in such numbers.
-use crate::Decoded;
+use crate::PLAINLY_EXTENDED;
 use crate::PageControl;
 use crate::ScsiCommand;
+use crate::command;
 ghost use mathlib.Core.Path.{_≡_};
 ghost use lib.ListN.{length};
-ghost use Rattle.scsi.specs.Decoding.{answerOf};
+ghost use Rattle.scsi.specs.Decoding.{decodeCall};
 ghost use Rattle.scsi.specs.Numbers.{flagNumber, pageControlNumber, six, commandNumbers, decodeOutcome, decodeOutcomeOf, shownDecode, shownTold};
 
 // Gives 1 for a flag that is set, and 0 for one that is not.
@@ -118,39 +119,37 @@ pub fn put_command(lent: &mut [u64], command: ScsiCommand)
     }
 }
 
-// Gives 01's number of the answer `d`, and stores a command in the numbers `lent`. If these are not six the answer is 10.
-fn report(lent: &mut [u64], d: Decoded) -> u32
-    ensures { λ r. ⌜ decodeOutcome r (now (lent .exit)) ≡ decodeOutcomeOf (now (lent .entry)) (answerOf d) ⌝ }
+// Decodes `block`, and stores its command in the six numbers `lent`. Nothing but the command itself stands between the two: each further
+// copy of a command is 24 bytes of stack. The answer is 0 if the command stands there, 13 if the block is empty, and 10 if `lent` does
+// not have six numbers.
+fn decode_to(block: &[u8], extended: bool, lent: &mut [u64]) -> u32
+    ensures { λ r. ⌜ decodeOutcome r (now (lent .exit)) ≡ decodeOutcomeOf (now (lent .entry)) (decodeCall extended (now (block .entry))) ⌝ }
 {
     if lent.len() != 6 {
         return 10;
     }
-    match d {
-        Decoded::Command(c) => {
-            put_command(lent, c);
-            0
-        }
-        Decoded::Empty => 13,
+    if block.len() == 0 {
+        return 13;
     }
+    let c = command(block, extended);
+    put_command(lent, c);
+    0
 }
 
-// Decodes `block` with extended addressing off. It answers 0 if the command stands in the six numbers `lent`, 13 if the block is
-// empty, and 10 if `lent` does not have six numbers.
+// Decodes `block` with extended addressing off. It answers as `decode_to` does.
 pub fn decode_into(block: &[u8], lent: &mut [u64]) -> u32
     ensures { λ r. ⌜ decodeOutcome r (now (lent .exit)) ≡ shownDecode (now (block .entry)) (now (lent .entry)) ⌝ }
 {
-    let d = crate::decode(block);
-    report(lent, d)
+    decode_to(block, PLAINLY_EXTENDED, lent)
 }
 
 // Decodes `block` with extended addressing off (`extended` is 0) or on (1). For any other `extended` it answers 10;
-// its other answers are those of `decode_into`.
+// its other answers are those of `decode_to`.
 pub fn decode_told_into(block: &[u8], extended: u32, lent: &mut [u64]) -> u32
     ensures { λ r. ⌜ decodeOutcome r (now (lent .exit)) ≡ shownTold extended (now (block .entry)) (now (lent .entry)) ⌝ }
 {
     if 1 < extended {
         return 10;
     }
-    let d = crate::decode_told(block, extended == 1);
-    report(lent, d)
+    decode_to(block, extended == 1, lent)
 }

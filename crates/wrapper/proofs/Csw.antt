@@ -130,10 +130,10 @@ module _ (tag : ℕ) (r : Residue) (status : ℕ) where
   are-ordered h =
       sym (byte-stored (counted tag r) 12 status h (omega (arith, length-counted tag r)))
       ∙ ap (λ (l : List ℕ). set l 12 status)
-        (sym (put-stored (tagged tag) 8 4 (r .0) (omega (arith, length-tagged tag)))
-        ∙ ap (λ (l : List ℕ). sets l 8 (digits 4 (r .0)))
-          (sym (put-stored signed 4 4 tag (omega (arith, length-signed)))
-          ∙ ap (λ (l : List ℕ). sets l 4 (digits 4 tag)) (sym (put-stored blank 0 4 statusSignature (lit≤ tt)))))
+      (sym (put-stored (tagged tag) 8 4 (r .0) (omega (arith, length-tagged tag)))
+      ∙ ap (λ (l : List ℕ). sets l 8 (digits 4 (r .0)))
+      (sym (put-stored signed 4 4 tag (omega (arith, length-signed)))
+      ∙ ap (λ (l : List ℕ). sets l 4 (digits 4 tag)) (sym (put-stored blank 0 4 statusSignature (lit≤ tt)))))
       ∙ in-order blank
       ∙ all-stored blank ordered-bytes refl
 

@@ -1,5 +1,4 @@
--- `commandbytes::command_step` meets its contract: the lent numbers are not six, the record is refused, or the call by value is made on
--- the device that the bytes hold. Assumes nothing.
+-- `commandbytes::command_step` meets its contract: what was lent is refused, nothing is offered, or the block is decoded. Assumes nothing.
 use borrow.Author.Needs.{needs}
 use Rattle.commandbytes.proofs.Ways.{ways}
 use Rattle.commandbytes.proofs.command_step.Statement.{statement}
@@ -8,7 +7,4 @@ use Rattle.commandbytes.proofs.command_step.Tie as tie
 pub command-step-spec : {M : Type 1} → statement M
 command-step-spec =
     tie.close (tie.spec
-    (λ c. search (ways, needs))
-    (λ c. search (ways, needs)) (λ c. search (ways, needs))
-    (λ c. search (ways, needs)) (λ c. search (ways, needs)) (λ c. search (ways, needs)) (λ c. search (ways, needs))
-    (λ c. search (ways, needs)))
+    (λ c. search (ways, needs)) (λ c. search needs) (λ c. search (ways, needs)) (λ c. search (ways, needs)) (λ c. search needs) (λ c. search (ways, needs)) (λ c. search (ways, needs)) (λ c. search needs) (λ c. search needs) (λ c. search (ways, needs)) (λ c. search (ways, needs)) (λ c. search needs) (λ c. search needs) (λ c. search (ways, needs)))
