@@ -109,6 +109,18 @@ due_lines() {
     done
 }
 
+# stack_within PROCESSOR FOUND LIBRARY WHEN..: in the file FOUND a line 'CALL BYTES' has the stack that a call was seen to take. Every call has
+# one, and none has more bytes than tools/stack says, with LIBRARY more for the C library's own functions.
+stack_within() {
+    "$root/tools/stack" "$1" >"$2.rows" || failed "tools/stack $1"
+    sed -n '/^souk_/p' "$2.rows" | cut -d ' ' -f 1,3 >"$2.bounds"
+    grep -xE 'souk_[a-z_]+ [0-9]+' "$2" | LC_ALL=C sort >"$2.seen"
+    LC_ALL=C join "$2.bounds" "$2.seen" >"$2.both"
+    [[ $(wc -l <"$2.both") -eq $(wc -l <"$2.bounds") ]] || failed "$1: not every call's stack was seen"
+    awk -v library="$3" '$3 > $2 + library { print; wrong = 1 } END { exit wrong }' "$2.both" || failed "$1: a call goes deeper than tools/stack says"
+    ok 1 "$1: stack by tools/stack and as seen ${*:4}: $(sed 's/^souk_//' "$2.both" | paste -sd , | sed 's/,/, /g')"
+}
+
 # skipped WHAT WHY: a line that ./check gathers.
 skipped() { echo "skipped: $1: $2"; }
 
