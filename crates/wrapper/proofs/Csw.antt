@@ -21,7 +21,6 @@ use Rattle.fields.proofs.Field.{length-put, put-stored, byte-stored, get-put, g
 use Rattle.fields.proofs.Overlay.{overlay-nothing, overlay-whole}
 use Rattle.fields.proofs.Seq.{all-stored}
 use Rattle.wrapper.specs.declared.status.CommandStatus.{CommandStatus}
-use Rattle.wrapper.specs.declared.status.CommandStatus.the-variants.{Passed, Failed, PhaseError}
 use Rattle.wrapper.specs.declared.status.StatusByte.the-variants.{Known, Refused}
 use Rattle.wrapper.specs.declared.counters.Residue.{Residue}
 use Rattle.wrapper.specs.Status.{statusSignature, dCSWSignature, dCSWTag, dCSWDataResidue, bCSWStatus, statusNumber, statusBytes, StatusAnswering, answerOf, statusCall}
@@ -83,11 +82,6 @@ pub length-status : (tag : ℕ) (r : Residue) (n : ℕ) → length (statusBytes 
 unfolding statusBytes blank signed tagged counted
 length-status tag r n = length-put bCSWStatus n (counted tag r) (omega (arith, length-counted tag r)) ∙ length-counted tag r
 
-number-small : (s : CommandStatus) → statusNumber s < 256
-number-small Passed = lit< tt
-number-small Failed = lit< tt
-number-small PhaseError = lit< tt
-
 -- ---- bytes stored one after the other, as far as there is room
 
 -- A store at an index that the list does not have changes nothing.
@@ -137,14 +131,14 @@ module _ (tag : ℕ) (r : Residue) (status : ℕ) where
       ∙ in-order blank
       ∙ all-stored blank ordered-bytes refl
 
-pub status-stored : (tag : ℕ) (r : Residue) (s : CommandStatus) (d : List ℕ) {a b c : List ℕ} {n : ℕ}
-    → a ≡ sets d 0 (digits 4 statusSignature) → b ≡ sets a 4 (digits 4 tag) → c ≡ sets b 8 (digits 4 (r .0)) → n ≡ statusNumber s
-    → {e : List ℕ} → e ≡ set c 12 n → e ≡ overlay d 0 (take (length d) (statusBytes tag r (statusNumber s)))
-status-stored tag r s d ea eb ec en ee =
+pub status-stored : (tag : ℕ) (r : Residue) (status : ℕ) (d : List ℕ) {a b c : List ℕ} {n : ℕ}
+    → a ≡ sets d 0 (digits 4 statusSignature) → b ≡ sets a 4 (digits 4 tag) → c ≡ sets b 8 (digits 4 (r .0)) → n < 256 → n ≡ status
+    → {e : List ℕ} → e ≡ set c 12 n → e ≡ overlay d 0 (take (length d) (statusBytes tag r status))
+status-stored tag r status d ea eb ec small en ee =
     rw (ee, ec, eb, ea, en)
-    (in-order tag r (statusNumber s) d
-    ∙ sets-front d (ordered-bytes tag r (statusNumber s))
-    ∙ ap (λ (l : List ℕ). overlay d 0 (take (length d) l)) (sym (are-ordered tag r (statusNumber s) (number-small s))))
+    (in-order tag r status d
+    ∙ sets-front d (ordered-bytes tag r status)
+    ∙ ap (λ (l : List ℕ). overlay d 0 (take (length d) l)) (sym (are-ordered tag r status (rw en at small))))
 
 -- An array of 13 bytes is hidden by the status.
 pub status-whole : (tag : ℕ) (r : Residue) (n : ℕ) (d : List ℕ) {m : List ℕ} → length d ≡ 13 → m ≡ overlay d 0 (take (length d) (statusBytes tag r n)) → m ≡ statusBytes tag r n
@@ -180,4 +174,4 @@ module _ (tag : ℕ) (r : Residue) (status : ℕ) where
   unfolding statusBytes blank signed tagged counted
   status-read h = get-put bCSWStatus status (counted tag r) (omega (arith, length-counted tag r)) h
 
-pub ruleset ways = (status-known, status-refused, store-none, number-stored, status-stored, status-whole)
+pub ruleset ways = (status-known, status-refused, store-none, number-stored, status-whole)
