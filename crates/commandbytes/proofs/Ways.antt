@@ -3,7 +3,7 @@
 use mathlib.Core.Path.{_≡_, refl, sym, ap, _∙_}
 use mathlib.Core.Bool.{Bool, true, false, not, cond, _&&_}
 use mathlib.Core.List.{List, [], _∷_}
-use Prim.Native.Nat.{ℕ, _+_, _-_, _≤_, _<_}
+use Prim.Native.Nat.{ℕ, _+_, _-_, _≤_}
 use native.Mathlib.Nat.{add-sub-cancel-left}
 use native.Mathlib.Omega.{arith}
 use lib.Dec.{eqb}
@@ -56,9 +56,6 @@ module _ (r io : List ℕ) where
     unfolding stands
     long = is-known r (and-left _ _ holds) .long
 
-    pub lun-stands : 26 < length r
-    lun-stands = omega (arith, long)
-
     pub block-fits : get field.blockLength r ≤ 16
     unfolding stands deviceAt wrapperAt
     block-fits = is-whole _ _ (and-right (isKnown r) _ holds) .block
@@ -89,6 +86,9 @@ pub shows-block : (r was : List ℕ) → length r ≡ field.recordSize → lengt
 unfolding wrapperAt bytesAt
 shows-block r was h e el en ek ex =
     rw (ex, en, ek, el) (ap (commandOutcome _) (overlay-whole was (take 16 (drop 36 r)) (length-part 36 16 r (omega arith) ∙ sym e)))
+
+pub tells-lun : (r : List ℕ) {lun x : ℕ} → lun ≡ get field.lun r → x ≡ word 0 lun 0 1 0 → x ≡ word 0 (get field.lun r) 0 1 0
+tells-lun r en ex = rw en at ex
 
 -- The part of the record up to the end of the block is the block of the wrapper.
 pub decodes-block : (r was : List ℕ) → get field.blockLength r ≤ 16 → {n : ℕ} → n ≡ get field.blockLength r → {a : ℕ} {l : List ℕ}
@@ -202,8 +202,8 @@ module _ (r io was : List ℕ) where
           pub step-empty : (a ≡ 0 → ⊥) → commandOutcome a l ≡ commandStepOn r io was
           step-empty n = steps-empty (wrapperAt r .lun) (blockOf (wrapperAt r)) was e h n ∙ decoded-step
 
-          pub step-offered : a ≡ 0 → {lun x : ℕ} → lun ≡ get field.lun r → x ≡ word 0 lun 0 1 0 → commandOutcome x l ≡ commandStepOn r io was
+          pub step-offered : a ≡ 0 → {x : ℕ} → x ≡ word 0 (get field.lun r) 0 1 0 → commandOutcome x l ≡ commandStepOn r io was
           unfolding wrapperAt
-          step-offered z en ex = steps-offered (wrapperAt r .lun) (blockOf (wrapperAt r)) was e h z (rw en at ex) ∙ decoded-step
+          step-offered z ex = steps-offered (wrapperAt r .lun) (blockOf (wrapperAt r)) was e h z ex ∙ decoded-step
 
-pub ruleset ways = (long-then, no-record, a-record, long, lun-stands, block-fits, shows-block, decodes-block, command-wrong, step-wrong, command-refused, step-refused, command-none, command-shown, step-none, step-empty, step-offered)
+pub ruleset ways = (long-then, no-record, a-record, long, block-fits, shows-block, tells-lun, decodes-block, command-wrong, step-wrong, command-refused, step-refused, command-none, command-shown, step-none, step-empty, step-offered)

@@ -22,8 +22,9 @@ ghost use Rattle.scsi.specs.Numbers.{decodeOutcome, shownDecode};
 ghost use Rattle.device.specs.Device.{numbersOf};
 ghost use Rattle.device.specs.Broken.{isWhole};
 ghost use Rattle.calls.specs.Command.{showing, blockOf};
-ghost use Rattle.recordbytes.specs.Layout.{blockLength, recordSize};
+ghost use Rattle.recordbytes.specs.Layout.{blockLength, lun, recordSize};
 ghost use Rattle.recordbytes.specs.Record.{isKnown, wrapperAt, deviceAt};
+ghost use Rattle.border.specs.Word as spec;
 ghost use Rattle.commandbytes.specs.Command.{commandOutcome, commandOutcomeOf, commandOn, commandStepOn};
 
 // Says whether the bytes are a record, and one that is not broken.
@@ -76,6 +77,14 @@ fn decode_block(record: &[u8], command: &mut [u64]) -> u32
     decode_into(&record[in_record::BLOCK..end], command)
 }
 
+// Gives the result for a command that is offered: its LUN and the flag.
+fn offered(record: &[u8]) -> u64
+    requires { ⌜ length (now «record») ≡ recordSize ⌝ }
+    ensures { λ x. ⌜ x ≡ spec.word 0 (get lun (now («record» .entry))) 0 1 0 ⌝ }
+{
+    word(0, byte(record, in_record::LUN), 0, 1, 0)
+}
+
 // Offers the command, decoded: its numbers go into `command`, its LUN into the result.
 pub fn command_step(record: &[u8], io: &[u8], command: &mut [u64]) -> u64
     ensures { λ x. ⌜ commandOutcome x (now (command .exit)) ≡ commandStepOn (now («record» .entry)) (now (io .entry)) (now (command .entry)) ⌝ }
@@ -93,5 +102,5 @@ pub fn command_step(record: &[u8], io: &[u8], command: &mut [u64]) -> u64
     if answer != 0 {
         return answer as u64;
     }
-    word(0, byte(record, in_record::LUN), 0, 1, 0)
+    offered(record)
 }

@@ -7,4 +7,4 @@ use Rattle.commandbytes.proofs.command_step.Tie as tie
 pub command-step-spec : {M : Type 1} → statement M
 command-step-spec =
     tie.close (tie.spec
-    (λ c. search (ways, needs)) (λ c. search needs) (λ c. search (ways, needs)) (λ c. search (ways, needs)) (λ c. search needs) (λ c. search (ways, needs)) (λ c. search (ways, needs)) (λ c. search needs) (λ c. search needs) (λ c. search (ways, needs)) (λ c. search (ways, needs)) (λ c. search needs) (λ c. search needs) (λ c. search (ways, needs)))
+    (λ c. search (ways, needs)) (λ c. search needs) (λ c. search (ways, needs)) (λ c. search (ways, needs)) (λ c. search needs) (λ c. search (ways, needs)) (λ c. search (ways, needs)) (λ c. search needs) (λ c. search needs) (λ c. search (ways, needs)) (λ c. search (ways, needs)) (λ c. search needs) (λ c. search (ways, needs)))
