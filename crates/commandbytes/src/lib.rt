@@ -78,7 +78,7 @@ fn decode_block(record: &[u8], command: &mut [u64]) -> u32
 }
 
 // Gives the result for a command that is offered: its LUN and the flag.
-fn offered(record: &[u8]) -> u64
+fn offered_word(record: &[u8]) -> u64
     requires { ⌜ length (now «record») ≡ recordSize ⌝ }
     ensures { λ x. ⌜ x ≡ spec.word 0 (get lun (now («record» .entry))) 0 1 0 ⌝ }
 {
@@ -102,5 +102,5 @@ pub fn command_step(record: &[u8], io: &[u8], command: &mut [u64]) -> u64
     if answer != 0 {
         return answer as u64;
     }
-    offered(record)
+    offered_word(record)
 }

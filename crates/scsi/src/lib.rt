@@ -99,11 +99,11 @@ pub fn decode_told(block: &[u8], extended: bool) -> Decoded
 }
 
 // The plain entry has extended addressing off.
-const PLAINLY_EXTENDED: bool = false;
+const PLAIN_IS_EXTENDED: bool = false;
 
 // Decodes `block` with extended addressing off: this is the plain entry.
 pub fn decode(block: &[u8]) -> Decoded
     ensures { λ r. ⌜ answerOf r ≡ plainCall (now (block .entry)) ⌝ }
 {
-    decode_told(block, PLAINLY_EXTENDED)
+    decode_told(block, PLAIN_IS_EXTENDED)
 }

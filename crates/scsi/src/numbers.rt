@@ -1,6 +1,6 @@
 // For callers in C and Rust a command is six numbers: which command it is, in the order of the Rust's enum, and its fields. The decoder's
 // two entries stand here with the command in such numbers.
-use crate::PLAINLY_EXTENDED;
+use crate::PLAIN_IS_EXTENDED;
 use crate::PageControl;
 use crate::ScsiCommand;
 use crate::command;
@@ -122,7 +122,7 @@ pub fn put_command(lent: &mut [u64], command: ScsiCommand)
 // Decodes `block`, and stores its command in the six numbers `lent`. Nothing but the command itself stands between the two: each further
 // copy of a command is 24 bytes of stack. The answer is 0 if the command stands there, 13 if the block is empty, and 10 if `lent` does
 // not have six numbers.
-fn decode_to(block: &[u8], extended: bool, lent: &mut [u64]) -> u32
+fn put_decoded(block: &[u8], extended: bool, lent: &mut [u64]) -> u32
     ensures { λ r. ⌜ decodeOutcome r (now (lent .exit)) ≡ decodeOutcomeOf (now (lent .entry)) (decodeCall extended (now (block .entry))) ⌝ }
 {
     if lent.len() != 6 {
@@ -136,20 +136,20 @@ fn decode_to(block: &[u8], extended: bool, lent: &mut [u64]) -> u32
     0
 }
 
-// Decodes `block` with extended addressing off. It answers as `decode_to` does.
+// Decodes `block` with extended addressing off. It answers as `put_decoded` does.
 pub fn decode_into(block: &[u8], lent: &mut [u64]) -> u32
     ensures { λ r. ⌜ decodeOutcome r (now (lent .exit)) ≡ shownDecode (now (block .entry)) (now (lent .entry)) ⌝ }
 {
-    decode_to(block, PLAINLY_EXTENDED, lent)
+    put_decoded(block, PLAIN_IS_EXTENDED, lent)
 }
 
 // Decodes `block` with extended addressing off (`extended` is 0) or on (1). For any other `extended` it answers 10;
-// its other answers are those of `decode_to`.
+// its other answers are those of `put_decoded`.
 pub fn decode_told_into(block: &[u8], extended: u32, lent: &mut [u64]) -> u32
     ensures { λ r. ⌜ decodeOutcome r (now (lent .exit)) ≡ shownTold extended (now (block .entry)) (now (lent .entry)) ⌝ }
 {
     if 1 < extended {
         return 10;
     }
-    decode_to(block, extended == 1, lent)
+    put_decoded(block, extended == 1, lent)
 }
