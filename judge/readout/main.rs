@@ -1,8 +1,9 @@
 //! How long a block takes through the exported calls and through the Rust, in one process. `judge/readout/run` builds and
 //! starts this program; docs/READOUT.md says what is measured.
 //!
-//!     time BLOCKS ROUNDS               a line for each packet size and direction: ns per block of both, and their ratio
-//!     run SIDE DIRECTION P BLOCKS      one side alone, once, and nothing is printed: for counting instructions
+//!     time BLOCKS ROUNDS                       a line for each number of blocks in a command, packet size and direction: ns per
+//!                                              block of both sides, their ratio, and how far their rounds lie apart
+//!     run SIDE COMMAND P DIRECTION BLOCKS      one side alone, once, and nothing is printed: for counting instructions
 
 mod cells;
 mod exported;
@@ -16,6 +17,8 @@ use std::time::Instant;
 use story::{Direction, Story};
 use watch::{All, Light, Watch};
 
+/// Blocks in a command: one, and what a Linux host asks for at once.
+const COMMANDS: [u32; 2] = [1, 240];
 const PACKET_SIZES: [usize; 4] = [64, 32, 16, 8];
 const DIRECTIONS: [Direction; 2] = [Direction::ToHost, Direction::FromHost];
 
@@ -37,12 +40,13 @@ fn command(words: &[&str]) -> Option<()> {
             blocks.parse().ok()?,
             rounds.parse().ok().filter(|n| *n > 0)?,
         ),
-        ["run", side, direction, packet_size, blocks] => {
+        ["run", side, command, packet_size, direction, blocks] => {
             let story = Story {
                 direction: DIRECTIONS
                     .into_iter()
                     .find(|known| known.name() == *direction)?,
                 packet_size: packet_size.parse().ok()?,
+                command: command.parse().ok().filter(|n| *n > 0)?,
                 blocks: blocks.parse().ok()?,
             };
             run_one(side, &story)?;
@@ -64,22 +68,35 @@ fn run_one(side: &str, story: &Story) -> Option<()> {
 }
 
 fn time(blocks: u32, rounds: usize) {
-    for packet_size in PACKET_SIZES {
-        for direction in DIRECTIONS {
-            let story = Story {
-                direction,
-                packet_size,
-                blocks,
-            };
-            require_same_bytes(&story);
-            let (exported, original) = medians(&story, rounds);
-            println!(
-                "P {packet_size:2} {:9}  exported {exported:7.1} ns a block, original {original:7.1}, ratio {:.3}",
-                direction.name(),
-                exported / original
-            );
+    for command in COMMANDS {
+        for packet_size in PACKET_SIZES {
+            for direction in DIRECTIONS {
+                let story = Story {
+                    direction,
+                    packet_size,
+                    command,
+                    blocks,
+                };
+                require_same_bytes(&story);
+                print_times(&story, rounds);
+            }
         }
     }
+}
+
+fn print_times(story: &Story, rounds: usize) {
+    let (exported, original) = times(story, rounds);
+    println!(
+        "command {:3}  P {:2}  {:9}  exported {:7.1} ns a block, original {:7.1}, ratio {:.3}, rounds within {:4.1} % and {:4.1} %",
+        story.command,
+        story.packet_size,
+        story.direction.name(),
+        exported.median,
+        original.median,
+        exported.median / original.median,
+        exported.apart,
+        original.apart,
+    );
 }
 
 /// Without the clock: tests that both sides give the host and the firmware the same bytes and answers, all of them.
@@ -90,8 +107,27 @@ fn require_same_bytes(story: &Story) {
     assert_eq!(exported, original, "the two sides part");
 }
 
-/// Nanoseconds per block. The sides take turns, and they also take turns in being first.
-fn medians(story: &Story, rounds: usize) -> (f64, f64) {
+/// What the rounds of one side come to.
+struct Times {
+    /// Nanoseconds per block.
+    median: f64,
+    /// How far the middle half of the rounds reaches, in per cent of the median: how steady the machine was.
+    apart: f64,
+}
+
+impl Times {
+    fn of(mut rounds: Vec<f64>, blocks: u32) -> Times {
+        rounds.sort_by(f64::total_cmp);
+        let part = |quarters: usize| rounds[(rounds.len() - 1) * quarters / 4];
+        Times {
+            median: part(2) / f64::from(blocks),
+            apart: 100.0 * (part(3) - part(1)) / part(2),
+        }
+    }
+}
+
+/// Of the exported calls and of the Rust. The sides take turns, and they also take turns in being first.
+fn times(story: &Story, rounds: usize) -> (Times, Times) {
     let (mut exported, mut original) = (Vec::new(), Vec::new());
     for round in 0..rounds {
         for turn in [round, round + 1] {
@@ -102,8 +138,10 @@ fn medians(story: &Story, rounds: usize) -> (f64, f64) {
             }
         }
     }
-    let a_block = |times: Vec<f64>| median(times) / f64::from(story.blocks);
-    (a_block(exported), a_block(original))
+    (
+        Times::of(exported, story.blocks),
+        Times::of(original, story.blocks),
+    )
 }
 
 fn timed(story: &Story, run: fn(&Story, &mut Light)) -> f64 {
@@ -113,11 +151,6 @@ fn timed(story: &Story, run: fn(&Story, &mut Light)) -> f64 {
     let took = began.elapsed().as_nanos() as f64;
     std::hint::black_box(watch);
     took
-}
-
-fn median(mut times: Vec<f64>) -> f64 {
-    times.sort_by(f64::total_cmp);
-    times[times.len() / 2]
 }
 
 fn by_exported(story: &Story, watch: &mut impl Watch) {

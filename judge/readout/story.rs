@@ -1,5 +1,5 @@
-//! The same work for both sides: the host sends a wrapper, a block of 512 bytes goes one way or the other, the firmware
-//! sets a status, and polls go on until its 13 bytes are out.
+//! The same work for both sides: the host sends a wrapper, blocks of 512 bytes go one way or the other, one at a time, the
+//! firmware sets a status with the last of them, and polls go on until its 13 bytes are out.
 
 use crate::cells::LARGEST_PACKET;
 use crate::watch::Watch;
@@ -40,37 +40,63 @@ impl Direction {
 pub struct Story {
     pub direction: Direction,
     pub packet_size: usize,
+    /// How many blocks a command moves; the last command moves what is left.
+    pub command: u32,
     pub blocks: u32,
 }
 
 impl Story {
     pub fn run(&self, side: &mut impl Side, watch: &mut impl Watch) {
         let mut data: [u8; BLOCK] = std::array::from_fn(|at| (at * 7 + at / 256) as u8);
-        for block in 0..self.blocks {
-            data[..4].copy_from_slice(&block.to_le_bytes());
-            match self.direction {
-                Direction::ToHost => self.block_to_host(side, watch, block, &data),
-                Direction::FromHost => self.block_from_host(side, watch, block, &data),
+        let mut done = 0;
+        while done < self.blocks {
+            let blocks = self.command.min(self.blocks - done);
+            self.host_sends(side, watch, &self.wrapper(done, blocks));
+            for block in 1..=blocks {
+                data[..4].copy_from_slice(&(done + block).to_le_bytes());
+                let last = (block == blocks).then_some(blocks);
+                match self.direction {
+                    Direction::ToHost => self.block_to_host(side, watch, &data, last),
+                    Direction::FromHost => self.block_from_host(side, watch, &data, last),
+                }
             }
+            done += blocks;
         }
     }
 
-    fn block_to_host(&self, side: &mut impl Side, watch: &mut impl Watch, tag: u32, data: &[u8]) {
-        self.host_sends(side, watch, &wrapper(tag, 0x80));
+    /// `last` is the number of the command's blocks, with the last of them.
+    fn block_to_host(
+        &self,
+        side: &mut impl Side,
+        watch: &mut impl Watch,
+        data: &[u8],
+        last: Option<u32>,
+    ) {
         let put = side.write_data(data);
         assert_eq!(put, BLOCK, "the buffer takes a whole block");
-        side.set_status(BLOCK as u32);
-        host_takes(side, watch, BLOCK + STATUS);
+        let mut due = BLOCK;
+        if let Some(blocks) = last {
+            side.set_status(blocks * BLOCK as u32);
+            due += STATUS;
+        }
+        host_takes(side, watch, due);
     }
 
-    fn block_from_host(&self, side: &mut impl Side, watch: &mut impl Watch, tag: u32, data: &[u8]) {
-        self.host_sends(side, watch, &wrapper(tag, 0));
+    fn block_from_host(
+        &self,
+        side: &mut impl Side,
+        watch: &mut impl Watch,
+        data: &[u8],
+        last: Option<u32>,
+    ) {
         self.host_sends(side, watch, data);
         let mut destination = [0; BLOCK];
         let got = side.read_data(&mut destination);
         watch.read(&destination[..got]);
-        side.set_status(BLOCK as u32);
-        host_takes(side, watch, STATUS);
+        if let Some(blocks) = last {
+            side.set_status(blocks * BLOCK as u32);
+            host_takes(side, watch, STATUS);
+        }
     }
 
     /// In packets of P, one in each poll.
@@ -80,9 +106,26 @@ impl Story {
             watch.polled(answer, &side.packet()[..sent]);
         }
     }
+
+    /// READ (10) or WRITE (10); the Rust does not look at the rest of the command block.
+    fn wrapper(&self, tag: u32, blocks: u32) -> [u8; WRAPPER] {
+        let (flags, operation) = match self.direction {
+            Direction::ToHost => (0x80, 0x28),
+            Direction::FromHost => (0, 0x2A),
+        };
+        let mut bytes = [0; WRAPPER];
+        bytes[..4].copy_from_slice(b"USBC");
+        bytes[4..8].copy_from_slice(&tag.to_le_bytes());
+        bytes[8..12].copy_from_slice(&(blocks * BLOCK as u32).to_le_bytes());
+        bytes[12] = flags;
+        bytes[14] = 10;
+        bytes[15] = operation;
+        bytes[22..24].copy_from_slice(&(blocks as u16).to_be_bytes());
+        bytes
+    }
 }
 
-/// Polls until this many bytes are out. After a status every poll sends something.
+/// Polls until this many bytes are out. While bytes are unread or a status is due, every poll sends something.
 fn host_takes(side: &mut impl Side, watch: &mut impl Watch, count: usize) {
     let mut taken = 0;
     while taken < count {
@@ -91,17 +134,4 @@ fn host_takes(side: &mut impl Side, watch: &mut impl Watch, count: usize) {
         watch.polled(answer, &side.packet()[..sent]);
         taken += sent;
     }
-}
-
-/// READ (10) or WRITE (10) of one block; the Rust does not look at the rest of the command block.
-fn wrapper(tag: u32, flags: u8) -> [u8; WRAPPER] {
-    let mut bytes = [0; WRAPPER];
-    bytes[..4].copy_from_slice(b"USBC");
-    bytes[4..8].copy_from_slice(&tag.to_le_bytes());
-    bytes[8..12].copy_from_slice(&(BLOCK as u32).to_le_bytes());
-    bytes[12] = flags;
-    bytes[14] = 10;
-    bytes[15] = if flags == 0 { 0x2A } else { 0x28 };
-    bytes[23] = 1;
-    bytes
 }
