@@ -1,4 +1,4 @@
--- proofs.Through    a packet that goes through a local array, once for every length
+-- proofs.Sizes      what each way through the function owes, by the packet size
 -- proofs.Unique     no second answer satisfies the promise
-pub mod Through
+pub mod Sizes
 pub mod Unique

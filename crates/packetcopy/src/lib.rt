@@ -1,72 +1,39 @@
-// A packet is put into a slice, as `put` does it. A packet of one of the four packet sizes goes through a local array, so that the
-// compiler knows how many bytes there are and moves them without a loop.
-use buffer::span::put;
+// A packet of one of the four packet sizes is copied. The compiler knows each size, and so it moves the bytes without a loop.
+use buffer::span::copy16;
+use buffer::span::copy32;
+use buffer::span::copy64;
+use buffer::span::copy8;
 ghost use mathlib.Core.Path.{_≡_};
+ghost use mathlib.Core.Bool.{cond};
 ghost use Prim.Native.Nat.{_+_, _≤_};
-ghost use lib.ListN.{length};
+ghost use lib.ListN.{length, take, drop};
 ghost use Rattle.fields.specs.Overlay.{overlay};
+ghost use Rattle.device.specs.Create.{isPacketSize};
 
-// Puts the 64 bytes of `src` into `dst` at `at`.
-fn put64(dst: &mut [u8], at: usize, src: &[u8])
-    requires { ⌜ (length (now src) ≡ 64) × (at + 64 ≤ length (now dst)) ⌝ }
-    ensures { λ _. ⌜ now (dst .exit) ≡ overlay (now (dst .entry)) at (now (src .entry)) ⌝ }
+// Copies `p` bytes if `p` is a packet size, and says whether it is one: the bytes of `src` from index `from` on go to `dst`, from index
+// `at` on. The test costs nothing here, because each size is copied by code of its own.
+pub fn put_packet(dst: &mut [u8], at: usize, src: &[u8], from: usize, p: usize) -> bool
+    requires { ⌜ (from + p ≤ length (now src)) × (at + p ≤ length (now dst)) ⌝ }
+    ensures { λ x. ⌜ (x ≡ isPacketSize p) × (now (dst .exit) ≡ cond (isPacketSize p) (overlay (now (dst .entry)) at (take p (drop from (now (src .entry))))) (now (dst .entry))) ⌝ }
 {
-    let mut bytes = [0u8; 64];
-    put(&mut bytes, 0, &src[..64]);
-    put(dst, at, &bytes);
-}
-
-// Puts the 32 bytes of `src` into `dst` at `at`.
-fn put32(dst: &mut [u8], at: usize, src: &[u8])
-    requires { ⌜ (length (now src) ≡ 32) × (at + 32 ≤ length (now dst)) ⌝ }
-    ensures { λ _. ⌜ now (dst .exit) ≡ overlay (now (dst .entry)) at (now (src .entry)) ⌝ }
-{
-    let mut bytes = [0u8; 32];
-    put(&mut bytes, 0, &src[..32]);
-    put(dst, at, &bytes);
-}
-
-// Puts the 16 bytes of `src` into `dst` at `at`.
-fn put16(dst: &mut [u8], at: usize, src: &[u8])
-    requires { ⌜ (length (now src) ≡ 16) × (at + 16 ≤ length (now dst)) ⌝ }
-    ensures { λ _. ⌜ now (dst .exit) ≡ overlay (now (dst .entry)) at (now (src .entry)) ⌝ }
-{
-    let mut bytes = [0u8; 16];
-    put(&mut bytes, 0, &src[..16]);
-    put(dst, at, &bytes);
-}
-
-// Puts the 8 bytes of `src` into `dst` at `at`.
-fn put8(dst: &mut [u8], at: usize, src: &[u8])
-    requires { ⌜ (length (now src) ≡ 8) × (at + 8 ≤ length (now dst)) ⌝ }
-    ensures { λ _. ⌜ now (dst .exit) ≡ overlay (now (dst .entry)) at (now (src .entry)) ⌝ }
-{
-    let mut bytes = [0u8; 8];
-    put(&mut bytes, 0, &src[..8]);
-    put(dst, at, &bytes);
-}
-
-// Puts all of `src`, whatever its length, into `dst` at `at`.
-pub fn put_packet(dst: &mut [u8], at: usize, src: &[u8])
-    requires { ⌜ at + length (now src) ≤ length (now dst) ⌝ }
-    ensures { λ _. ⌜ now (dst .exit) ≡ overlay (now (dst .entry)) at (now (src .entry)) ⌝ }
-{
-    let n = src.len();
-    if n == 64 {
-        put64(dst, at, src);
-        return;
+    if p < 32 {
+        if p == 8 {
+            copy8(dst, at, src, from);
+            return true;
+        }
+        if p == 16 {
+            copy16(dst, at, src, from);
+            return true;
+        }
+        return false;
     }
-    if n == 32 {
-        put32(dst, at, src);
-        return;
+    if p == 64 {
+        copy64(dst, at, src, from);
+        return true;
     }
-    if n == 16 {
-        put16(dst, at, src);
-        return;
+    if p == 32 {
+        copy32(dst, at, src, from);
+        return true;
     }
-    if n == 8 {
-        put8(dst, at, src);
-        return;
-    }
-    put(dst, at, src);
+    false
 }
