@@ -6,10 +6,12 @@
 --     length-put                     a message keeps its length
 --     get-put                        what was written is read
 --     bytes-before, bytes-behind, get-before, get-behind    a field before or after the written one keeps its bytes, and reads as before
+--     put-own                        a field's own number, written again, changes nothing
+--     all-bytes, one-byte            what `put-own` asks: the field's bytes are bytes; all of the message are, or its one byte is
 --     shifted-one                    the divisor of a field of bits
 -- Assumes nothing.
 use mathlib.Core.Path.{_≡_, refl, sym, ap, _∙_}
-use mathlib.Core.List.{List, [], _∷_, _++_, reverse, reverse-append, reverse-reverse}
+use mathlib.Core.List.{List, [], _∷_, _++_, reverse, reverseAux, reverse-append, reverse-reverse}
 use Prim.Native.Nat.{ℕ, zero, suc, _+_, _*_, _^_, _/_, _%_, _≤_, _<_}
 use native.Mathlib.Nat.{add-comm, one-mul, mul-assoc, mul-comm, pow-suc, mod-add-div, mod-eq-of-lt, div-lt-iff-lt-mul, zero-lt-suc}
 use native.Mathlib.Omega.{arith}
@@ -20,8 +22,8 @@ use lib.ListN.{length, take, drop, getD, set, take-append-drop, length-drop}
 use lib.Seq.{drop-cons, drop-drop, take-append-le, drop-append-le, take-add, length-take-le, sets, sets-eq}
 use Rattle.fields.specs.Overlay.{overlay}
 use Rattle.fields.specs.Field.{Order, little, big, Field, littleEndian, bigEndian, oneByte, bytesAt, counted, digits, ordered, get, put}
-use Rattle.fields.proofs.Overlay.{length-overlay, part-inside, part-before, part-behind}
-use Rattle.fields.proofs.Seq.{length-reverse}
+use Rattle.fields.proofs.Overlay.{overlay-own, length-overlay, part-inside, part-before, part-behind}
+use Rattle.fields.proofs.Seq.{length-part, length-reverse, listed, part-listed}
 
 -- ---- what bytes count
 
@@ -152,6 +154,54 @@ module _ (f : Field) (n : ℕ) (m : List ℕ) (fits : f .start + f .width ≤ le
   pub get-behind : (g : Field) → f .start + f .width ≤ g .start → get g (put f n m) ≡ get g m
   unfolding get
   get-behind g h = rw (bytes-behind g h)
+
+-- ---- what stands there already
+
+-- A list holds numbers of any size. Those of this one are bytes.
+abbrev pub Bytes : List ℕ → Type 0
+Bytes [] = Unit {0}
+Bytes (b ∷ bs) = (b < 256) × Bytes bs
+
+lowest : (b c : ℕ) → b < 256 → (b + 256 * c) % 256 ≡ b
+lowest b c h = omega arith
+
+others : (b c : ℕ) → b < 256 → (b + 256 * c) / 256 ≡ c
+others b c h = omega arith
+
+digits-counted : (bs : List ℕ) → Bytes bs → digits (length bs) (counted bs) ≡ bs
+unfolding counted digits
+digits-counted [] h = refl
+digits-counted (b ∷ bs) h = rw (lowest b (counted bs) (h .0), others b (counted bs) (h .0), digits-counted bs (h .1))
+
+bytes-onto : (bs cs : List ℕ) → Bytes bs → Bytes cs → Bytes (reverseAux bs cs)
+bytes-onto [] cs h k = k
+bytes-onto (b ∷ bs) cs h k = bytes-onto bs (b ∷ cs) (h .1) (h .0, k)
+
+bytes-ordered : (o : Order) (bs : List ℕ) → Bytes bs → Bytes (ordered o bs)
+unfolding ordered
+bytes-ordered little bs h = h
+bytes-ordered big bs h = bytes-onto bs [] h tt
+
+bytes-listed : (m : List ℕ) → ((i : ℕ) → getD m i 0 < 256) → (at w : ℕ) → Bytes (listed m at w)
+bytes-listed m h at zero = tt
+bytes-listed m h at (suc w) = (h at, bytes-listed m h (suc at) w)
+
+pub one-byte : (m : List ℕ) (at : ℕ) → at < length m → get (oneByte at) m < 256 → Bytes (bytesAt (oneByte at) m)
+unfolding bytesAt
+one-byte m at h k = rw (part-listed m at 1 (omega arith), byte-read m at h) (k, tt)
+
+module _ (f : Field) (m : List ℕ) (fits : f .start + f .width ≤ length m) where
+  pub all-bytes : ((i : ℕ) → getD m i 0 < 256) → Bytes (bytesAt f m)
+  unfolding bytesAt
+  all-bytes h = rw (part-listed m (f .start) (f .width) fits) (bytes-listed m h (f .start) (f .width))
+
+  pub put-own : Bytes (bytesAt f m) → put f (get f m) m ≡ m
+  unfolding put get bytesAt
+  put-own h =
+      let bs : List ℕ = bytesAt f m in
+      let long : length (ordered (f .order) bs) ≡ f .width = length-ordered (f .order) bs ∙ length-part (f .start) (f .width) m fits in
+      let back = rw long at (digits-counted (ordered (f .order) bs) (bytes-ordered (f .order) bs h)) in
+      rw (back, ordered-twice (f .order) bs) (overlay-own m (f .start) (f .width) fits)
 
 -- ---- bits
 

@@ -1,22 +1,26 @@
 -- Laws of storing.
---     length-store, get-stored, bytes-apart    the length stays; the number stored is read; a field apart from it keeps its bytes
---     store-same                               a number that the field holds already changes nothing
---     ways                                     what has to be shown for each way through a function
+--     length-store, get-stored    the length stays; the number stored is read
+--     bytes-apart, get-apart      a field apart from it keeps its bytes and its number
+--     store-same                  a number that the field holds already changes nothing
+--     put-stores                  nor does writing it: the code need not compare
+--     ways, leaves-four           what has to be shown for each way through a function
 -- Assumes nothing.
-use mathlib.Core.Path.{_≡_, refl, sym, _∙_}
+use mathlib.Core.Path.{_≡_, refl, sym, ap, _∙_}
 use mathlib.Core.Bool.{Bool, true, false, _||_}
 use mathlib.Core.List.{List}
 use Prim.Native.Nat.{ℕ, _+_, _%_, _^_, _≤_, _<_}
 use native.Mathlib.Nat.{mod-eq-of-lt}
+use native.Mathlib.Omega.{arith}
 use lib.Dec.{eqb, leb}
-use lib.ListN.{length, set, replicate}
-use borrow.Author.Tests.{eq-eqb, ne-eqb, eqb-true, leb-true}
+use lib.ListN.{length, getD, set, replicate}
+use borrow.Author.Tests.{eq-eqb, eqb-true, leb-true}
 use Rattle.fields.specs.Field.{Field, littleEndian, oneByte, bytesAt, get, put}
 use Rattle.fields.specs.Overlay.{overlay}
 use Rattle.fields.proofs.Bools.{of-picked}
 use Rattle.fields.proofs.Overlay.{overlay-whole}
-use Rattle.fields.proofs.Field.{length-put, get-put, bytes-before, bytes-behind, byte-stored}
+use Rattle.fields.proofs.Field.{length-put, get-put, bytes-before, bytes-behind, byte-stored, Bytes, all-bytes, one-byte, put-own}
 use Rattle.buffer.specs.declared.Marks.{Marks}
+use Rattle.buffer.specs.Buffer.{at}
 use Rattle.ring.specs.declared.State.{State}
 use Rattle.ring.specs.States.{stateNumber}
 use Rattle.wrapper.specs.declared.Head.{Head}
@@ -29,7 +33,7 @@ use Rattle.device.specs.declared.Fixed.{Fixed}
 use Rattle.device.specs.declared.Status.{Status}
 use Rattle.device.specs.declared.Status.the-variants.{Absent, Present}
 use Rattle.recordbytes.specs.Layout as field
-use Rattle.recordbytes.specs.Record.{store, storeState, storeMarks, storeLeft, storeStatus, storeWrapper, newRecord}
+use Rattle.recordbytes.specs.Record.{marksAt, store, storeState, storeMarks, storeLeft, storeStatus, storeWrapper, newRecord}
 use Rattle.recordbytes.specs.Inner.Record.{wrapperOfHead}
 use Rattle.recordbytes.specs.Inner.Storable.{StorableFixed}
 
@@ -52,11 +56,15 @@ module _ (f : Field) (n : ℕ) (r : List ℕ) where
   unfolding store
   store-same e = rw (eq-eqb _ _ e)
 
-  stored-new : (get f r ≡ n → ⊥) → store f n r ≡ put f n r
-  unfolding store
-  stored-new e = rw (ne-eqb _ _ e)
-
   module _ (fits : f .start + f .width ≤ length r) where
+    -- Bytes are asked for only where the number stands there already: there a list may hold larger ones, and writing would change it.
+    put-stores : (get f r ≡ n → Bytes (bytesAt f r)) → put f n r ≡ store f n r
+    unfolding store
+    put-stores h = of-picked (λ (l : List ℕ). put f n r ≡ l) (eqb (get f r) n) (λ q. again (eqb-true _ _ q)) (λ _. refl)
+      where
+        again : get f r ≡ n → put f n r ≡ r
+        again e = ap (λ (k : ℕ). put f k r) (sym e) ∙ put-own f r fits (h e)
+
     pub length-store : length (store f n r) ≡ length r
     unfolding store
     length-store = of-picked (λ (l : List ℕ). length l ≡ length r) (eqb (get f r) n) (λ _. refl) (λ _. length-put f n r fits)
@@ -69,19 +77,18 @@ module _ (f : Field) (n : ℕ) (r : List ℕ) where
     unfolding store
     bytes-apart g h = of-picked (λ (l : List ℕ). bytesAt g l ≡ bytesAt g r) (eqb (get f r) n) (λ _. refl) (λ _. put-apart f n r fits g h)
 
+    get-apart : (g : Field) → isApart f g ≡ true → get g (store f n r) ≡ get g r
+    unfolding get
+    get-apart g h = rw (bytes-apart g h)
+
 -- This has to be shown for a function that stores a number.
 module _ (r : List ℕ) (at n : ℕ) where
-  pub leaves-byte : {x : ℕ} → at < length r → n < 256 → x ≡ get (oneByte at) r → (x ≡ n → ⊥) → set r at n ≡ store (oneByte at) n r
-  leaves-byte h k e q = byte-stored r at n k h ∙ sym (stored-new (oneByte at) n r (λ p. q (e ∙ p)))
+  pub leaves-byte : at < length r → n < 256 → set r at n ≡ store (oneByte at) n r
+  leaves-byte h k = byte-stored r at n k h ∙ put-stores (oneByte at) n r (omega arith) (λ e. one-byte r at h (rw e k))
 
-  pub keeps-byte : {x : ℕ} → x ≡ get (oneByte at) r → x ≡ n → r ≡ store (oneByte at) n r
-  keeps-byte e q = sym (store-same (oneByte at) n r (sym e ∙ q))
-
-  pub leaves-four : {x : ℕ} {l : List ℕ} → x ≡ get (littleEndian at 4) r → (x ≡ n → ⊥) → l ≡ put (littleEndian at 4) n r → l ≡ store (littleEndian at 4) n r
-  leaves-four e q h = h ∙ sym (stored-new (littleEndian at 4) n r (λ p. q (e ∙ p)))
-
-  pub keeps-four : {x : ℕ} → x ≡ get (littleEndian at 4) r → x ≡ n → r ≡ store (littleEndian at 4) n r
-  keeps-four e q = sym (store-same (littleEndian at 4) n r (sym e ∙ q))
+  -- This one is no rule for a search: it asks for a fact of every index.
+  pub leaves-four : {l : List ℕ} → at + 4 ≤ length r → ((i : ℕ) → getD r i 0 < 256) → l ≡ put (littleEndian at 4) n r → l ≡ store (littleEndian at 4) n r
+  leaves-four h k e = e ∙ put-stores (littleEndian at 4) n r h (λ _. all-bytes (littleEndian at 4) r h k)
 
 -- ---- parts
 
@@ -97,6 +104,17 @@ module _ (r : List ℕ) where
   pub leaves-marks : (m : Marks) {x y : ℕ} {l k : List ℕ} → x ≡ m .read → l ≡ store field.readMark x r → y ≡ m .write → k ≡ store field.writeMark y l → k ≡ storeMarks m r
   unfolding storeMarks
   leaves-marks m ex hl ey hk = rw (ey, hl, ex) at hk
+
+  -- One mark is stored. To store the other as it stands changes nothing.
+  pub leaves-read-mark : (m : ℕ) {x : ℕ} {l : List ℕ} → length r ≡ field.recordSize → x ≡ m → l ≡ store field.readMark x r → l ≡ storeMarks (at m (marksAt r .write)) r
+  unfolding storeMarks marksAt isApart
+  leaves-read-mark m h ex hl =
+      let stays = get-apart field.readMark m r (omega arith) field.writeMark refl in
+      rw ex at hl ∙ sym (store-same field.writeMark (get field.writeMark r) (store field.readMark m r) stays)
+
+  pub leaves-write-mark : (m : ℕ) {x : ℕ} {l : List ℕ} → x ≡ m → l ≡ store field.writeMark x r → l ≡ storeMarks (at (marksAt r .read) m) r
+  unfolding storeMarks marksAt
+  leaves-write-mark m ex hl = rw ex at hl ∙ ap (store field.writeMark m) (sym (store-same field.readMark (get field.readMark r) r refl))
 
   pub leaves-absent : (s : Status) {l : List ℕ} → s ≡ Absent → l ≡ store field.present 0 r → l ≡ storeStatus s r
   leaves-absent s e h = rw e h
@@ -115,4 +133,4 @@ pub leaves-new : (r : List ℕ) (f : Fixed) → StorableFixed f → {a b c l : L
 unfolding newRecord
 leaves-new r f fits h ha hb hc hk hl = rw (hk, hc, hb, mod-eq-of-lt (fits .packetsize), ha ∙ overlay-whole r (replicate 52 0) (sym h)) at hl
 
-pub ruleset ways = (leaves-new, leaves-byte, keeps-byte, leaves-four, keeps-four, leaves-state, leaves-left, leaves-marks, leaves-absent, leaves-present, leaves-wrapper)
+pub ruleset ways = (leaves-new, leaves-byte, leaves-state, leaves-left, leaves-marks, leaves-read-mark, leaves-write-mark, leaves-absent, leaves-present, leaves-wrapper)

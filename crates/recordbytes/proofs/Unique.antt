@@ -18,6 +18,10 @@ use Rattle.recordbytes.proofs.store.state.Kinds as state-kinds
 use Rattle.recordbytes.proofs.store.state.Reads as state
 use Rattle.recordbytes.proofs.store.marks.Kinds as marks-kinds
 use Rattle.recordbytes.proofs.store.marks.Reads as marks
+use Rattle.recordbytes.proofs.store.read_mark.Kinds as read-mark-kinds
+use Rattle.recordbytes.proofs.store.read_mark.Reads as read-mark
+use Rattle.recordbytes.proofs.store.write_mark.Kinds as write-mark-kinds
+use Rattle.recordbytes.proofs.store.write_mark.Reads as write-mark
 use Rattle.recordbytes.proofs.store.left.Kinds as left-kinds
 use Rattle.recordbytes.proofs.store.left.Reads as left
 use Rattle.recordbytes.proofs.store.status.Kinds as status-kinds
@@ -47,6 +51,12 @@ state-only κs a x y s t p q = (refl, p ∙ sym q)
 
 pub marks-only : Only 1 marks-kinds.ps marks-kinds.r marks.Post (λ κs s. now (s .0))
 marks-only κs a x y s t p q = (refl, p ∙ sym q)
+
+pub read-mark-only : Only 1 read-mark-kinds.ps read-mark-kinds.r read-mark.Post (λ κs s. now (s .0))
+read-mark-only κs a x y s t p q = (refl, p ∙ sym q)
+
+pub write-mark-only : Only 1 write-mark-kinds.ps write-mark-kinds.r write-mark.Post (λ κs s. now (s .0))
+write-mark-only κs a x y s t p q = (refl, p ∙ sym q)
 
 pub left-only : Only 1 left-kinds.ps left-kinds.r left.Post (λ κs s. now (s .0))
 left-only κs a x y s t p q = (refl, p ∙ sym q)

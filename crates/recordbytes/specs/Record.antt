@@ -73,7 +73,7 @@ deviceAt r = record {
 
 -- ---- storing
 
--- The number `n` is stored in the field `f`. If the field holds it already, no byte is written.
+-- The number `n` is stored in the field `f`. If the field holds it already, all bytes stay.
 unfoldable pub store : Field → ℕ → List ℕ → List ℕ
 store f n r = cond (eqb (get f r) n) r (put f n r)
 

@@ -2,7 +2,7 @@
 //     in_record                where each field stands
 //     known                    whether bytes are a record at all
 //     numbers_at, device_at    what they hold
-//     store                    a device's parts written back: only the fields that changed
+//     store                    a device's parts written back, one by one
 // In every function `r` is the bytes of the record.
 pub mod in_record;
 pub mod store;

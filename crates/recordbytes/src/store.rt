@@ -1,11 +1,10 @@
-// A device's parts are stored in the bytes `r` of a record. If a field holds its number already, nothing is written to it.
+// A device's parts are stored in the bytes `r` of a record. A number is written whether it changed or not: the bytes are the same either
+// way, and to compare first costs more than to store (docs/READOUT.md).
 use crate::in_record;
 use buffer::Marks;
 use buffer::span::put;
 use device::Fixed;
 use device::Status;
-use fields::byte;
-use fields::le32;
 use fields::put_le32;
 use ring::State;
 use ring::state_number;
@@ -17,29 +16,26 @@ ghost use mathlib.Core.Path.{_≡_};
 ghost use Prim.Native.Nat.{_+_, _≤_, _<_, _^_};
 ghost use lib.ListN.{length};
 ghost use Rattle.fields.specs.Field.{littleEndian, oneByte};
+ghost use Rattle.buffer.specs.Buffer.{at};
 ghost use Rattle.recordbytes.specs.Layout as field;
-ghost use Rattle.recordbytes.specs.Record.{store, storeState, storeMarks, storeLeft, storeStatus, storeWrapper, newRecord};
+ghost use Rattle.recordbytes.specs.Record.{marksAt, store, storeState, storeMarks, storeLeft, storeStatus, storeWrapper, newRecord};
 ghost use Rattle.recordbytes.specs.Inner.Record.{wrapperOfHead};
 ghost use Rattle.recordbytes.specs.Inner.Storable.{StorableFixed};
 
-// The byte `n` is stored at the place `at`, if another stands there.
+// The byte `n` is stored at the place `at`.
 fn store8(r: &mut [u8], at: usize, n: u8)
     requires { ⌜ at < length (now r) ⌝ }
     ensures { λ _. ⌜ now (r .exit) ≡ store (oneByte at) n (now (r .entry)) ⌝ }
 {
-    if byte(r, at) != n {
-        r[at] = n;
-    }
+    r[at] = n;
 }
 
-// The number `n` is stored in the four bytes from `at` on, if another stands there.
+// The number `n` is stored in the four bytes from `at` on.
 fn store32(r: &mut [u8], at: usize, n: u32)
     requires { ⌜ at + 4 ≤ length (now r) ⌝ }
     ensures { λ _. ⌜ now (r .exit) ≡ store (littleEndian at 4) n (now (r .entry)) ⌝ }
 {
-    if le32(r, at) != n {
-        put_le32(r, at, n);
-    }
+    put_le32(r, at, n);
 }
 
 // `n` is below 2^32 and becomes a number of 32 bits; the remainder is `n` itself.
@@ -77,6 +73,22 @@ pub fn marks(r: &mut [u8], marks: Marks)
 {
     store32(r, in_record::READ_MARK, narrow(marks.read));
     store32(r, in_record::WRITE_MARK, narrow(marks.write));
+}
+
+// The read mark is stored; the write mark stays. A poll in the middle of a transfer moves one mark only.
+pub fn read_mark(r: &mut [u8], mark: usize)
+    requires { ⌜ (length (now r) ≡ field.recordSize) × (mark < 2 ^ 32) ⌝ }
+    ensures { λ _. ⌜ now (r .exit) ≡ storeMarks (at mark (marksAt (now (r .entry)) .write)) (now (r .entry)) ⌝ }
+{
+    store32(r, in_record::READ_MARK, narrow(mark));
+}
+
+// The write mark is stored; the read mark stays.
+pub fn write_mark(r: &mut [u8], mark: usize)
+    requires { ⌜ (length (now r) ≡ field.recordSize) × (mark < 2 ^ 32) ⌝ }
+    ensures { λ _. ⌜ now (r .exit) ≡ storeMarks (at (marksAt (now (r .entry)) .read) mark) (now (r .entry)) ⌝ }
+{
+    store32(r, in_record::WRITE_MARK, narrow(mark));
 }
 
 // The count left is stored.
