@@ -1,22 +1,23 @@
 -- Polls in the middle of a transfer are 01's polls.
+--     is-steady, is-ready     what the tests of the numbers that stay tell
 --     may-send, may-take      what the tests of the record's bytes tell
 --     send-rule, take-rule    what such a poll does, by 01's rules of 4 and 6, and of 7
 --     ways                    what each way owes through the functions that look for such polls, and through those that make them
 -- Assumes nothing.
 use mathlib.Core.Path.{_≡_, refl, sym, ap, _∙_}
-use mathlib.Core.Bool.{Bool, true, false, not}
-use mathlib.Core.List.{List}
+use mathlib.Core.Bool.{Bool, true, false, not, cond, _&&_, _||_}
+use mathlib.Core.List.{List, [], _∷_}
 use Prim.Native.Nat.{ℕ, _+_, _-_, _^_, _≤_, _<_, min}
 use native.Mathlib.Nat.{min-le-right, min-eq-right, max-eq-left}
 use native.Mathlib.Omega.{arith}
-use lib.Dec.{eqb, ltb}
+use lib.Dec.{eqb, ltb, leb}
 use lib.ListN.{length, take, drop}
-use lib.Seq.{take-take}
+use lib.Seq.{take-take, take-all}
 use borrow.Table.Steps.{cases}
-use borrow.Author.Tests.{eq-eqb, ne-eqb, eqb-true, le-ltb}
+use borrow.Author.Tests.{eq-eqb, ne-eqb, eqb-true, le-ltb, le-leb, lt-leb, leb-true}
 use Rattle.fields.specs.Field.{get}
 use Rattle.fields.specs.Overlay.{overlay}
-use Rattle.fields.proofs.Bools.{not-false, clash}
+use Rattle.fields.proofs.Bools.{and-left, and-right, not-true, not-false, clash}
 use Rattle.buffer.specs.declared.Marks.{Marks}
 use Rattle.buffer.specs.Buffer.{Buffer, buffer, at, unread, unreadBytes, room, withRoom, appended, lacksRoom, writtenAll, ready, readyBytes, readOff}
 use Rattle.answers.specs.declared.Endpoint.the-variants.{Served}
@@ -36,14 +37,15 @@ use Rattle.device.specs.declared.Numbers.{Numbers}
 use Rattle.device.specs.Create.{fixed, isPacketSize, creationChecks}
 use Rattle.device.specs.Device.{isPresent, numbersOf, inState, withMarks, withLeft}
 use Rattle.device.specs.Broken.{statusFits, Whole}
-use Rattle.device.proofs.Wholly.{whole-sound, size-most, packet-known, packet-bounds}
-use Rattle.bbb.specs.Poll.{Given, Polling, Fits, isFitting, point, sendBy, send, sendData, takeData, takeBy, offeredPacket, offeredBy, toHostEndingRule, toHostRule, fromHostRule, ruleIn, pollRule, pollCall}
+use Rattle.device.proofs.Wholly.{whole-sound, packet-known, packet-bounds}
+use Rattle.bbb.specs.Poll.{Given, Polling, Fits, isFitting, point, sendBy, send, fallsShort, takeData, takeBy, offeredPacket, offeredBy, toHostEndingRule, toHostRule, fromHostRule, ruleIn, pollRule, pollCall}
 use Rattle.bbb.proofs.Keeping.{call-done}
 use Rattle.recordbytes.specs.Layout as field
 use Rattle.recordbytes.specs.Record.{statusBy, statusAt, marksAt, wrapperAt, fixedAt, deviceAt, storeState, storeMarks, storeLeft}
-use Rattle.recordbytes.proofs.Stored.{known-is}
+use Rattle.recordbytes.proofs.Storing.{isApart}
+use Rattle.recordbytes.proofs.Stored.{write, get-elsewhere, known-is}
 use Rattle.border.specs.Word.{word}
-use Rattle.onward.specs.Inner.Onward.{Steady, Ready, sendsIn, Sending, MaySend, Taking, MayTake, bufferOfNumbers, SendsOn, TakesOn}
+use Rattle.onward.specs.Inner.Onward.{Steady, Ready, sendsIn, Sending, CanSend, MaySend, Taking, CanTake, MayTake, bufferOfNumbers, SendsOn, TakesOn, Stays, SendsOrStays, TakesOrStays}
 
 -- ---- the tests
 
@@ -51,104 +53,141 @@ use Rattle.onward.specs.Inner.Onward.{Steady, Ready, sendsIn, Sending, M
 pub fails : (P : Type 0) → false ≡ true → P
 fails P h = absurd (clash (sym h))
 
-module _ (state : ℕ) where
-  pub sends-6 : state ≡ 6 → true ≡ sendsIn state
-  unfolding sendsIn
-  sends-6 e = rw (eq-eqb _ _ e)
+or-nothing : (a : Bool) → a ≡ a || false
+or-nothing true = refl
+or-nothing false = refl
 
-  pub sends-4 : (state ≡ 6 → ⊥) → eqb state 4 ≡ sendsIn state
-  unfolding sendsIn
-  sends-4 n = rw (ne-eqb _ _ n)
+or-none : (a b : Bool) → a ≡ a || (b && false)
+or-none a true = or-nothing a
+or-none a false = or-nothing a
 
-  sends-known : sendsIn state ≡ true → state ≤ 8
+module _ (state flag : ℕ) where
+  pub sends-without : flag ≡ 0 → eqb state 4 ≡ leb flag 1 && sendsIn state (eqb flag 1)
   unfolding sendsIn
-  sends-known h = cases (eqb state 6) (λ e. omega (arith, eqb-true state 6 e)) (λ e. omega (arith, eqb-true state 4 (rw e at h)))
+  sends-without e = rw e (or-none (eqb state 4) (eqb state 6))
+
+  pub sends-6 : flag ≡ 1 → state ≡ 6 → true ≡ leb flag 1 && sendsIn state (eqb flag 1)
+  unfolding sendsIn
+  sends-6 e q = rw (e, q)
+
+  pub sends-4 : flag ≡ 1 → (state ≡ 6 → ⊥) → eqb state 4 ≡ leb flag 1 && sendsIn state (eqb flag 1)
+  unfolding sendsIn
+  sends-4 e n = rw (e, ne-eqb _ _ n) (or-nothing (eqb state 4))
+
+  pub sends-not : (flag ≡ 0 → ⊥) → (flag ≡ 1 → ⊥) → false ≡ leb flag 1 && sendsIn state (eqb flag 1)
+  sends-not a b = rw (lt-leb flag 1 (omega (arith, a, b)))
+
+  sends-known : sendsIn state (eqb flag 1) ≡ true → state ≤ 8
+  unfolding sendsIn
+  sends-known h =
+      cases (eqb state 4) (λ e. omega (arith, eqb-true state 4 e))
+      (λ e. omega (arith, eqb-true state 6 (and-left (eqb state 6) (eqb flag 1) (rw e at h))))
 
 created-by : (p maxlun size : ℕ) → isPacketSize p ≡ true → maxlun ≤ 15 → 64 ≤ size → size ≤ 65536 → creationChecks (fixed p maxlun size) ≡ 0
 unfolding creationChecks
 created-by p maxlun size h a b c =
     rw (le-ltb 15 maxlun a, le-ltb size 31 (omega arith), le-ltb size p (omega (arith, packet-bounds p h .1)), h, le-ltb 65536 size c)
 
-pub is-steady : (r : List ℕ) (len : ℕ) {size maxlun status direction lun block p : ℕ} {v : Bool}
-    → size ≡ get field.size r → size ≡ len → 64 ≤ size → size ≤ 65536 → maxlun ≡ get field.maxLun r → maxlun ≤ 15
+pub is-steady : (r : List ℕ) (len : ℕ) {size maxlun status direction lun block : ℕ}
+    → size ≡ get field.size r → size ≡ len → 64 ≤ len → maxlun ≡ get field.maxLun r → maxlun ≤ 15 → len ≤ 65536
     → status ≡ get field.status r → status ≤ 2 → direction ≡ get field.direction r → direction ≤ 2
-    → lun ≡ get field.lun r → lun ≤ 15 → block ≡ get field.blockLength r → block ≤ 16
-    → p ≡ get field.packetSize r → v ≡ isPacketSize p → v ≡ true → Steady r len
+    → lun ≡ get field.lun r → lun ≤ 15 → block ≡ get field.blockLength r → leb block 16 ≡ true → Steady r len
 unfolding fixedAt
-is-steady r len {size} {maxlun} {p = p} es el a b em c et t ed d eu u eb k ep ev q = record {
+is-steady r len es el a em c b et t ed d eu u eb k = record {
   lent = sym es ∙ el;
-  created = rw (← es, ← em, ← ep) (created-by p maxlun size (sym ev ∙ q) c a b);
-  status = rw (← et) t;
-  direction = rw (← ed) d;
-  lun = rw (← eu) u;
-  block = rw (← eb) k;
+  small = b;
+  created = λ q. created-by (get field.packetSize r) (get field.maxLun r) (get field.size r) q (rw em at c) (omega (arith, es, el, a)) (omega (arith, es, el, b));
+  status = rw et at t;
+  direction = rw ed at d;
+  lun = rw eu at u;
+  block = rw eb at (leb-true _ _ k);
 }
 
--- A state whose number is 6 or 4.
-sending-in : (P : State → Type 0) (s : State) → sendsIn (stateNumber s) ≡ true → P DataTransferToHostEnding → P DataTransferToHost → P s
+-- A state in which data goes out, with a status or without one.
+sending-in : (P : State → Bool → Type 0) (s : State) (present : Bool) → sendsIn (stateNumber s) present ≡ true
+    → P DataTransferToHostEnding true → P DataTransferToHost true → P DataTransferToHost false → P s present
 unfolding sendsIn
-sending-in P ring.CommandTransfer h a b = absurd (clash (sym h))
-sending-in P ring.CommandTransferInvalid h a b = absurd (clash (sym h))
-sending-in P ring.DataTransferNoData h a b = absurd (clash (sym h))
-sending-in P ring.StatusTransfer h a b = absurd (clash (sym h))
-sending-in P ring.DataTransferToHost h a b = b
-sending-in P ring.DataTransferToHostStatusAwait h a b = absurd (clash (sym h))
-sending-in P ring.DataTransferToHostEnding h a b = a
-sending-in P ring.DataTransferFromHost h a b = absurd (clash (sym h))
-sending-in P ring.DataTransferFromHostEnding h a b = absurd (clash (sym h))
+sending-in P ring.CommandTransfer p h a b c = absurd (clash (sym h))
+sending-in P ring.CommandTransferInvalid p h a b c = absurd (clash (sym h))
+sending-in P ring.DataTransferNoData p h a b c = absurd (clash (sym h))
+sending-in P ring.StatusTransfer p h a b c = absurd (clash (sym h))
+sending-in P ring.DataTransferToHost true h a b c = b
+sending-in P ring.DataTransferToHost false h a b c = c
+sending-in P ring.DataTransferToHostStatusAwait p h a b c = absurd (clash (sym h))
+sending-in P ring.DataTransferToHostEnding true h a b c = a
+sending-in P ring.DataTransferToHostEnding false h a b c = absurd (clash (sym h))
+sending-in P ring.DataTransferFromHost p h a b c = absurd (clash (sym h))
+sending-in P ring.DataTransferFromHostEnding p h a b c = absurd (clash (sym h))
 
 -- ---- what the tests tell
 
-module _ (r : List ℕ) where
-  flag-present : get field.present r ≡ 1 → isPresent (statusAt r) ≡ true
-  unfolding statusAt statusBy
-  flag-present e = rw e
+fits-into : (p packet one two : ℕ) → isFitting p packet one two ≡ true → p ≤ packet
+unfolding isFitting
+fits-into p packet one two h = leb-true _ _ (and-right (leb two p) (leb p packet) (and-right (leb one p) (leb two p && leb p packet) h))
 
-  flag-absent : get field.present r ≡ 0 → isPresent (statusAt r) ≡ false
+module _ (r : List ℕ) where
+  -- The flag says whether a status is present.
+  pub flag-says : get field.present r ≤ 1 → isPresent (statusAt r) ≡ eqb (get field.present r) 1
   unfolding statusAt statusBy
-  flag-absent e = rw e
+  flag-says h =
+      cases (eqb (get field.present r) 0) (λ e. rw (eqb-true _ _ e))
+      (λ e. rw (below-2 (get field.present r) h e))
+    where
+      below-2 : (n : ℕ) → n ≤ 1 → eqb n 0 ≡ false → n ≡ 1
+      below-2 n k e = cases (eqb n 1) (λ q. eqb-true _ _ q) (λ q. absurd (clash (sym (eq-eqb n 0 (omega (arith, k, eqb-no n 1 q))) ∙ e)))
+        where
+          eqb-no : (a b : ℕ) → eqb a b ≡ false → a ≡ b → ⊥
+          eqb-no a b f g = clash (sym (eq-eqb a b g) ∙ f)
 
   -- The poll is refused neither with 10 nor with 11.
-  module _ (len packet one two : ℕ) (long : length r ≡ 52) (s : Steady r len) (state : get field.state r ≤ 8) (flag : get field.present r ≤ 1)
+  module _ (len packet one two : ℕ) (long : length r ≡ field.recordSize) (s : Steady r len) (state : get field.state r ≤ 8) (flag : get field.present r ≤ 1)
       (order : get field.readMark r ≤ get field.writeMark r) (within : get field.writeMark r ≤ len)
       (suits : statusFits (stateOfNumber (get field.state r)) (isPresent (statusAt r)) ≡ true) (fits : isFitting (get field.packetSize r) packet one two ≡ true) where
-    is-ready : Ready r len packet one two
+    pub is-ready : isPacketSize (get field.packetSize r) ≡ true → Ready r len packet one two
     unfolding deviceAt fixedAt marksAt wrapperAt
-    is-ready = record {
+    is-ready sized = record {
       known = known-is r (record { long = long; state = state; flag = flag; status = s .status; direction = s .direction });
-      whole = record { lent = s .lent; created = s .created; order = order; within = rw (s .lent) within; block = s .block; lun = s .lun; status = suits };
+      whole = record { lent = s .lent; created = s .created sized; order = order; within = rw (s .lent) within; block = s .block; lun = s .lun; status = suits };
       fits = fits;
     }
 
-  pub may-send : (len packet one two write : ℕ) {state flag p left to from : ℕ} {i s v : Bool}
-      → length r ≡ 52 → state ≡ get field.state r → i ≡ sendsIn state → not i ≡ false → flag ≡ get field.present r → flag ≡ 1 → write ≡ 0
-      → p ≡ get field.packetSize r → left ≡ get field.left r → p ≤ left → (s ≡ true → Steady r len) → not s ≡ false
-      → to ≡ get field.writeMark r → to ≤ len → from ≡ get field.readMark r → from + p ≤ to → v ≡ isFitting p packet one two → v ≡ true → MaySend r len packet one two write
+  pub may-send : (len packet one two write : ℕ) {state flag p to from left : ℕ} {i s f : Bool}
+      → length r ≡ field.recordSize → state ≡ get field.state r → flag ≡ get field.present r → i ≡ leb flag 1 && sendsIn state (eqb flag 1) → not i ≡ false → write ≡ 0
+      → (s ≡ true → Steady r len) → not s ≡ false → p ≡ get field.packetSize r → f ≡ isFitting p packet one two → not f ≡ false
+      → to ≡ get field.writeMark r → to ≤ len → from ≡ get field.readMark r → from + p ≤ to → left ≡ get field.left r → leb p left ≡ true → MaySend r len packet one two write
   unfolding deviceAt fixedAt marksAt
-  may-send len packet one two write {i = i} {s = s} long es ei qi ef one-there served ep el some steady qs et within er order ev qv =
-      let sends : sendsIn (get field.state r) ≡ true = rw es at (sym ei ∙ not-false i qi) in
-      let known : get field.state r ≤ 8 = sends-known (get field.state r) sends in
-      let flag : get field.present r ≡ 1 = sym ef ∙ one-there in
-      let there : isPresent (statusAt r) ≡ true = flag-present flag in
-      let in-one : sendsIn (stateNumber (stateOfNumber (get field.state r))) ≡ true = rw (state-number (get field.state r) known) sends in
+  may-send len packet one two write {i = i} {s = s} {f = f} long es eg ei qi served steady qs ep ef qf et within er order el some =
+      let kind : leb (get field.present r) 1 && sendsIn (get field.state r) (eqb (get field.present r) 1) ≡ true = rw (es, eg) at (sym ei ∙ not-false i qi) in
+      let flag : get field.present r ≤ 1 = leb-true _ _ (and-left (leb (get field.present r) 1) (sendsIn (get field.state r) (eqb (get field.present r) 1)) kind) in
+      let sends : sendsIn (get field.state r) (eqb (get field.present r) 1) ≡ true = and-right (leb (get field.present r) 1) (sendsIn (get field.state r) (eqb (get field.present r) 1)) kind in
+      let known : get field.state r ≤ 8 = sends-known (get field.state r) (get field.present r) sends in
+      let in-one : sendsIn (stateNumber (stateOfNumber (get field.state r))) (isPresent (statusAt r)) ≡ true = rw (state-number (get field.state r) known, flag-says flag) sends in
       let suits : statusFits (stateOfNumber (get field.state r)) (isPresent (statusAt r)) ≡ true =
-      rw there (sending-in (λ (x : State). statusFits x true ≡ true) (stateOfNumber (get field.state r)) in-one refl refl) in
+      sending-in (λ (x : State) (b : Bool). statusFits x b ≡ true) (stateOfNumber (get field.state r)) (isPresent (statusAt r)) in-one refl refl refl in
+      let fits : isFitting (get field.packetSize r) packet one two ≡ true = rw ep at (sym ef ∙ not-false f qf) in
+      let st : Steady r len = steady (not-false s qs) in
+      let enough : p ≤ _ = leb-true _ _ some in
       record {
-        ready = is-ready len packet one two long (steady (not-false s qs)) known (omega (arith, flag)) (omega (arith, er, et, order)) (omega (arith, et, within)) suits (rw ep at (sym ev ∙ qv));
-        sends = record { present = there; state = in-one; served = served; left = omega (arith, ep, el, some); unread = omega (arith, ep, er, et, order) };
+        ready = is-ready len packet one two long st known flag (omega (arith, er, et, order)) (omega (arith, et, within)) suits fits;
+        sends = record { state = in-one; served = served; left = omega (arith, ep, el, enough); unread = omega (arith, ep, er, et, order) };
+        can = record { small = st .small; within = omega (arith, et, within); unread = omega (arith, ep, er, et, order); into = fits-into _ packet one two fits };
       }
 
-  pub may-take : (len packet one two first : ℕ) {state flag p left to from : ℕ} {s v : Bool}
-      → length r ≡ 52 → state ≡ get field.state r → state ≡ 7 → flag ≡ get field.present r → flag ≡ 0 → first ≡ 0
-      → left ≡ get field.left r → (left ≡ 0 → ⊥) → (s ≡ true → Steady r len) → not s ≡ false → p ≡ get field.packetSize r
-      → to ≡ get field.writeMark r → to + p ≤ len → from ≡ get field.readMark r → from ≤ to → v ≡ isFitting p packet one two → v ≡ true → MayTake r len packet one two first
+  pub may-take : (len packet one two first : ℕ) {state flag p at from left : ℕ} {s f : Bool}
+      → length r ≡ field.recordSize → state ≡ get field.state r → state ≡ 7 → flag ≡ get field.present r → flag ≡ 0 → first ≡ 0
+      → (s ≡ true → Steady r len) → not s ≡ false → p ≡ get field.packetSize r → one ≡ p → f ≡ isFitting p packet one two → not f ≡ false
+      → at ≡ get field.writeMark r → from ≡ get field.readMark r → from ≤ at → at + p ≤ len → left ≡ get field.left r → leb p left ≡ true → MayTake r len packet one two first
   unfolding deviceAt fixedAt marksAt stateOfNumber
-  may-take len packet one two first {s = s} long es seven ef none-there served el some steady qs ep et room er order ev qv =
+  may-take len packet one two first {s = s} {f = f} long es seven eg none-there served steady qs ep whole ef qf et er order room el some =
       let state : get field.state r ≡ 7 = sym es ∙ seven in
-      let flag : get field.present r ≡ 0 = sym ef ∙ none-there in
+      let flag : get field.present r ≡ 0 = sym eg ∙ none-there in
+      let absent : isPresent (statusAt r) ≡ false = rw flag at (flag-says (omega (arith, flag))) in
+      let st : Steady r len = steady (not-false s qs) in
+      let enough : p ≤ _ = leb-true _ _ some in
       record {
-        ready = is-ready len packet one two long (steady (not-false s qs)) (omega (arith, state)) (omega (arith, flag)) (omega (arith, er, et, order)) (omega (arith, et, room)) (rw state) (rw ep at (sym ev ∙ qv));
-        takes = record { state = rw state; absent = flag-absent flag; served = served; some = λ z. some (el ∙ z); room = omega (arith, ep, et, room) };
+        ready = is-ready len packet one two long st (omega (arith, state)) (omega (arith, flag)) (omega (arith, er, et, order)) (omega (arith, et, room)) (rw (state, absent)) (rw ep at (sym ef ∙ not-false f qf));
+        takes = record { state = rw state; absent = absent; served = served; left = omega (arith, ep, el, enough); whole = whole ∙ ep; room = omega (arith, ep, et, room) };
+        can = record { small = st .small; room = omega (arith, ep, et, room); whole = whole ∙ ep };
       }
 
 -- ---- a packet of data goes out: 01's rules of 4 and 6
@@ -157,9 +196,15 @@ module _ (d : Device) (io : List ℕ) (g : Given) (w : Whole (numbersOf d) (leng
   abbrev s : Buffer
   s = buffer io (d .marks)
 
-  abbrev pub sentOn : Polling
-  sentOn = record {
-    device = inState DataTransferToHostEnding (withMarks (readOff (d .fixed .packetsize) s .marks) (withLeft (fallen (d .left) (ready (d .fixed .packetsize) s)) d));
+  -- Marks and left change; with a status present, 6 is reached.
+  abbrev pub sentDevice : Bool → Device
+  sentDevice present =
+      let moved : Device = withMarks (readOff (d .fixed .packetsize) s .marks) (withLeft (fallen (d .left) (ready (d .fixed .packetsize) s)) d) in
+      cond present (inState DataTransferToHostEnding moved) moved
+
+  abbrev pub sentBy : Bool → Polling
+  sentBy present = record {
+    device = sentDevice present;
     answer = answer 0;
     taken = 0;
     sent = ready (d .fixed .packetsize) s;
@@ -168,6 +213,9 @@ module _ (d : Device) (io : List ℕ) (g : Given) (w : Whole (numbersOf d) (leng
     packet = overlay (g .packet) 0 (readyBytes (d .fixed .packetsize) s);
   }
 
+  abbrev pub sentOn : Polling
+  sentOn = sentBy (isPresent (d .status))
+
   module _ (h : Sending (numbersOf d) (g .turn .write)) where
     some : eqb (d .left .0) 0 ≡ false
     some = ne-eqb (d .left .0) 0 (λ z. absurd (omega (arith, z, h .left, packet-bounds (d .fixed .packetsize) (packet-known (numbersOf d) (length io) w) .0)))
@@ -175,20 +223,32 @@ module _ (d : Device) (io : List ℕ) (g : Given) (w : Whole (numbersOf d) (leng
     due : min (d .left .0) (d .fixed .packetsize) ≤ d .marks .write - d .marks .read
     due = omega (arith, h .unread, min-le-right (d .left .0) (d .fixed .packetsize))
 
-    ending-sends : toHostEndingRule g (point d io 0 false) ≡ sentOn
+    whole-there : fallsShort (d .fixed .packetsize) (d .left) (unread s) ≡ false
+    unfolding fallsShort unread
+    whole-there = rw (le-leb _ _ (h .left), le-ltb _ _ (h .unread))
+
+    ending-sends : toHostEndingRule g (point d io 0 false) ≡ sentBy true
     unfolding toHostEndingRule send sendBy sentCount sentOff sentInto accepted readOff endpointOf
     ending-sends =
         rw (some, ← fills-none (d .fixed .packetsize) (d .left) s refl (whole-sound (numbersOf d) io w) due .same, h .served, answer-served Served (unread s) refl)
 
-    pub send-rule : pollCall d io g ≡ sentOn
-    unfolding pollRule ruleIn toHostRule
-    send-rule = call-done d io g w f ∙ sending-in (λ (x : State). ruleIn x g (point d io 0 false) ≡ sentOn) (d .state) (h .state) in-6 in-4
-      where
-        in-6 : ruleIn DataTransferToHostEnding g (point d io 0 false) ≡ sentOn
-        in-6 = ending-sends
+    in-6 : d .state ≡ DataTransferToHostEnding → isPresent (d .status) ≡ true → ruleIn DataTransferToHostEnding g (point d io 0 false) ≡ sentBy true
+    unfolding ruleIn
+    in-6 e q = ending-sends
 
-        in-4 : ruleIn DataTransferToHost g (point d io 0 false) ≡ sentOn
-        in-4 = rw (some, h .present) ending-sends
+    in-4 : d .state ≡ DataTransferToHost → isPresent (d .status) ≡ true → ruleIn DataTransferToHost g (point d io 0 false) ≡ sentBy true
+    unfolding ruleIn toHostRule
+    in-4 e q = rw (some, q) ending-sends
+
+    stays-in-4 : d .state ≡ DataTransferToHost → isPresent (d .status) ≡ false → ruleIn DataTransferToHost g (point d io 0 false) ≡ sentBy false
+    unfolding ruleIn toHostRule send sendBy sentCount sentOff sentInto accepted readOff endpointOf
+    stays-in-4 e q = rw (some, q, whole-there, h .served, answer-served Served (unread s) refl, ← e)
+
+    pub send-rule : pollCall d io g ≡ sentOn
+    unfolding pollRule
+    send-rule =
+        call-done d io g w f
+        ∙ sending-in (λ (x : State) (b : Bool). d .state ≡ x → isPresent (d .status) ≡ b → ruleIn x g (point d io 0 false) ≡ sentBy b) (d .state) (isPresent (d .status)) (h .state) in-6 in-4 stays-in-4 refl refl
 
 -- ---- a packet of data comes in: 01's rule of 7
 
@@ -224,12 +284,15 @@ module _ (d : Device) (io : List ℕ) (g : Given) (w : Whole (numbersOf d) (leng
     packet = g .packet;
   }
 
-  module _ (h : Taking (numbersOf d) (length io) (g .turn .first)) where
+  module _ (h : Taking (numbersOf d) (length io) (length (g .one)) (g .turn .first)) where
+    some-left : eqb (d .left .0) 0 ≡ false
+    some-left = ne-eqb (d .left .0) 0 (λ z. absurd (omega (arith, z, h .left, packet-bounds (d .fixed .packetsize) (packet-known (numbersOf d) (length io) w) .0)))
+
     from-host-takes : fromHostRule g (point d io 0 false) ≡ takenOn
     unfolding fromHostRule takeData takeBy offeredPacket offeredBy received readAnswer takesOne brought handed endpointOf appended
     from-host-takes =
         let s : Buffer = buffer io (d .marks) in
-        rw (ne-eqb (d .left .0) 0 (h .some), h .absent, h .served, roomy (d .fixed .packetsize) s (h .room) .1, takes-all (d .fixed .packetsize) s (g .one) (h .room) (f .first), ← in-7 (d .state) (eq-eqb _ _ (h .state)))
+        rw (some-left, h .absent, h .served, roomy (d .fixed .packetsize) s (h .room) .1, takes-all (d .fixed .packetsize) s (g .one) (h .room) (f .first), ← in-7 (d .state) (eq-eqb _ _ (h .state)))
 
     pub take-rule : pollCall d io g ≡ takenOn
     unfolding pollRule ruleIn
@@ -237,12 +300,11 @@ module _ (d : Device) (io : List ℕ) (g : Given) (w : Whole (numbersOf d) (leng
 
 -- ---- what the functions that move such a packet owe
 
-module _ (n : Numbers) (len : ℕ) (w : Whole n len) where
-  pub mark-fits : {k : ℕ} → k ≤ len → k < 2 ^ 32
-  mark-fits h = omega (arith, h, w .lent, size-most n len w)
-
-  pub count-fits : {k : ℕ} → k ≤ n .fixed .packetsize → k < 2 ^ 32
-  count-fits h = omega (arith, h, packet-bounds (n .fixed .packetsize) (packet-known n len w) .1)
+-- The state stands apart from the marks.
+write-stays : (r : List ℕ) (s : State) (present : Bool) → length r ≡ field.recordSize → marksAt (cond present (storeState s r) r) .write ≡ marksAt r .write
+unfolding marksAt storeState isApart
+write-stays r s true long = get-elsewhere 52 field.writeMark (write field.state (stateNumber s) ∷ []) r long refl refl
+write-stays r s false long = refl
 
 -- A whole packet is unread, so a read takes all of it.
 module _ (n : Numbers) (io : List ℕ) (h : n .fixed .packetsize ≤ n .marks .write - n .marks .read) where
@@ -258,21 +320,58 @@ module _ (n : Numbers) (io : List ℕ) (h : n .fixed .packetsize ≤ n .marks .w
   unfolding readOff
   all-read = ap (λ (k : ℕ). at (n .marks .read + k) (n .marks .write)) all-ready
 
-  pub leaves-sent : (r p : List ℕ) {k x : ℕ} {falls : Left} {p′ a b l : List ℕ}
-      → falls ≡ fallen (n .left) (n .fixed .packetsize) → a ≡ storeState DataTransferToHostEnding r → b ≡ storeMarks (at (n .marks .read + n .fixed .packetsize) (n .marks .write)) a → l ≡ storeLeft falls b
-      → p′ ≡ overlay p 0 (take (n .marks .read + n .fixed .packetsize - n .marks .read) (drop (n .marks .read) io)) → k ≡ n .fixed .packetsize → x ≡ word 0 0 0 0 k
-      → SendsOn n io r p x l p′
-  leaves-sent r p {p′ = p′} ef ea eb el ep ek ex =
-      let long : n .marks .read + n .fixed .packetsize - n .marks .read ≡ n .fixed .packetsize = omega arith in
+module _ (n : Numbers) (io r p : List ℕ) {t : Bool} {p′ : List ℕ} (et : t ≡ isPacketSize (n .fixed .packetsize))
+    (ep : p′ ≡ cond (isPacketSize (n .fixed .packetsize)) (overlay p 0 (take (n .fixed .packetsize) (drop (n .marks .read) io))) p) where
+  pub stays-sent : not t ≡ true → SendsOrStays n io r p 0 r p′
+  stays-sent q =
+      let no : isPacketSize (n .fixed .packetsize) ≡ false = sym et ∙ not-true t q in
+      record { sends = λ yes. absurd (clash (sym yes ∙ no)); stays = λ _. record { answer = refl; bytes = refl; buffer = rw no at ep } }
+
+  pub leaves-sent : not t ≡ false → length r ≡ field.recordSize → n ≡ numbersOf (deviceAt r) → (len packet : ℕ) → CanSend n len packet
+      → {k x : ℕ} {falls : Left} {a b l : List ℕ}
+      → falls ≡ fallen (n .left) (n .fixed .packetsize) → a ≡ cond (isPresent (n .status)) (storeState DataTransferToHostEnding r) r
+      → b ≡ storeMarks (at (n .marks .read + n .fixed .packetsize) (marksAt a .write)) a → l ≡ storeLeft falls b → k ≡ n .fixed .packetsize → x ≡ word 0 0 0 0 k
+      → SendsOrStays n io r p x l p′
+  unfolding deviceAt
+  leaves-sent q long en len packet can {falls = falls} ef ea eb el ek ex =
+      let yes : isPacketSize (n .fixed .packetsize) ≡ true = sym et ∙ not-false t q in
+      let h : n .fixed .packetsize ≤ n .marks .write - n .marks .read = omega (arith, can .unread) in
+      let there : List ℕ = cond (isPresent (n .status)) (storeState DataTransferToHostEnding r) r in
+      let mark : marksAt there .write ≡ n .marks .write = write-stays r DataTransferToHostEnding (isPresent (n .status)) long ∙ ap (λ (m : Numbers). m .marks .write) (sym en) in
+      let moved : b ≡ storeMarks (readOff (n .fixed .packetsize) (bufferOfNumbers n io) .marks) there = eb ∙ rw (ea, mark) (ap (λ (m : Marks). storeMarks m there) (all-read n io h)) in
       record {
-        answer = ex ∙ ap (word 0 0 0 0) (ek ∙ all-ready);
-        bytes = el ∙ rw (eb, ea, ef) (ap (λ (m : Marks). storeLeft (fallen (n .left) (n .fixed .packetsize)) (storeMarks m (storeState DataTransferToHostEnding r))) all-read ∙ ap (λ (k : ℕ). storeLeft (fallen (n .left) k) (storeMarks (readOff (n .fixed .packetsize) (bufferOfNumbers n io) .marks) (storeState DataTransferToHostEnding r))) all-ready);
-        packet = ep ∙ ap (overlay p 0) (ap (λ (k : ℕ). take k (drop (n .marks .read) io)) long ∙ all-given);
+        sends = λ _. record {
+          answer = ex ∙ ap (word 0 0 0 0) (ek ∙ all-ready n io h);
+          bytes = el ∙ rw (moved, ef) (ap (λ (k : ℕ). storeLeft (fallen (n .left) k) (storeMarks (readOff (n .fixed .packetsize) (bufferOfNumbers n io) .marks) there)) (all-ready n io h));
+          packet = rw yes at ep ∙ ap (overlay p 0) (all-given n io h);
+        };
+        stays = λ no. absurd (clash (sym yes ∙ no));
       }
 
-pub leaves-taken : (n : Numbers) (io r one : List ℕ) {x : ℕ} {falls : Left} {io′ a l : List ℕ}
-    → falls ≡ fallen (n .left) (length one) → a ≡ storeMarks (at (n .marks .read) (n .marks .write + length one)) r → l ≡ storeLeft falls a → io′ ≡ overlay io (n .marks .write) one → x ≡ word 0 0 0 1 0
-    → TakesOn n io r one x l io′
-leaves-taken n io r one ef ea el eio ex = record { answer = ex; bytes = el ∙ rw (ea, ef); io = eio }
+module _ (n : Numbers) (io r one : List ℕ) {t : Bool} {io′ : List ℕ} (et : t ≡ isPacketSize (n .fixed .packetsize))
+    (eio : io′ ≡ cond (isPacketSize (n .fixed .packetsize)) (overlay io (n .marks .write) (take (n .fixed .packetsize) (drop 0 one))) io) where
+  pub stays-taken : not t ≡ true → TakesOrStays n io r one 0 r io′
+  stays-taken q =
+      let no : isPacketSize (n .fixed .packetsize) ≡ false = sym et ∙ not-true t q in
+      record { takes = λ yes. absurd (clash (sym yes ∙ no)); stays = λ _. record { answer = refl; bytes = refl; buffer = rw no at eio } }
 
-pub ruleset ways = (sends-6, sends-4, is-steady, may-send, may-take, leaves-sent, leaves-taken)
+  pub leaves-taken : not t ≡ false → n ≡ numbersOf (deviceAt r) → (len : ℕ) → CanTake n len (length one) → {x : ℕ} {falls : Left} {a l : List ℕ}
+      → falls ≡ fallen (n .left) (n .fixed .packetsize) → a ≡ storeMarks (at (marksAt r .read) (n .marks .write + n .fixed .packetsize)) r → l ≡ storeLeft falls a → x ≡ word 0 0 0 1 0
+      → TakesOrStays n io r one x l io′
+  unfolding deviceAt
+  leaves-taken q en len can ef ea el ex =
+      let yes : isPacketSize (n .fixed .packetsize) ≡ true = sym et ∙ not-false t q in
+      let mark : marksAt r .read ≡ n .marks .read = ap (λ (m : Numbers). m .marks .read) (sym en) in
+      let all : take (n .fixed .packetsize) (drop 0 one) ≡ one = take-all (n .fixed .packetsize) one (omega (arith, can .whole)) in
+      record {
+        takes = λ _. record { answer = ex; bytes = el ∙ rw (ea, ef, mark, ← can .whole); io = rw yes at eio ∙ ap (overlay io (n .marks .write)) all };
+        stays = λ no. absurd (clash (sym yes ∙ no));
+      }
+
+pub reaches : (r : List ℕ) (s : State) (b : Bool) → b ≡ true → {l : List ℕ} → l ≡ storeState s r → l ≡ cond b (storeState s r) r
+reaches r s b q e = rw q e
+
+pub reaches-not : (r : List ℕ) (s : State) (b : Bool) → b ≡ false → r ≡ cond b (storeState s r) r
+reaches-not r s b q = rw q
+
+pub ruleset ways = (sends-without, sends-6, sends-4, sends-not, is-steady, may-send, may-take, stays-sent, leaves-sent, stays-taken, leaves-taken, reaches, reaches-not)
