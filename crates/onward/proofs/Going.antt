@@ -14,7 +14,7 @@ use lib.Dec.{eqb, ltb, leb}
 use lib.ListN.{length, take, drop}
 use lib.Seq.{take-take, take-all}
 use borrow.Table.Steps.{cases}
-use borrow.Author.Tests.{eq-eqb, ne-eqb, eqb-true, le-ltb, le-leb, lt-leb, leb-true}
+use borrow.Author.Tests.{eq-eqb, ne-eqb, eqb-true, eqb-false, le-ltb, le-leb, lt-leb, leb-true}
 use Rattle.fields.specs.Field.{get}
 use Rattle.fields.specs.Overlay.{overlay}
 use Rattle.fields.proofs.Bools.{and-left, and-right, not-true, not-false, clash}
@@ -96,11 +96,11 @@ unfolding fixedAt
 is-steady r len es el a em c b et t ed d eu u eb k = record {
   lent = sym es ∙ el;
   small = b;
-  created = λ q. created-by (get field.packetSize r) (get field.maxLun r) (get field.size r) q (rw em at c) (omega (arith, es, el, a)) (omega (arith, es, el, b));
-  status = rw et at t;
-  direction = rw ed at d;
-  lun = rw eu at u;
-  block = rw eb at (leb-true _ _ k);
+  created = λ q. created-by (get field.packetSize r) (get field.maxLun r) (get field.size r) q (omega (arith, em, c)) (omega (arith, es, el, a)) (omega (arith, es, el, b));
+  status = rw (← et) t;
+  direction = rw (← ed) d;
+  lun = rw (← eu) u;
+  block = rw (← eb) (leb-true _ _ k);
 }
 
 -- A state in which data goes out, with a status or without one.
@@ -125,19 +125,14 @@ fits-into : (p packet one two : ℕ) → isFitting p packet one two ≡ true →
 unfolding isFitting
 fits-into p packet one two h = leb-true _ _ (and-right (leb two p) (leb p packet) (and-right (leb one p) (leb two p && leb p packet) h))
 
+the-other : (n : ℕ) → n ≤ 1 → eqb n 0 ≡ false → n ≡ 1
+the-other n h e = cases (eqb n 1) (λ q. eqb-true n 1 q) (λ q. absurd (omega (arith, h, eqb-false n 0 e, eqb-false n 1 q)))
+
 module _ (r : List ℕ) where
   -- The flag says whether a status is present.
   pub flag-says : get field.present r ≤ 1 → isPresent (statusAt r) ≡ eqb (get field.present r) 1
   unfolding statusAt statusBy
-  flag-says h =
-      cases (eqb (get field.present r) 0) (λ e. rw (eqb-true _ _ e))
-      (λ e. rw (below-2 (get field.present r) h e))
-    where
-      below-2 : (n : ℕ) → n ≤ 1 → eqb n 0 ≡ false → n ≡ 1
-      below-2 n k e = cases (eqb n 1) (λ q. eqb-true _ _ q) (λ q. absurd (clash (sym (eq-eqb n 0 (omega (arith, k, eqb-no n 1 q))) ∙ e)))
-        where
-          eqb-no : (a b : ℕ) → eqb a b ≡ false → a ≡ b → ⊥
-          eqb-no a b f g = clash (sym (eq-eqb a b g) ∙ f)
+  flag-says h = cases (eqb (get field.present r) 0) (λ e. rw (eqb-true (get field.present r) 0 e)) (λ e. rw (the-other (get field.present r) h e))
 
   -- The poll is refused neither with 10 nor with 11.
   module _ (len packet one two : ℕ) (long : length r ≡ field.recordSize) (s : Steady r len) (state : get field.state r ≤ 8) (flag : get field.present r ≤ 1)
@@ -156,7 +151,7 @@ module _ (r : List ℕ) where
       → (s ≡ true → Steady r len) → not s ≡ false → p ≡ get field.packetSize r → f ≡ isFitting p packet one two → not f ≡ false
       → to ≡ get field.writeMark r → to ≤ len → from ≡ get field.readMark r → from + p ≤ to → left ≡ get field.left r → leb p left ≡ true → MaySend r len packet one two write
   unfolding deviceAt fixedAt marksAt
-  may-send len packet one two write {i = i} {s = s} {f = f} long es eg ei qi served steady qs ep ef qf et within er order el some =
+  may-send len packet one two write {p = p} {left = left} {i = i} {s = s} {f = f} long es eg ei qi served steady qs ep ef qf et within er order el some =
       let kind : leb (get field.present r) 1 && sendsIn (get field.state r) (eqb (get field.present r) 1) ≡ true = rw (es, eg) at (sym ei ∙ not-false i qi) in
       let flag : get field.present r ≤ 1 = leb-true _ _ (and-left (leb (get field.present r) 1) (sendsIn (get field.state r) (eqb (get field.present r) 1)) kind) in
       let sends : sendsIn (get field.state r) (eqb (get field.present r) 1) ≡ true = and-right (leb (get field.present r) 1) (sendsIn (get field.state r) (eqb (get field.present r) 1)) kind in
@@ -166,7 +161,7 @@ module _ (r : List ℕ) where
       sending-in (λ (x : State) (b : Bool). statusFits x b ≡ true) (stateOfNumber (get field.state r)) (isPresent (statusAt r)) in-one refl refl refl in
       let fits : isFitting (get field.packetSize r) packet one two ≡ true = rw ep at (sym ef ∙ not-false f qf) in
       let st : Steady r len = steady (not-false s qs) in
-      let enough : p ≤ _ = leb-true _ _ some in
+      let enough : p ≤ left = leb-true p left some in
       record {
         ready = is-ready len packet one two long st known flag (omega (arith, er, et, order)) (omega (arith, et, within)) suits fits;
         sends = record { state = in-one; served = served; left = omega (arith, ep, el, enough); unread = omega (arith, ep, er, et, order) };
@@ -178,16 +173,16 @@ module _ (r : List ℕ) where
       → (s ≡ true → Steady r len) → not s ≡ false → p ≡ get field.packetSize r → one ≡ p → f ≡ isFitting p packet one two → not f ≡ false
       → at ≡ get field.writeMark r → from ≡ get field.readMark r → from ≤ at → at + p ≤ len → left ≡ get field.left r → leb p left ≡ true → MayTake r len packet one two first
   unfolding deviceAt fixedAt marksAt stateOfNumber
-  may-take len packet one two first {s = s} {f = f} long es seven eg none-there served steady qs ep whole ef qf et er order room el some =
+  may-take len packet one two first {p = p} {left = left} {s = s} {f = f} long es seven eg none-there served steady qs ep whole ef qf et er order fits el some =
       let state : get field.state r ≡ 7 = sym es ∙ seven in
       let flag : get field.present r ≡ 0 = sym eg ∙ none-there in
       let absent : isPresent (statusAt r) ≡ false = rw flag at (flag-says (omega (arith, flag))) in
       let st : Steady r len = steady (not-false s qs) in
-      let enough : p ≤ _ = leb-true _ _ some in
+      let enough : p ≤ left = leb-true p left some in
       record {
-        ready = is-ready len packet one two long st (omega (arith, state)) (omega (arith, flag)) (omega (arith, er, et, order)) (omega (arith, et, room)) (rw (state, absent)) (rw ep at (sym ef ∙ not-false f qf));
-        takes = record { state = rw state; absent = absent; served = served; left = omega (arith, ep, el, enough); whole = whole ∙ ep; room = omega (arith, ep, et, room) };
-        can = record { small = st .small; room = omega (arith, ep, et, room); whole = whole ∙ ep };
+        ready = is-ready len packet one two long st (omega (arith, state)) (omega (arith, flag)) (omega (arith, er, et, order)) (omega (arith, et, fits)) (rw state) (rw ep at (sym ef ∙ not-false f qf));
+        takes = record { state = rw state; absent = absent; served = served; left = omega (arith, ep, el, enough); whole = whole ∙ ep; room = omega (arith, ep, et, fits) };
+        can = record { small = st .small; room = omega (arith, ep, et, fits); whole = whole ∙ ep };
       }
 
 -- ---- a packet of data goes out: 01's rules of 4 and 6
@@ -224,7 +219,7 @@ module _ (d : Device) (io : List ℕ) (g : Given) (w : Whole (numbersOf d) (leng
     due = omega (arith, h .unread, min-le-right (d .left .0) (d .fixed .packetsize))
 
     whole-there : fallsShort (d .fixed .packetsize) (d .left) (unread s) ≡ false
-    unfolding fallsShort unread
+    unfolding fallsShort
     whole-there = rw (le-leb _ _ (h .left), le-ltb _ _ (h .unread))
 
     ending-sends : toHostEndingRule g (point d io 0 false) ≡ sentBy true
@@ -333,7 +328,7 @@ module _ (n : Numbers) (io r p : List ℕ) {t : Bool} {p′ : List ℕ} (et : t 
       → b ≡ storeMarks (at (n .marks .read + n .fixed .packetsize) (marksAt a .write)) a → l ≡ storeLeft falls b → k ≡ n .fixed .packetsize → x ≡ word 0 0 0 0 k
       → SendsOrStays n io r p x l p′
   unfolding deviceAt
-  leaves-sent q long en len packet can {falls = falls} ef ea eb el ek ex =
+  leaves-sent q long en len packet can {b = b} ef ea eb el ek ex =
       let yes : isPacketSize (n .fixed .packetsize) ≡ true = sym et ∙ not-false t q in
       let h : n .fixed .packetsize ≤ n .marks .write - n .marks .read = omega (arith, can .unread) in
       let there : List ℕ = cond (isPresent (n .status)) (storeState DataTransferToHostEnding r) r in

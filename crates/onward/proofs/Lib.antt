@@ -1,4 +1,5 @@
 -- proofs.Going     polls in the middle of a transfer are 01's polls
 -- proofs.Unique    no second answer satisfies a promise
+pub mod Entering
 pub mod Going
 pub mod Unique

@@ -1,4 +1,4 @@
--- The parts of a device are stored one after the other, as `storeDevice` has them. A part that did not change changes nothing, whatever
+-- The parts of a device are stored one after the other, as `storeDevice` has them. A part that did not change leaves the bytes, whatever
 -- was stored before it. So a call that stores the parts that it changes leaves the bytes of the whole device.
 --     device-kept                  nothing changed
 --     status-alone, marks-alone    one part changed

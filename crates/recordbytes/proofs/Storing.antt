@@ -57,7 +57,7 @@ module _ (f : Field) (n : ℕ) (r : List ℕ) where
   store-same e = rw (eq-eqb _ _ e)
 
   module _ (fits : f .start + f .width ≤ length r) where
-    -- Bytes are asked for only where the number stands there already: there a list may hold larger ones, and writing would change it.
+    -- A number that stands there already may be written too. That asks for bytes: a list may hold larger elements, which writing would change.
     put-stores : (get f r ≡ n → Bytes (bytesAt f r)) → put f n r ≡ store f n r
     unfolding store
     put-stores h = of-picked (λ (l : List ℕ). put f n r ≡ l) (eqb (get f r) n) (λ q. again (eqb-true _ _ q)) (λ _. refl)

@@ -1,5 +1,5 @@
 -- The polls of which a read-out is made: the next packet of data crosses the wire, or the status goes out, and nothing else happens. Only
--- inner contracts cite these definitions. proofs/Going.antt and proofs/Ending.antt prove that such polls follow 01's rules of states 4 to
+-- inner contracts cite these definitions. proofs/Going.antt and proofs/Entering.antt prove that such polls follow 01's rules of states 4 to
 -- 8. Assumes nothing: these are definitions.
 use mathlib.Core.Path.{_≡_}
 use mathlib.Core.Bool.{Bool, true, false, cond, _&&_, _||_}
@@ -151,10 +151,10 @@ pub record TakesOrStays (n : Numbers) (b r one : List ℕ) (result : ℕ) (r′ 
 abbrev pub statusIn : List ℕ → List ℕ → Buffer
 statusIn r io = statusWritten (get field.tag r) (record { 0 = get field.residue r }) (statusNumber (statusOfNumber (get field.status r))) (buffer io (at 0 0))
 
--- What a poll that enters 3 leaves. `r` is the record, `io` the IO buffer, `p` the packet buffer. The poll returns `result`, and leaves
--- `r′`, `io′` and `p′`.
-pub record EndsOn (r io p : List ℕ) (result : ℕ) (r′ io′ p′ : List ℕ) : Type 0 where
-  pub answer : result ≡ word 0 0 0 0 (ready (get field.packetSize r) (statusIn r io))
-  pub bytes : r′ ≡ storeMarks (readOff (get field.packetSize r) (statusIn r io) .marks) (storeState StatusTransfer r)
-  pub io : io′ ≡ statusIn r io .bytes
-  pub packet : p′ ≡ overlay p 0 (readyBytes (get field.packetSize r) (statusIn r io))
+-- What a poll that enters 3 leaves. `r` is the record, `b` is the IO buffer, `p` is the packet buffer. The poll returns `result`, and
+-- leaves `r′`, `b′` and `p′`.
+pub record EndsOn (r b p : List ℕ) (result : ℕ) (r′ b′ p′ : List ℕ) : Type 0 where
+  pub answer : result ≡ word 0 0 0 0 (ready (get field.packetSize r) (statusIn r b))
+  pub bytes : r′ ≡ storeMarks (readOff (get field.packetSize r) (statusIn r b) .marks) (storeState StatusTransfer r)
+  pub io : b′ ≡ statusIn r b .bytes
+  pub packet : p′ ≡ overlay p 0 (readyBytes (get field.packetSize r) (statusIn r b))
