@@ -46,6 +46,14 @@ use Rattle.buffer.proofs.marked.fill_up_to.Kinds as marked-fill-kinds
 use Rattle.buffer.proofs.marked.fill_up_to.Reads as marked-fill
 use Rattle.buffer.proofs.marked.read.Kinds as marked-read-kinds
 use Rattle.buffer.proofs.marked.read.Reads as marked-read
+use Rattle.buffer.proofs.span.copy8.Kinds as copy8-kinds
+use Rattle.buffer.proofs.span.copy8.Reads as copy8
+use Rattle.buffer.proofs.span.copy16.Kinds as copy16-kinds
+use Rattle.buffer.proofs.span.copy16.Reads as copy16
+use Rattle.buffer.proofs.span.copy32.Kinds as copy32-kinds
+use Rattle.buffer.proofs.span.copy32.Reads as copy32
+use Rattle.buffer.proofs.span.copy64.Kinds as copy64-kinds
+use Rattle.buffer.proofs.span.copy64.Reads as copy64
 use Rattle.buffer.proofs.span.put.Kinds as put-kinds
 use Rattle.buffer.proofs.span.put.Reads as put
 use Rattle.buffer.proofs.span.move_front.Kinds as move-front-kinds
@@ -144,6 +152,18 @@ marked-write-all-only κs a x y s t p q = wrote-once (p .0) (p .1) (q .0) (q .1)
 
 pub marked-read-only : Only 2 marked-read-kinds.ps marked-read-kinds.r marked-read.Post (λ κs s. now (s .1 .1 .1 .0))
 marked-read-only κs a x y s t p q = (taken-once (p .0) (p .1) (q .0) (q .1) .0, p .2 ∙ sym (q .2))
+
+pub copy8-only : Only 2 copy8-kinds.ps copy8-kinds.r copy8.Post (λ κs s. now (s .0))
+copy8-only κs a x y s t p q = (refl, p ∙ sym q)
+
+pub copy16-only : Only 2 copy16-kinds.ps copy16-kinds.r copy16.Post (λ κs s. now (s .0))
+copy16-only κs a x y s t p q = (refl, p ∙ sym q)
+
+pub copy32-only : Only 2 copy32-kinds.ps copy32-kinds.r copy32.Post (λ κs s. now (s .0))
+copy32-only κs a x y s t p q = (refl, p ∙ sym q)
+
+pub copy64-only : Only 2 copy64-kinds.ps copy64-kinds.r copy64.Post (λ κs s. now (s .0))
+copy64-only κs a x y s t p q = (refl, p ∙ sym q)
 
 pub put-only : Only 2 put-kinds.ps put-kinds.r put.Post (λ κs s. now (s .0))
 put-only κs a x y s t p q = (refl, p ∙ sym q)

@@ -2,10 +2,12 @@
 --     overlay-nothing, overlay-own, overlay-whole       an empty list and a list's own part change nothing; one as long as d hides d
 --     length-overlay                                    the length stays
 --     take-overlay, drop-overlay                        the list up to the end of ys, and from there on
+--     take-within, drop-behind                          the list up to a place in ys, and from a place behind ys on
 --     overlay-before, overlay-inside, overlay-after     each element: before ys, in ys, after ys
 --     part-inside, part-before, part-behind             parts: ys itself, and what lies before or after it
 --     overlay-stored                                    a store right after ys makes ys one longer
---     Laid, laid-start, laid-turn, laid-end, unmoved    the invariant of such a loop
+--     Laid, laid-start, laid-turn, laid-chunk, laid-end the invariant of such a loop, of single elements or of chunks
+--     unmoved, unmoved-part                             what a loop that moves a part of the list itself reads next
 -- Assumes nothing.
 use mathlib.Core.Path.{_≡_, refl, sym, ap, _∙_}
 use mathlib.Core.List.{List, [], _∷_, _++_, append-assoc, append-nil}
@@ -14,9 +16,9 @@ use native.Mathlib.Nat.{add-zero, add-sub-of-le}
 use native.Mathlib.Numerals.{add-one}
 use native.Mathlib.Omega.{arith}
 use lib.ListN.{length, take, drop, getD, set, length-append, length-drop, length-set, take-append-drop, drop-of-length-le, List·getD-append}
-use lib.Seq.{getD-take, getD-drop, getD-append-add, length-take-le, take-all, take-at, drop-at, drop-drop, take-take, take-append-le, take-suc, drop-cons, set-at, append-snoc}
+use lib.Seq.{getD-take, getD-drop, getD-append-add, length-take-le, take-all, take-at, drop-at, drop-drop, take-take, take-append-le, take-append-add, take-add, take-suc, drop-cons, set-at, append-snoc}
 use Rattle.fields.specs.Overlay.{overlay}
-use Rattle.fields.proofs.Seq.{drop-front}
+use Rattle.fields.proofs.Seq.{length-part, drop-front, part-of-part}
 
 pub overlay-nothing : (d : List ℕ) (at : ℕ) → overlay d at [] ≡ d
 unfolding overlay
@@ -51,6 +53,23 @@ module _ (d : List ℕ) (at : ℕ) (ys : List ℕ) where
   pub drop-overlay : at ≤ length d → drop (at + length ys) (overlay d at ys) ≡ drop (at + length ys) d
   unfolding overlay
   drop-overlay h = drop-at (take at d ++ ys) (drop (at + length ys) d) (at + length ys) (length-head h)
+
+  pub take-within : (n : ℕ) → n ≤ length ys → at ≤ length d → take (at + n) (overlay d at ys) ≡ take at d ++ take n ys
+  take-within n h fits =
+      sym (take-take (at + n) (at + length ys) (overlay d at ys) (omega arith))
+      ∙ ap (take (at + n)) (take-overlay fits)
+      ∙ ap (λ (k : ℕ). take (k + n) (take at d ++ ys)) (sym (length-take-le at d fits))
+      ∙ take-append-add (take at d) ys n
+
+  pub drop-behind : (f : ℕ) → at + length ys ≤ f → at ≤ length d → drop f (overlay d at ys) ≡ drop f d
+  drop-behind f h fits =
+      let k : ℕ = at + length ys in
+      let on : k + (f - k) ≡ f = add-sub-of-le h in
+      ap (λ (i : ℕ). drop i (overlay d at ys)) (sym on)
+      ∙ sym (drop-drop (f - k) k (overlay d at ys))
+      ∙ ap (drop (f - k)) (drop-overlay fits)
+      ∙ drop-drop (f - k) k d
+      ∙ ap (λ (i : ℕ). drop i d) on
 
   pub overlay-before : (k : ℕ) → at ≤ length d → k < at → getD (overlay d at ys) k 0 ≡ getD d k 0
   unfolding overlay
@@ -93,15 +112,7 @@ module _ (d : List ℕ) (at : ℕ) (ys : List ℕ) where
       ∙ drop-front f n d (omega arith)
 
   pub part-behind : (f n : ℕ) → at + length ys ≤ f → at ≤ length d → take n (drop f (overlay d at ys)) ≡ take n (drop f d)
-  part-behind f n h fits =
-      let k : ℕ = at + length ys in
-      let on : k + (f - k) ≡ f = add-sub-of-le h in
-      ap (take n)
-      (ap (λ (i : ℕ). drop i (overlay d at ys)) (sym on)
-      ∙ sym (drop-drop (f - k) k (overlay d at ys))
-      ∙ ap (drop (f - k)) (drop-overlay fits)
-      ∙ drop-drop (f - k) k d
-      ∙ ap (λ (i : ℕ). drop i d) on)
+  part-behind f n h fits = ap (take n) (drop-behind f h fits)
 
   pub overlay-stored : (v : ℕ) → at + length ys < length d → set (overlay d at ys) (at + length ys) v ≡ overlay d at (ys ++ (v ∷ []))
   unfolding overlay
@@ -136,19 +147,55 @@ laid-turn d at ys i l v fits h hi ev =
       long = length-set l (at + i) v ∙ h .long;
     }
 
+-- A chunk of k elements is laid at once, from index j of ys on. It may begin before i, so it may lay some elements again: a last chunk
+-- can end where ys ends.
+pub laid-chunk : (d : List ℕ) (at : ℕ) (ys : List ℕ) (i j k : ℕ) (l : List ℕ)
+    → at + length ys ≤ length d → Laid d at ys i l → j ≤ i → i ≤ j + k → j + k ≤ length ys → Laid d at ys (j + k) (overlay l (at + j) (take k (drop j ys)))
+unfolding overlay
+laid-chunk d at ys i j k l fits h hj hi hk =
+    let old : List ℕ = take i ys in
+    let new : List ℕ = take k (drop j ys) in
+    let n : length old ≡ i = length-take-le i ys (h .reached) in
+    let m : length new ≡ k = length-part j k ys hk in
+    let before : take (at + j) l ≡ take at d ++ take j ys =
+    ap (take (at + j)) (h .laid) ∙ take-within d at old j (omega arith) (omega arith) ∙ ap (λ (r : List ℕ). take at d ++ r) (take-take j i ys hj) in
+    let end : at + j + length new ≡ at + length (take (j + k) ys) = omega (arith, length-take-le (j + k) ys hk) in
+    let behind : drop (at + j + length new) l ≡ drop (at + length (take (j + k) ys)) d =
+    ap (drop (at + j + length new)) (h .laid)
+    ∙ drop-behind d at old (at + j + length new) (omega arith) (omega arith)
+    ∙ ap (λ (x : ℕ). drop x d) end in
+    record {
+      reached = hk;
+      laid =
+          ap (λ (r : List ℕ). r ++ new ++ drop (at + j + length new) l) before
+          ∙ ap (λ (r : List ℕ). take at d ++ take j ys ++ new ++ r) behind
+          ∙ ap (λ (r : List ℕ). r ++ drop (at + length (take (j + k) ys)) d) (append-assoc (take at d) (take j ys) new)
+          ∙ ap (λ (r : List ℕ). take at d ++ r ++ drop (at + length (take (j + k) ys)) d) (sym (take-add j k ys));
+      long = length-overlay l (at + j) new (omega (arith, h .long)) ∙ h .long;
+    }
+
 pub laid-end : (d : List ℕ) (at : ℕ) (ys : List ℕ) (i : ℕ) (l : List ℕ) → Laid d at ys i l → length ys ≤ i → l ≡ overlay d at ys
 laid-end d at ys i l h e = h .laid ∙ ap (overlay d at) (take-all i ys e)
 
--- Let ys be n elements of d itself, from index f on, which are laid over the front of d. Then the element
--- that is read next has not been overwritten yet.
-pub unmoved : (d : List ℕ) (f n i : ℕ) (l : List ℕ)
-    → Laid d 0 (take n (drop f d)) i l → i < n → f + n ≤ length d → getD l (f + i) 0 ≡ getD (take n (drop f d)) i 0
-unmoved d f n i l h hi fits =
+-- Let ys be n elements of d itself, from index f on, which are laid over d at a place not behind them. Then the element that is read next
+-- has not been overwritten yet.
+pub unmoved : (d : List ℕ) (at f n i : ℕ) (l : List ℕ)
+    → Laid d at (take n (drop f d)) i l → at ≤ f → i < n → f + n ≤ length d → getD l (f + i) 0 ≡ getD (take n (drop f d)) i 0
+unmoved d at f n i l h ha hi fits =
     let ys : List ℕ = take i (take n (drop f d)) in
-    let behind : 0 + length ys + f ≡ f + i = omega (arith, length-take-le i (take n (drop f d)) (h .reached)) in
+    let behind : at + length ys + (f - at) ≡ f + i = omega (arith, length-take-le i (take n (drop f d)) (h .reached)) in
     ap (λ (x : List ℕ). getD x (f + i) 0) (h .laid)
-    ∙ ap (λ (k : ℕ). getD (overlay d 0 ys) k 0) (sym behind)
-    ∙ overlay-after d 0 ys f zero-le
+    ∙ ap (λ (k : ℕ). getD (overlay d at ys) k 0) (sym behind)
+    ∙ overlay-after d at ys (f - at) (omega arith)
     ∙ ap (λ (k : ℕ). getD d k 0) behind
     ∙ sym (getD-drop f d i 0)
     ∙ sym (getD-take n (drop f d) i 0 hi)
+
+-- The same of the k elements that are read next.
+pub unmoved-part : (d : List ℕ) (at f n i k : ℕ) (l : List ℕ)
+    → Laid d at (take n (drop f d)) i l → at ≤ f → i + k ≤ n → f + n ≤ length d → take k (drop (f + i) l) ≡ take k (drop i (take n (drop f d)))
+unmoved-part d at f n i k l h ha hk fits =
+    let ys : List ℕ = take i (take n (drop f d)) in
+    ap (λ (x : List ℕ). take k (drop (f + i) x)) (h .laid)
+    ∙ part-behind d at ys (f + i) k (omega (arith, length-take-le i (take n (drop f d)) (h .reached))) (omega arith)
+    ∙ sym (part-of-part f n i k d hk fits)

@@ -5,7 +5,7 @@ use Prim.Native.Nat.{ℕ, zero, suc, _+_, _-_, _≤_}
 use native.Mathlib.Nat.{add-zero, add-sub-of-le}
 use native.Mathlib.Omega.{arith}
 use lib.ListN.{length, take, drop, getD, length-drop, drop-of-length-le}
-use lib.Seq.{length-take-le, take-add, drop-at, drop-cons, sets, sets-eq}
+use lib.Seq.{length-take-le, take-add, take-take, drop-drop, drop-at, drop-cons, sets, sets-eq}
 
 -- A list of no elements is empty.
 pub none-of : (l : List ℕ) → length l ≡ 0 → l ≡ []
@@ -24,6 +24,13 @@ drop-front f n l h = ap (drop f) (take-add f n l) ∙ drop-at (take f l) (take n
 pub drop-take : (f t : ℕ) (l : List ℕ) → f ≤ t → f ≤ length l → drop f (take t l) ≡ take (t - f) (drop f l)
 drop-take f t l h k =
     ap (λ (n : ℕ). drop f (take n l)) (sym (add-sub-of-le h)) ∙ drop-front f (t - f) l k
+
+-- Of the n elements from index f on, the k from index i on are the k from index f + i on.
+pub part-of-part : (f n i k : ℕ) (l : List ℕ) → i + k ≤ n → f + n ≤ length l → take k (drop i (take n (drop f l))) ≡ take k (drop (f + i) l)
+part-of-part f n i k l h fits =
+    ap (take k) (drop-take i n (drop f l) (omega arith) (omega (arith, length-drop f l)))
+    ∙ take-take k (n - i) (drop i (drop f l)) (omega arith)
+    ∙ ap (take k) (drop-drop i f l)
 
 pub length-reverse : (l : List ℕ) → length (reverse l) ≡ length l
 length-reverse l = onto l [] ∙ add-zero (length l)

@@ -1,33 +1,30 @@
--- `buffer::span::put` meets its contract: after i turns the first i bytes of src are laid over dst. Assumes nothing.
-use mathlib.Core.Path.{refl}
-use Prim.Native.Nat.{_-_}
+-- `buffer::span::put` meets its contract: from 8 bytes on its chunks cover src. Assumes nothing.
 use native.Mathlib.Omega.{arith}
 use borrow.Author.Needs.{needs}
-use lib.ListN.{length}
-use Rattle.fields.proofs.Overlay.{Laid, laid-start, laid-turn, laid-end}
+use Rattle.buffer.proofs.Chunks.{both-ends}
 use Rattle.buffer.proofs.span.put.Statement.{statement}
 use Rattle.buffer.proofs.span.put.Tie as tie
 
-abbrev Inv-loop : tie.InvT-loop
-Inv-loop dst₀ at src i₀ dst i = Laid dst₀ at src i dst
+returns-32 : tie.Need-returns-2
+returns-32 c =
+    let first = c .before .before .before .before .before .before in
+    both-ends _ _ _ 32 (c .before .before .copy322 .ensures) (first .copy32 .ensures) (omega arith) (omega arith) (omega arith)
 
-abbrev μ-loop : tie.MeasureT-loop
-μ-loop dst₀ at src i₀ dst i = length src - i
+returns-16 : tie.Need-returns-3
+returns-16 c =
+    let first = c .before .before .before .before .before .before in
+    both-ends _ _ _ 16 (c .before .before .copy162 .ensures) (first .copy16 .ensures) (omega arith) (omega arith) (omega arith)
 
-loop-holds : tie.Need-loop-holds Inv-loop μ-loop
-loop-holds c = laid-start _ _ _
-
-loop-again : tie.Need-loop-again Inv-loop μ-loop
-loop-again c =
-    let turn = c .before in
-    let head = turn .before in
-    laid-turn _ _ _ _ _ _ (head .before .pre) (head .loop .inv) (turn .loop-test .taken) refl
-
-returns : tie.Need-returns Inv-loop μ-loop
-returns c = laid-end _ _ _ _ _ (c .before .loop .inv) (c .loop-test .left)
+returns-8 : tie.Need-returns-4
+returns-8 c =
+    let first = c .before .before .before .before .before .before in
+    both-ends _ _ _ 8 (c .before .before .copy82 .ensures) (first .copy8 .ensures) (omega arith) (omega arith) (omega arith)
 
 pub put-spec : {M : Type 1} → statement M
 put-spec =
-    tie.close (tie.spec Inv-loop μ-loop
-    loop-holds (λ c. omega arith) (λ c. omega arith) (λ c. omega arith) (λ c. omega arith) (λ c. omega arith) loop-again
-    (λ c. search needs) returns)
+    tie.close
+    (tie.spec (λ c κs. search needs) (λ c. search needs) (λ c. search needs)
+    (λ c κs. search needs) (λ c. search needs) (λ c κs. search needs) (λ c. search needs) returns-32
+    (λ c κs. search needs) (λ c. search needs) (λ c κs. search needs) (λ c. search needs) returns-16
+    (λ c κs. search needs) (λ c. search needs) (λ c κs. search needs) (λ c. search needs) returns-8
+    (λ c κs. search needs) (λ c. search needs) (λ c. search needs))
