@@ -6,7 +6,8 @@
 use mathlib.Core.Path.{_≡_, refl, sym, ap, _∙_}
 use mathlib.Core.Bool.{Bool, true, false, not}
 use mathlib.Core.List.{List}
-use Prim.Native.Nat.{ℕ, _^_, _≤_, _<_}
+use Prim.Native.Nat.{ℕ, _-_, _^_, _≤_, _<_}
+use native.Mathlib.Nat.{min-le-left}
 use native.Mathlib.Omega.{arith}
 use lib.Dec.{eqb, leb}
 use lib.ListN.{length}
@@ -128,10 +129,14 @@ module _ (d : Device) (io : List ℕ) (g : Given) (w : Whole (numbersOf d) (leng
 
 -- ---- what the function that makes it owes
 
--- The marks of a buffer that is not too long fit into their places.
-module _ (b : Buffer) (k : Sound b) (len : ℕ) (long : length (b .bytes) ≡ len) (small : len ≤ 65536) where
-  pub marks-fit : (b .marks .read < 2 ^ 32) × (b .marks .write < 2 ^ 32)
-  marks-fit = (omega (arith, k .order, k .within, long, small), omega (arith, k .within, long, small))
+-- The marks of a buffer that is not too long fit into their places, and so does what is read from it.
+module _ {s t : Buffer} {len : ℕ} (leaves : Leaves s t) (small : len ≤ 65536) (long : length (s .bytes) ≡ len) where
+  pub marks-fit : (s .marks .read < 2 ^ 32) × (s .marks .write < 2 ^ 32)
+  marks-fit = (omega (arith, leaves .sound .order, leaves .sound .within, long, small), omega (arith, leaves .sound .within, long, small))
+
+  pub count-fits : (n : ℕ) {k : ℕ} → k ≡ ready n s → k < 2 ^ 32
+  unfolding ready
+  count-fits n e = omega (arith, e, min-le-left (s .marks .write - s .marks .read) n, leaves .sound .within, long, small)
 
 pub leaves-ended : (r io p : List ℕ) {number n k x : ℕ} {status : CommandStatus} {m after : Marks} {io′ p′ a l : List ℕ}
     → number ≡ get field.status r → status ≡ statusOfNumber number → n ≡ get field.packetSize r

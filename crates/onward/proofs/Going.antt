@@ -363,10 +363,11 @@ module _ (n : Numbers) (io r one : List ℕ) {t : Bool} {io′ : List ℕ} (et :
         stays = λ no. absurd (clash (sym yes ∙ no));
       }
 
-pub reaches : (r : List ℕ) (s : State) (b : Bool) → b ≡ true → {l : List ℕ} → l ≡ storeState s r → l ≡ cond b (storeState s r) r
-reaches r s b q e = rw q e
+module _ (r : List ℕ) (s : State) (b : Bool) {t : Bool} (et : t ≡ b) where
+  pub reaches : t ≡ true → {l : List ℕ} → l ≡ storeState s r → l ≡ cond b (storeState s r) r
+  reaches q e = rw (← et, q) e
 
-pub reaches-not : (r : List ℕ) (s : State) (b : Bool) → b ≡ false → r ≡ cond b (storeState s r) r
-reaches-not r s b q = rw q
+  pub reaches-not : t ≡ false → r ≡ cond b (storeState s r) r
+  reaches-not q = rw (← et, q)
 
 pub ruleset ways = (sends-without, sends-6, sends-4, sends-not, is-steady, may-send, may-take, stays-sent, leaves-sent, stays-taken, leaves-taken, reaches, reaches-not)

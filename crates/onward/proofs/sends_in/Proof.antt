@@ -1,8 +1,10 @@
--- `onward::sends_in` meets its contract: the state is 6 or 4. Assumes nothing.
-use borrow.Author.Needs.{needs}
+-- `onward::sends_in` meets its contract, for each flag. Assumes nothing.
 use Rattle.onward.proofs.Going.{ways}
+use borrow.Author.Needs.{needs}
 use Rattle.onward.proofs.sends_in.Statement.{statement}
 use Rattle.onward.proofs.sends_in.Tie as tie
 
 pub sends-in-spec : {M : Type 1} → statement M
-sends-in-spec = tie.close (tie.spec (λ c. search (ways, needs)) (λ c. search (ways, needs)))
+sends-in-spec =
+    tie.close (tie.spec
+    (λ c. search (ways, needs)) (λ c. search (ways, needs)) (λ c. search (ways, needs)) (λ c. search (ways, needs)))

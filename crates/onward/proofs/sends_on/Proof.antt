@@ -1,6 +1,6 @@
 -- `onward::sends_on` meets its contract, test by test. Assumes nothing.
-use borrow.Author.Needs.{needs}
 use Rattle.onward.proofs.Going.{fails, ways}
+use borrow.Author.Needs.{needs}
 use Rattle.onward.proofs.sends_on.Statement.{statement}
 use Rattle.onward.proofs.sends_on.Tie as tie
 
@@ -22,20 +22,9 @@ returns-5 c = fails _
 returns-6 : tie.Need-returns-6
 returns-6 c = fails _
 
-returns-7 : tie.Need-returns-7
-returns-7 c = fails _
-
-returns-8 : tie.Need-returns-8
-returns-8 c = fails _
-
 pub sends-on-spec : {M : Type 1} → statement M
 sends-on-spec =
     tie.close (tie.spec
-    returns
-    (λ c. search needs) (λ c. search needs) returns-2
-    (λ c. search needs) returns-3 returns-4
-    (λ c. search needs) (λ c. search needs) (λ c. search needs) (λ c. search needs) returns-5
-    (λ c. search needs) returns-6
-    (λ c. search needs) (λ c. search needs) returns-7
-    (λ c. search needs) (λ c. search needs) (λ c. search needs) returns-8
-    (λ c. search needs) (λ c. search (ways, needs)))
+    (λ c. search needs) (λ c. search needs) (λ c. search needs) returns returns-2 (λ c. search needs) returns-3 (λ c. search needs)
+    (λ c. search needs) (λ c. search needs) returns-4 (λ c. search needs) (λ c. search needs) returns-5 (λ c. search needs)
+    (λ c. search needs) (λ c. search needs) returns-6 (λ c. search needs) (λ c. search needs) (λ c. search (ways, needs)))

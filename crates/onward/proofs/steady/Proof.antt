@@ -1,6 +1,6 @@
 -- `onward::steady` meets its contract, test by test. Assumes nothing.
-use borrow.Author.Needs.{needs}
 use Rattle.onward.proofs.Going.{fails, ways}
+use borrow.Author.Needs.{needs}
 use Rattle.onward.proofs.steady.Statement.{statement}
 use Rattle.onward.proofs.steady.Tie as tie
 
@@ -25,16 +25,8 @@ returns-6 c = fails _
 returns-7 : tie.Need-returns-7
 returns-7 c = fails _
 
-returns-8 : tie.Need-returns-8
-returns-8 c = fails _
-
 pub steady-spec : {M : Type 1} → statement M
 steady-spec =
     tie.close (tie.spec
-    (λ c. search needs) (λ c. search needs) returns returns-2 returns-3
-    (λ c. search needs) returns-4
-    (λ c. search needs) returns-5
-    (λ c. search needs) returns-6
-    (λ c. search needs) returns-7
-    (λ c. search needs) returns-8
-    (λ c. search needs) (λ c. search needs) (λ c. search needs) (λ c. search (ways, needs)))
+    (λ c. search needs) (λ c. search needs) returns returns-2 (λ c. search needs) returns-3 returns-4 (λ c. search needs) returns-5
+    (λ c. search needs) returns-6 (λ c. search needs) returns-7 (λ c. search needs) (λ c. search (ways, needs)))

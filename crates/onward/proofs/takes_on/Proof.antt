@@ -1,6 +1,6 @@
 -- `onward::takes_on` meets its contract, test by test. Assumes nothing.
-use borrow.Author.Needs.{needs}
 use Rattle.onward.proofs.Going.{fails, ways}
+use borrow.Author.Needs.{needs}
 use Rattle.onward.proofs.takes_on.Statement.{statement}
 use Rattle.onward.proofs.takes_on.Tie as tie
 
@@ -31,11 +31,6 @@ returns-8 c = fails _
 pub takes-on-spec : {M : Type 1} → statement M
 takes-on-spec =
     tie.close (tie.spec
-    returns
-    (λ c. search needs) returns-2
-    (λ c. search needs) returns-3 returns-4
-    (λ c. search needs) returns-5
-    (λ c. search needs) returns-6
-    (λ c. search needs) (λ c. search needs) (λ c. search needs) (λ c. search needs) (λ c. search needs) returns-7
-    (λ c. search needs) (λ c. search needs) returns-8
-    (λ c. search needs) (λ c. search (ways, needs)))
+    (λ c. search needs) returns (λ c. search needs) returns-2 returns-3 (λ c. search needs) returns-4 (λ c. search needs)
+    (λ c. search needs) returns-5 (λ c. search needs) returns-6 (λ c. search needs) (λ c. search needs) (λ c. search needs)
+    (λ c. search needs) returns-7 (λ c. search needs) returns-8 (λ c. search needs) (λ c. search needs) (λ c. search (ways, needs)))
