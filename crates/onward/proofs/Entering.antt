@@ -130,27 +130,27 @@ module _ (d : Device) (io : List ℕ) (g : Given) (w : Whole (numbersOf d) (leng
 -- ---- what the function that makes it owes
 
 -- The marks of a buffer that is not too long fit into their places, and so does what is read from it.
-module _ {s t : Buffer} {len : ℕ} (leaves : Leaves s t) (small : len ≤ 65536) (long : length (s .bytes) ≡ len) where
+module _ {s : Buffer} {len : ℕ} (sound : Sound s) (small : len ≤ 65536) (long : length (s .bytes) ≡ len) where
   pub marks-fit : (s .marks .read < 2 ^ 32) × (s .marks .write < 2 ^ 32)
-  marks-fit = (omega (arith, leaves .sound .order, leaves .sound .within, long, small), omega (arith, leaves .sound .within, long, small))
+  marks-fit = (omega (arith, sound .order, sound .within, long, small), omega (arith, sound .within, long, small))
 
   pub count-fits : (n : ℕ) {k : ℕ} → k ≡ ready n s → k < 2 ^ 32
   unfolding ready
-  count-fits n e = omega (arith, e, min-le-left (s .marks .write - s .marks .read) n, leaves .sound .within, long, small)
+  count-fits n e = omega (arith, e, min-le-left (s .marks .write - s .marks .read) n, sound .within, long, small)
 
-pub leaves-ended : (r io p : List ℕ) {number n k x : ℕ} {status : CommandStatus} {m after : Marks} {io′ p′ a l : List ℕ}
-    → number ≡ get field.status r → status ≡ statusOfNumber number → n ≡ get field.packetSize r
-    → Leaves (buffer io′ m) (statusWritten (get field.tag r) (record { 0 = get field.residue r }) (statusNumber status) (buffer io (at 0 0)))
+pub leaves-ended : (r io p : List ℕ) {n number tag residue k j x : ℕ} {status : CommandStatus} {m after : Marks} {io′ p′ a l : List ℕ}
+    → n ≡ get field.packetSize r → number ≡ get field.status r → status ≡ statusOfNumber number → tag ≡ get field.tag r → residue ≡ get field.residue r
+    → Leaves (buffer io′ m) (statusWritten tag (record { 0 = residue }) (statusNumber status) (buffer io (at 0 0)))
     → k ≡ ready n (buffer io′ m) → Leaves (buffer io′ after) (readOff n (buffer io′ m)) → p′ ≡ overlay p 0 (readyBytes n (buffer io′ m))
-    → a ≡ storeState StatusTransfer r → l ≡ storeMarks after a → x ≡ word 0 0 0 0 k
+    → a ≡ storeState StatusTransfer r → l ≡ storeMarks after a → j ≡ k → x ≡ word 0 0 0 0 j
     → EndsOn r io p x l io′ p′
-leaves-ended r io p {m = m} {io′ = io′} eb es en written ek read ep ea el ex =
-    let there : buffer io′ m ≡ statusIn r io = rw (← eb, ← es) (written .same) in
+leaves-ended r io p {m = m} {io′ = io′} en eb es et eu written ek read ep ea el ej ex =
+    let there : buffer io′ m ≡ statusIn r io = rw (← eb, ← es, ← et, ← eu) (written .same) in
     record {
-      answer = rw (ex, ek, there, en);
+      answer = rw (ex, ej, ek, there, en);
       bytes = el ∙ rw (ea, ap (λ (b : Buffer). b .marks) (read .same), there, en);
       io = ap (λ (b : Buffer). b .bytes) there;
       packet = rw (ep, there, en);
     }
 
-pub ruleset ways = (may-end, leaves-ended)
+pub ruleset ways = (may-end)

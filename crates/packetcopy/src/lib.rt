@@ -1,8 +1,8 @@
 // A packet of one of the four packet sizes is copied. The compiler knows each size, and so it moves the bytes without a loop.
+use buffer::span::copy8;
 use buffer::span::copy16;
 use buffer::span::copy32;
 use buffer::span::copy64;
-use buffer::span::copy8;
 ghost use mathlib.Core.Path.{_≡_};
 ghost use mathlib.Core.Bool.{cond};
 ghost use Prim.Native.Nat.{_+_, _≤_};

@@ -5,6 +5,7 @@
 --     entered                      status, state and left changed
 --     polled                       state, marks and left changed, and the status perhaps
 --     moved-to, moved-within       state, marks and left changed; marks and left
+--     reached                      state and marks changed
 --     parsed                       the wrapper, state, marks and left changed
 -- Assumes nothing.
 use mathlib.Core.Path.{_≡_, refl, ap, _∙_}
@@ -145,6 +146,11 @@ module _ (r : List ℕ) (k : Known r) where
   pub moved-within : (m : Marks) (l : Left) → storeDevice (withMarks m (withLeft l (deviceAt r))) r ≡ storeLeft l (storeMarks m r)
   unfolding deviceAt
   moved-within m l = moved-to state₀ m l ∙ ap (λ (q : List ℕ). storeLeft l (storeMarks m q)) (state-kept r (k .state))
+
+  -- State and marks changed: left stays.
+  pub reached : (s : State) (m : Marks) → storeDevice (inState s (withMarks m (deviceAt r))) r ≡ storeMarks m (storeState s r)
+  unfolding deviceAt storeMarks storeState isApart
+  reached s m = moved-to s m left₀ ∙ left-behind r k (write field.state (stateNumber s) ∷ write field.readMark (m .read) ∷ write field.writeMark (m .write) ∷ []) refl refl
 
   pub marks-alone : (m : Marks) → storeDevice (withMarks m (deviceAt r)) r ≡ storeMarks m r
   unfolding deviceAt
