@@ -88,7 +88,7 @@ fn other_poll(
 
 // Looks first for a poll in the middle of a transfer, since most polls are; these are never refused with 10 or 11.
 // A record of another length is refused with 10 by a call of its own, with nothing offered. A function that is called once is always put
-// into its caller, and the short way would then save all registers for the long one: 14 instructions a poll more on x86-64.
+// into its caller, and the short way would then save all registers for the long one: 18 instructions a poll more on x86-64.
 pub fn poll(
     record: &mut [u8],
     io: &mut [u8],
