@@ -1,7 +1,7 @@
 -- The poll that sends the status is 01's poll.
 --     may-end       what the tests of the record's bytes tell
 --     end-rule      what such a poll does: 01's rules of 4 to 8 all go on to 3
---     ways          what each way owes through the functions
+--     leaves-ended  what the function that makes it owes
 -- Assumes nothing.
 use mathlib.Core.Path.{_≡_, refl, sym, ap, _∙_}
 use mathlib.Core.Bool.{Bool, true, false, not}
@@ -152,5 +152,3 @@ leaves-ended r io p {m = m} {io′ = io′} en eb es et eu written ek read ep ea
       io = ap (λ (b : Buffer). b .bytes) there;
       packet = rw (ep, there, en);
     }
-
-pub ruleset ways = (may-end)

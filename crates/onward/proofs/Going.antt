@@ -370,4 +370,4 @@ module _ (r : List ℕ) (s : State) (b : Bool) {t : Bool} (et : t ≡ b) where
   pub reaches-not : t ≡ false → r ≡ cond b (storeState s r) r
   reaches-not q = rw (← et, q)
 
-pub ruleset ways = (sends-without, sends-6, sends-4, sends-not, is-steady, may-send, may-take, stays-sent, stays-taken, reaches, reaches-not)
+pub ruleset ways = (sends-without, sends-6, sends-4, sends-not, stays-sent, stays-taken, reaches, reaches-not)
