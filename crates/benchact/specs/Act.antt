@@ -1,6 +1,6 @@
 -- The call that each kind of event stands for, and what a line shows of it. Assumes nothing: these are definitions.
 use Prim.Native.Nat.{ℕ, _+_}
-use mathlib.Core.Bool.{cond}
+use mathlib.Core.Bool.{Bool, cond, not, _&&_}
 use mathlib.Core.List.{List, [], _∷_, _++_}
 use lib.Dec.{eqb}
 use lib.ListN.{length, take, drop}
@@ -18,18 +18,19 @@ use Rattle.calls.specs.declared.Request.{Request}
 use Rattle.calls.specs.Status.{Stating, setStatusCall}
 use Rattle.calls.specs.Data.{Moving, readDataCall, writeDataCall, writeDataAllCall}
 use Rattle.calls.specs.Bus.{Handling, resetCall, controlCall}
-use Rattle.calls.specs.Command.{Offered, Stepping, commandStepCall}
-use Rattle.benchfile.specs.Event.{inAnswer, firstAnswer, secondAnswer, firstPacket, secondPacket, statusByte, figure, roomField, requestType, request}
+use Rattle.calls.specs.Command.{Offered, Stepping, commandStepToldCall}
+use Rattle.benchfile.specs.Event.{inAnswer, firstAnswer, secondAnswer, firstPacket, secondPacket, statusByte, figure, roomField, requestType, request, carriedByte}
 
 -- What a call leaves and tells: the record `device`, the answer, "count (packets taken, bytes read or written, else 0)", the stalls, and
--- `shown`, which says how many bytes the line shows. `io` is the IO buffer after it. `lent` are the lent bytes after it, and the line
--- shows the first of them.
+-- `shown`, which says how many bytes the line shows. `offers` are the commands, decoded, that a command step offered; no line shows them.
+-- `io` is the IO buffer after it. `lent` are the lent bytes after it, and the line shows the first of them.
 pub record Acting : Type 0 where
   pub device : Device
   pub answer : Answering
   pub count : ℕ
   pub stalls : Stalls
   pub shown : ℕ
+  pub offers : List Offered
   pub io : List ℕ
   pub lent : List ℕ
 
@@ -49,7 +50,7 @@ turnOf body = record { first = get firstAnswer body; second = get secondAnswer b
 
 -- What a poll leaves and tells where the poll by value gives `o`: the line counts the packets taken, and shows the bytes sent.
 unfoldable pub actingOfPoll : Polling → Acting
-actingOfPoll o = record { device = o .device; answer = o .answer; count = o .taken; stalls = o .stalls; shown = o .sent; io = o .io; lent = o .packet }
+actingOfPoll o = record { device = o .device; answer = o .answer; count = o .taken; stalls = o .stalls; shown = o .sent; offers = []; io = o .io; lent = o .packet }
 
 -- The poll with the body `body`, on the device `d` and the IO buffer `io`. The lent bytes `lent` are its packet buffer.
 unfoldable pub pollActs : List ℕ → Device → List ℕ → List ℕ → Acting
@@ -64,7 +65,7 @@ firmwareStatusOf body = record { status = get statusByte body; figure = get figu
 -- What a status leaves and tells where the call by value gives `o`: the IO buffer `io` and the lent bytes `lent` stay, and the line shows
 -- no bytes.
 unfoldable pub actingOfStatus : List ℕ → List ℕ → Stating → Acting
-actingOfStatus io lent o = record { device = o .device; answer = o .answer; count = 0; stalls = Kept; shown = 0; io = io; lent = lent }
+actingOfStatus io lent o = record { device = o .device; answer = o .answer; count = 0; stalls = Kept; shown = 0; offers = []; io = io; lent = lent }
 
 -- The status with the body `body`, on the device `d` and the IO buffer `io`.
 unfoldable pub statusActs : List ℕ → Device → List ℕ → List ℕ → Acting
@@ -74,7 +75,7 @@ statusActs body d io lent = actingOfStatus io lent (setStatusCall d io (firmware
 
 -- What a write leaves and tells where the call by value gives `o`: the lent bytes `lent` stay, and the line shows no bytes.
 unfoldable pub actingOfWrite : List ℕ → Moving → Acting
-actingOfWrite lent o = record { device = o .device; answer = o .answer; count = o .count; stalls = Kept; shown = 0; io = o .bytes; lent = lent }
+actingOfWrite lent o = record { device = o .device; answer = o .answer; count = o .count; stalls = Kept; shown = 0; offers = []; io = o .bytes; lent = lent }
 
 -- `write_data` of the bytes `body`, on the device `d` and the IO buffer `io`.
 unfoldable pub writeActs : List ℕ → Device → List ℕ → List ℕ → Acting
@@ -89,7 +90,7 @@ writeAllActs body d io lent = actingOfWrite lent (writeDataAllCall d io body)
 -- What a read leaves and tells where the call by value gives `o`. Its destination was the first `n` of the lent bytes `lent`; those after
 -- them stay, and so does the IO buffer `io`. The line shows the bytes read.
 unfoldable pub actingOfRead : List ℕ → List ℕ → ℕ → Moving → Acting
-actingOfRead io lent n o = record { device = o .device; answer = o .answer; count = o .count; stalls = Kept; shown = o .count; io = io; lent = o .bytes ++ drop n lent }
+actingOfRead io lent n o = record { device = o .device; answer = o .answer; count = o .count; stalls = Kept; shown = o .count; offers = []; io = io; lent = o .bytes ++ drop n lent }
 
 -- The read with the body `body`, on the device `d` and the IO buffer `io`. Its destination is the front of the lent bytes `lent`, as long
 -- as the room in `body` says.
@@ -105,7 +106,7 @@ inFront bytes lent = front (length bytes) (overlay lent 0 bytes)
 -- What a reset or a control request leaves and tells where the call by value gives `o`: the IO buffer `io` stays, and the line shows the
 -- byte that answers a control request, if there is one.
 unfoldable pub actingOfBus : List ℕ → List ℕ → Handling → Acting
-actingOfBus io lent o = record { device = o .device; answer = o .answer; count = 0; stalls = o .stalls; shown = inFront (o .bytes) lent .shown; io = io; lent = inFront (o .bytes) lent .lent }
+actingOfBus io lent o = record { device = o .device; answer = o .answer; count = 0; stalls = o .stalls; shown = inFront (o .bytes) lent .shown; offers = []; io = io; lent = inFront (o .bytes) lent .lent }
 
 -- A reset, on the device `d` and the IO buffer `io`.
 unfoldable pub resetActs : Device → List ℕ → List ℕ → Acting
@@ -130,11 +131,15 @@ commandInFront w (o ∷ os) lent = front (1 + w .blocklength) (overlay lent 0 (o
 
 -- What a command step leaves and tells where the call by value gives `o`: the device `d` and the IO buffer `io` stay.
 unfoldable pub actingOfStep : Device → List ℕ → List ℕ → Stepping → Acting
-actingOfStep d io lent o = record { device = d; answer = o .answer; count = 0; stalls = Kept; shown = commandInFront (d .wrapper) (o .offers) lent .shown; io = io; lent = commandInFront (d .wrapper) (o .offers) lent .lent }
+actingOfStep d io lent o = record { device = d; answer = o .answer; count = 0; stalls = Kept; shown = commandInFront (d .wrapper) (o .offers) lent .shown; offers = o .offers; io = io; lent = commandInFront (d .wrapper) (o .offers) lent .lent }
 
--- A command step, on the device `d` and the IO buffer `io`.
-unfoldable pub commandActs : Device → List ℕ → List ℕ → Acting
-commandActs d io lent = actingOfStep d io lent (commandStepCall d io)
+-- Whether the command step with the body `body` has extended addressing on: it "carries 0 or 1; length 0 means off".
+unfoldable pub extendedOf : List ℕ → Bool
+extendedOf body = not (eqb (length body) 0) && eqb (get carriedByte body) 1
+
+-- The command step with the body `body`, on the device `d` and the IO buffer `io`. `bench` makes the step that is told.
+unfoldable pub commandActs : List ℕ → Device → List ℕ → List ℕ → Acting
+commandActs body d io lent = actingOfStep d io lent (commandStepToldCall (extendedOf body) d io)
 
 -- ---- the event
 
@@ -149,4 +154,4 @@ actBy kind body d io lent =
     (cond (eqb kind 5) (readActs body d io lent)
     (cond (eqb kind 6) (resetActs d io lent)
     (cond (eqb kind 7) (controlActs body d io lent)
-    (commandActs d io lent)))))))
+    (commandActs body d io lent)))))))

@@ -21,17 +21,18 @@ ghost use lib.ListN.{length};
 ghost use Rattle.calls.specs.Bus.{replied};
 ghost use Rattle.calls.specs.Command.{offeredOf};
 ghost use Rattle.benchfile.specs.Event.{isPollBody, suits};
-ghost use Rattle.benchact.specs.Act.{front, turnOf, pollActs, firmwareStatusOf, readActs, inFront, resetActs, requestOf, controlActs, commandInFront, commandActs, actBy};
+ghost use Rattle.benchact.specs.Act.{front, turnOf, pollActs, firmwareStatusOf, readActs, inFront, resetActs, requestOf, controlActs, extendedOf, commandInFront, commandActs, actBy};
 ghost use Rattle.benchact.specs.Inner.Act.{actingOf, polledBy, statedBy, movedBy, handledBy};
 
-// What a call left and told: the record, the answer, the count of the line, what was asked of the endpoints, and how many of the lent
-// bytes the line shows.
+// What a call left and told: the record, the answer, the count of the line, what was asked of the endpoints, how many of the lent bytes
+// the line shows, and what a command step offered, decoded. No line shows the decoded command.
 pub struct Acted {
     pub device: Device,
     pub answer: Answer,
     pub count: usize,
     pub stalls: Stalls,
     pub shown: usize,
+    pub offer: Offer,
 }
 
 // ---- 1 poll
@@ -62,6 +63,7 @@ fn polled(r: bbb::Polled) -> Acted
         count: report.taken as usize,
         stalls: stalls,
         shown: report.sent,
+        offer: Offer::Nothing,
     }
 }
 
@@ -100,6 +102,7 @@ fn stated(r: calls::Stated) -> Acted
         count: 0,
         stalls: Stalls::Kept,
         shown: 0,
+        offer: Offer::Nothing,
     }
 }
 
@@ -118,6 +121,7 @@ fn moved(r: calls::Moved, shown: usize) -> Acted
         count: report.count,
         stalls: Stalls::Kept,
         shown: shown,
+        offer: Offer::Nothing,
     }
 }
 
@@ -162,6 +166,7 @@ fn handled(r: calls::Handled, shown: usize) -> Acted
         count: 0,
         stalls: stalls,
         shown: shown,
+        offer: Offer::Nothing,
     }
 }
 
@@ -219,12 +224,22 @@ fn put_command(offer: Offer, w: Wrapper, lent: &mut [u8]) -> usize
     }
 }
 
-// Makes the command step.
-fn command(device: Device, io: &[u8], lent: &mut [u8]) -> Acted
-    requires { ⌜ 17 ≤ length (now lent) ⌝ }
-    ensures { λ r. ⌜ actingOf r (now (io .entry)) (now (lent .exit)) ≡ commandActs device (now (io .entry)) (now (lent .entry)) ⌝ }
+// Whether the command step with the body `body` has extended addressing on. An empty body means off.
+fn extended_of(body: &[u8]) -> bool
+    ensures { λ r. ⌜ r ≡ extendedOf (now (body .entry)) ⌝ }
 {
-    let r = calls::command::command_step(device, io);
+    if body.len() == 0 {
+        return false;
+    }
+    byte(body, 0) == 1
+}
+
+// Makes the command step: the entry that is told, for the Rust's default build has extended addressing off.
+fn command(device: Device, io: &[u8], lent: &mut [u8], body: &[u8]) -> Acted
+    requires { ⌜ 17 ≤ length (now lent) ⌝ }
+    ensures { λ r. ⌜ actingOf r (now (io .entry)) (now (lent .exit)) ≡ commandActs (now (body .entry)) device (now (io .entry)) (now (lent .entry)) ⌝ }
+{
+    let r = calls::command::command_step_told(device, io, extended_of(body));
     let answer = r.answer;
     let offer = r.offer;
     let w = device.wrapper;
@@ -235,6 +250,7 @@ fn command(device: Device, io: &[u8], lent: &mut [u8]) -> Acted
         count: 0,
         stalls: Stalls::Kept,
         shown: shown,
+        offer: offer,
     }
 }
 
@@ -266,5 +282,5 @@ pub fn act(kind: u8, body: &[u8], device: Device, io: &mut [u8], lent: &mut [u8]
     if kind == 7 {
         return control(device, io, lent, body);
     }
-    command(device, io, lent)
+    command(device, io, lent, body)
 }

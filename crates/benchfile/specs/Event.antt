@@ -73,6 +73,10 @@ requestType = oneByte 0
 abbrev pub request : Field
 request = oneByte 1
 
+-- Request 6 of 02: "A command step of length 1 in the bench file carries 0 or 1". This is the byte that it carries.
+abbrev pub carriedByte : Field
+carriedByte = oneByte 0
+
 -- ---- the rules
 
 -- "a length is 0 unless its answer is 0": `answer` is an endpoint's answer, and `len` is the length of its packet.
@@ -91,8 +95,13 @@ isPollBody body =
 unfoldable pub isStatusBody : List ℕ → Bool
 isStatusBody body = eqb (length body) 5 && leb (get statusByte body) 2
 
+-- Whether `body` may be the body of a command step: "8 command step, n = 0", and by request 6 one byte that is 0 or 1. "14 also for a
+-- carried byte above 1".
+unfoldable pub isStepBody : List ℕ → Bool
+isStepBody body = eqb (length body) 0 || (eqb (length body) 1 && leb (get carriedByte body) 1)
+
 -- Whether `n` is a length that the kind `kind` may have, for the kinds that go by their length alone. "3 `write_data`; 4
--- `try_write_data_all`" take any source; "6 reset"; "8 command step, n = 0".
+-- `try_write_data_all`" take any source; "6 reset".
 unfoldable pub isLong : ℕ → ℕ → Bool
 isLong kind n =
     cond (eqb kind 0) (eqb n 7)
@@ -101,12 +110,15 @@ isLong kind n =
     (cond (eqb kind 5) (eqb n 2)
     (cond (eqb kind 6) (eqb n 0)
     (cond (eqb kind 7) (eqb n 2)
-    (cond (eqb kind 8) (eqb n 0)
-    false))))))
+    false)))))
 
 -- Whether an event of the kind `kind` may have the body `body`. There are no other kinds than 0 to 8.
 unfoldable pub suits : ℕ → List ℕ → Bool
-suits kind body = cond (eqb kind 1) (isPollBody body) (cond (eqb kind 2) (isStatusBody body) (isLong kind (length body)))
+suits kind body =
+    cond (eqb kind 1) (isPollBody body)
+    (cond (eqb kind 2) (isStatusBody body)
+    (cond (eqb kind 8) (isStepBody body)
+    (isLong kind (length body))))
 
 -- "0 create .., first and only first": whether an event of the kind `kind` may stand first in a file (`first` is true) or later (it is
 -- false).

@@ -2,7 +2,7 @@
 use fields::byte;
 use fields::le16;
 ghost use mathlib.Core.Path.{_≡_};
-ghost use Rattle.benchfile.specs.Event.{agrees, isPollBody, isStatusBody, isLong, suits, mayStand, noEvent, eventHeadOf, eventAt};
+ghost use Rattle.benchfile.specs.Event.{agrees, isPollBody, isStatusBody, isStepBody, isLong, suits, mayStand, noEvent, eventHeadOf, eventAt};
 
 // What stands at an offset: whether it is a whole event that the rules allow, its kind, and the length of its body. Where no event
 // stands, the numbers are 0.
@@ -61,6 +61,19 @@ fn status_fits(body: &[u8]) -> bool
     byte(body, 0) <= 2
 }
 
+// The body of a command step is empty, or one byte that is 0 or 1.
+fn step_fits(body: &[u8]) -> bool
+    ensures { λ r. ⌜ r ≡ isStepBody (now (body .entry)) ⌝ }
+{
+    if body.len() == 0 {
+        return true;
+    }
+    if body.len() != 1 {
+        return false;
+    }
+    byte(body, 0) <= 1
+}
+
 // Whether `n` is a length for the kind `kind`, one of those that go by their length alone.
 fn long(kind: u8, n: usize) -> bool
     ensures { λ r. ⌜ r ≡ isLong kind n ⌝ }
@@ -83,9 +96,6 @@ fn long(kind: u8, n: usize) -> bool
     if kind == 7 {
         return n == 2;
     }
-    if kind == 8 {
-        return n == 0;
-    }
     false
 }
 
@@ -98,6 +108,9 @@ fn suit(kind: u8, body: &[u8]) -> bool
     }
     if kind == 2 {
         return status_fits(body);
+    }
+    if kind == 8 {
+        return step_fits(body);
     }
     long(kind, body.len())
 }

@@ -7,6 +7,7 @@ use benchfile::event::event_at;
 use benchline::Line;
 use benchline::put_line;
 use buffer::Marks;
+use calls::command::Offer;
 use device::Device;
 use device::Fixed;
 use device::create::Created;
@@ -123,6 +124,7 @@ pub fn begin(events: &[u8], text: &mut [u8]) -> Run
             count: 0,
             stalls: Stalls::Kept,
             shown: 0,
+            offer: Offer::Nothing,
         },
         &events[..0],
         text,

@@ -5,7 +5,7 @@ use mathlib.Core.List.{List, [], _∷_, map}
 use lib.ListN.{take, replicate}
 use Rattle.answers.specs.Answers.{Answering, answer, answerOf}
 use Rattle.scsi.specs.declared.ScsiCommand.{ScsiCommand}
-use Rattle.scsi.specs.Decoding.{Decoding, plainCall}
+use Rattle.scsi.specs.Decoding.{Decoding, decodeCall, plainIsExtended}
 use Rattle.wrapper.specs.declared.Wrapper.{Wrapper}
 use Rattle.device.specs.declared.Device.{Device}
 use Rattle.device.specs.Device.{isPresent}
@@ -87,8 +87,13 @@ steppingOfDecoding lun o = stepping (answer (o .answer)) (map (offered lun) (o .
 unfoldable pub blockOf : Wrapper → List ℕ
 blockOf w = take (w .blocklength) (w .block)
 
--- This is the command step, for any record `d` over any IO buffer `io`. "nothing offered gives 0".
-unfoldable pub commandStepCall : Device → List ℕ → Stepping
-commandStepCall d io =
+-- This is the command step that is told whether extended addressing is on, for any record `d` over any IO buffer `io`. "nothing offered
+-- gives 0".
+unfoldable pub commandStepToldCall : Bool → Device → List ℕ → Stepping
+commandStepToldCall extended d io =
     unlessBroken d io (stepping (answer 10) [])
-    (cond (isOffered d) (steppingOfDecoding (d .wrapper .lun) (plainCall (blockOf (d .wrapper)))) (stepping (answer 0) []))
+    (cond (isOffered d) (steppingOfDecoding (d .wrapper .lun) (decodeCall extended (blockOf (d .wrapper)))) (stepping (answer 0) []))
+
+-- This is the plain command step, which is not told: it decodes as the plain entry of the decoder does.
+unfoldable pub commandStepCall : Device → List ℕ → Stepping
+commandStepCall d io = commandStepToldCall plainIsExtended d io

@@ -5,12 +5,13 @@ use answers::Answer;
 use device::Device;
 use device::present;
 use scsi::Decoded;
+use scsi::PLAIN_IS_EXTENDED;
 use scsi::ScsiCommand;
 ghost use mathlib.Core.Path.{_≡_};
 ghost use Prim.Native.Nat.{_≤_};
 ghost use lib.ListN.{take};
-ghost use Rattle.scsi.specs.Decoding.{plainCall};
-ghost use Rattle.calls.specs.Command.{showingOf, commandCall, steppingOf, isOffered, steppingOfDecoding, commandStepCall};
+ghost use Rattle.scsi.specs.Decoding.{decodeCall};
+ghost use Rattle.calls.specs.Command.{showingOf, commandCall, steppingOf, isOffered, steppingOfDecoding, commandStepToldCall, commandStepCall};
 ghost use Rattle.calls.specs.Inner.Returned.{hides, offersNone};
 
 // The call that shows the command gives the answer, whether a command is shown, its LUN, and its block: the first `blocklength` bytes of
@@ -81,12 +82,12 @@ fn nothing(answer: Answer) -> Step
 }
 
 // The first `blocklength` bytes of `block` are decoded, and the command is offered with this `lun`.
-fn decoded(lun: u8, blocklength: u8, block: [u8; 16]) -> Step
+fn decoded(lun: u8, blocklength: u8, block: [u8; 16], extended: bool) -> Step
     requires { ⌜ blocklength ≤ 16 ⌝ }
-    ensures { λ r. ⌜ steppingOf r ≡ steppingOfDecoding lun (plainCall (take blocklength block)) ⌝ }
+    ensures { λ r. ⌜ steppingOf r ≡ steppingOfDecoding lun (decodeCall extended (take blocklength block)) ⌝ }
 {
     let n = blocklength as usize;
-    let d = scsi::decode(&block[..n]);
+    let d = scsi::decode_told(&block[..n], extended);
     match d {
         Decoded::Empty => nothing(Answer::EmptyBlock),
         Decoded::Command(command) => Step {
@@ -107,9 +108,10 @@ pub fn offers(device: Device) -> bool
     !present(status)
 }
 
-// The command step offers the command, decoded, while the firmware has set no status for it.
-pub fn command_step(device: Device, io: &[u8]) -> Step
-    ensures { λ r. ⌜ steppingOf r ≡ commandStepCall device (now (io .entry)) ⌝ }
+// The command step offers the command, decoded, while the firmware has set no status for it. The caller tells whether extended addressing
+// is on.
+pub fn command_step_told(device: Device, io: &[u8], extended: bool) -> Step
+    ensures { λ r. ⌜ steppingOf r ≡ commandStepToldCall extended device (now (io .entry)) ⌝ }
 {
     if broken(device, io.len()) {
         return nothing(Answer::BrokenRecord);
@@ -117,7 +119,14 @@ pub fn command_step(device: Device, io: &[u8]) -> Step
     if offers(device) {
         let w = device.wrapper;
         let block = w.block;
-        return decoded(w.lun, w.blocklength, block);
+        return decoded(w.lun, w.blocklength, block, extended);
     }
     nothing(Answer::Done)
+}
+
+// The command step with extended addressing on: this is the plain entry.
+pub fn command_step(device: Device, io: &[u8]) -> Step
+    ensures { λ r. ⌜ steppingOf r ≡ commandStepCall device (now (io .entry)) ⌝ }
+{
+    command_step_told(device, io, PLAIN_IS_EXTENDED)
 }

@@ -1,12 +1,13 @@
 -- The command shown to the firmware, and the command step, over a record of bytes. Neither call changes the record. Assumes nothing:
 -- these are definitions.
 use Prim.Native.Nat.{ℕ}
-use mathlib.Core.Bool.{cond}
+use mathlib.Core.Bool.{Bool, cond}
 use mathlib.Core.List.{List, [], _∷_}
-use lib.Dec.{eqb}
+use lib.Dec.{eqb, leb}
 use lib.ListN.{length}
 use Rattle.device.specs.declared.Device.{Device}
-use Rattle.calls.specs.Command.{Showing, commandCall, Offered, commandStepCall}
+use Rattle.calls.specs.Command.{Showing, commandCall, Offered, commandStepToldCall}
+use Rattle.scsi.specs.Decoding.{plainIsExtended}
 use Rattle.scsi.specs.Numbers.{flagNumber, commandNumbers}
 use Rattle.border.specs.Word.{word, answerWord}
 use Rattle.border.specs.Record.{onDevice}
@@ -39,10 +40,19 @@ abbrev pub commandOutcomeOfStep : ℕ → List ℕ → List Offered → CommandO
 commandOutcomeOfStep number was [] = commandOutcome (answerWord number) was
 commandOutcomeOfStep number was (o ∷ os) = commandOutcome (word number (o .lun) 0 1 0) (commandNumbers (o .command))
 
--- The command step, over the record's bytes `r`, the IO buffer `io` and the lent numbers `was`. The answer is 10 where `was` does not
--- have six numbers, or where `r` is no record; then everything stays as it was.
-unfoldable pub commandStepOn : List ℕ → List ℕ → List ℕ → CommandOutcome
-commandStepOn r io was =
+-- The command step, over the record's bytes `r`, the IO buffer `io` and the lent numbers `was`; `extended` says whether extended addressing
+-- is on. The answer is 10 where `was` does not have six numbers, or where `r` is no record; then everything stays as it was.
+unfoldable pub commandStepBy : Bool → List ℕ → List ℕ → List ℕ → CommandOutcome
+commandStepBy extended r io was =
     cond (eqb (length was) 6)
-    (onDevice r (commandOutcome (answerWord 10) was) (λ (d : Device). commandOutcomeOfStep (commandStepCall d io .answer .number) was (commandStepCall d io .offers)))
+    (onDevice r (commandOutcome (answerWord 10) was) (λ (d : Device). commandOutcomeOfStep (commandStepToldCall extended d io .answer .number) was (commandStepToldCall extended d io .offers)))
     (commandOutcome (answerWord 10) was)
+
+-- The plain command step, which is not told.
+unfoldable pub commandStepOn : List ℕ → List ℕ → List ℕ → CommandOutcome
+commandStepOn r io was = commandStepBy plainIsExtended r io was
+
+-- The command step that is told: extended addressing is off where `extended` is 0 and on where it is 1. Any other number is for no flag:
+-- the answer is 10, and everything stays as it was.
+unfoldable pub commandStepToldOn : ℕ → List ℕ → List ℕ → List ℕ → CommandOutcome
+commandStepToldOn extended r io was = cond (leb extended 1) (commandStepBy (eqb extended 1) r io was) (commandOutcome (answerWord 10) was)

@@ -12,20 +12,22 @@ use recordbytes::device_at;
 use recordbytes::in_record;
 use recordbytes::known;
 use recordbytes::numbers_at;
-use scsi::numbers::decode_into;
+use scsi::PLAIN_IS_EXTENDED;
+use scsi::numbers::put_decoded;
 ghost use mathlib.Core.Path.{_≡_};
 ghost use mathlib.Core.Bool.{_&&_};
 ghost use Prim.Native.Nat.{_≤_};
 ghost use lib.ListN.{length};
 ghost use Rattle.fields.specs.Field.{get};
-ghost use Rattle.scsi.specs.Numbers.{decodeOutcome, shownDecode};
+ghost use Rattle.scsi.specs.Decoding.{decodeCall};
+ghost use Rattle.scsi.specs.Numbers.{decodeOutcome, decodeOutcomeOf};
 ghost use Rattle.device.specs.Device.{numbersOf};
 ghost use Rattle.device.specs.Broken.{isWhole};
 ghost use Rattle.calls.specs.Command.{showing, blockOf};
 ghost use Rattle.recordbytes.specs.Layout.{blockLength, lun, recordSize};
 ghost use Rattle.recordbytes.specs.Record.{isKnown, wrapperAt, deviceAt};
 ghost use Rattle.border.specs.Word as spec;
-ghost use Rattle.commandbytes.specs.Command.{commandOutcome, commandOutcomeOf, commandOn, commandStepOn};
+ghost use Rattle.commandbytes.specs.Command.{commandOutcome, commandOutcomeOf, commandOn, commandStepBy, commandStepOn, commandStepToldOn};
 
 // Says whether the bytes are a record, and one that is not broken.
 fn unbroken(record: &[u8], io: &[u8]) -> bool
@@ -69,12 +71,12 @@ pub fn command(record: &[u8], io: &[u8], block: &mut [u8]) -> u64
 }
 
 // Decodes the block of the record's command into the six numbers `command`.
-fn decode_block(record: &[u8], command: &mut [u64]) -> u32
+fn decode_block(record: &[u8], extended: bool, command: &mut [u64]) -> u32
     requires { ⌜ (length (now «record») ≡ recordSize) × (get blockLength (now «record») ≤ 16) ⌝ }
-    ensures { λ r. ⌜ decodeOutcome r (now (command .exit)) ≡ shownDecode (blockOf (wrapperAt (now («record» .entry)))) (now (command .entry)) ⌝ }
+    ensures { λ r. ⌜ decodeOutcome r (now (command .exit)) ≡ decodeOutcomeOf (now (command .entry)) (decodeCall extended (blockOf (wrapperAt (now («record» .entry))))) ⌝ }
 {
     let end = in_record::BLOCK + byte(record, in_record::BLOCK_LENGTH) as usize;
-    decode_into(&record[in_record::BLOCK..end], command)
+    put_decoded(&record[in_record::BLOCK..end], extended, command)
 }
 
 // Gives the result for a command that is offered: its LUN and the flag.
@@ -86,8 +88,8 @@ fn offered_word(record: &[u8]) -> u64
 }
 
 // Offers the command, decoded: its numbers go into `command`, its LUN into the result.
-pub fn command_step(record: &[u8], io: &[u8], command: &mut [u64]) -> u64
-    ensures { λ x. ⌜ commandOutcome x (now (command .exit)) ≡ commandStepOn (now («record» .entry)) (now (io .entry)) (now (command .entry)) ⌝ }
+fn step(record: &[u8], io: &[u8], extended: bool, command: &mut [u64]) -> u64
+    ensures { λ x. ⌜ commandOutcome x (now (command .exit)) ≡ commandStepBy extended (now («record» .entry)) (now (io .entry)) (now (command .entry)) ⌝ }
 {
     if command.len() != 6 {
         return 10;
@@ -98,9 +100,26 @@ pub fn command_step(record: &[u8], io: &[u8], command: &mut [u64]) -> u64
     if !offers(device_at(record)) {
         return 0;
     }
-    let answer = decode_block(record, command);
+    let answer = decode_block(record, extended, command);
     if answer != 0 {
         return answer as u64;
     }
     offered_word(record)
+}
+
+// Makes the command step with extended addressing on: this is the plain entry.
+pub fn command_step(record: &[u8], io: &[u8], command: &mut [u64]) -> u64
+    ensures { λ x. ⌜ commandOutcome x (now (command .exit)) ≡ commandStepOn (now («record» .entry)) (now (io .entry)) (now (command .entry)) ⌝ }
+{
+    step(record, io, PLAIN_IS_EXTENDED, command)
+}
+
+// Makes the command step with extended addressing off (`extended` is 0) or on (1). For any other `extended` it answers 10.
+pub fn command_step_told(record: &[u8], io: &[u8], extended: u32, command: &mut [u64]) -> u64
+    ensures { λ x. ⌜ commandOutcome x (now (command .exit)) ≡ commandStepToldOn extended (now («record» .entry)) (now (io .entry)) (now (command .entry)) ⌝ }
+{
+    if 1 < extended {
+        return 10;
+    }
+    step(record, io, extended == 1, command)
 }

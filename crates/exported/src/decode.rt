@@ -6,7 +6,7 @@ ghost use mathlib.Core.Path.{_≡_};
 ghost use Rattle.scsi.specs.Numbers.{decodeOutcome, shownDecode, shownTold};
 ghost use Rattle.wrapper.specs.Verdict.{verdictOf, verdictNumber};
 
-// Decodes `block` into the six numbers of `command`, without extended addressing.
+// Decodes `block` into the six numbers of `command`, with extended addressing.
 #[no_mangle]
 pub extern "C" fn souk_decode(block: &[u8], command: &mut [u64]) -> u32
     ensures { λ x. ⌜ decodeOutcome x (now (command .exit)) ≡ shownDecode (now (block .entry)) (now (command .entry)) ⌝ }

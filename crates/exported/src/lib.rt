@@ -13,7 +13,7 @@ ghost use Rattle.bbb.specs.Poll.{given};
 ghost use Rattle.ringbytes.specs.Poll.{pollOutcome, pollOn};
 ghost use Rattle.databytes.specs.Data.{dataOutcome, readDataOn, writeDataOn, writeDataAllOn};
 ghost use Rattle.callbytes.specs.Calls.{callOutcome, createOn, setStatusOn, resetOn, controlOn};
-ghost use Rattle.commandbytes.specs.Command.{commandOutcome, commandOn, commandStepOn};
+ghost use Rattle.commandbytes.specs.Command.{commandOutcome, commandOn, commandStepOn, commandStepToldOn};
 
 // Makes a new record.
 #[no_mangle]
@@ -114,4 +114,17 @@ pub extern "C" fn souk_command_step(record: &[u8], io: &[u8], command: &mut [u64
     ensures { λ x. ⌜ commandOutcome x (now (command .exit)) ≡ commandStepOn (now («record» .entry)) (now (io .entry)) (now (command .entry)) ⌝ }
 {
     commandbytes::command_step(record, io, command)
+}
+
+// Offers the command in the same way; extended addressing is off where `extended` is 0 and on where it is 1.
+#[no_mangle]
+pub extern "C" fn souk_command_step_told(
+    record: &[u8],
+    io: &[u8],
+    extended: u32,
+    command: &mut [u64],
+) -> u64
+    ensures { λ x. ⌜ commandOutcome x (now (command .exit)) ≡ commandStepToldOn extended (now («record» .entry)) (now (io .entry)) (now (command .entry)) ⌝ }
+{
+    commandbytes::command_step_told(record, io, extended, command)
 }

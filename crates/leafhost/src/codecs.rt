@@ -85,7 +85,7 @@ pub extern "C" fn wrapper_verdict(message: &[u8], maxlun: u8) -> u32
     verdict_number(message, maxlun)
 }
 
-// Decodes `block` into the six numbers `command`, with extended addressing off. It answers 0 if the command stands there, 13 if the block
+// Decodes `block` into the six numbers `command`, with extended addressing on. It answers 0 if the command stands there, 13 if the block
 // is empty, and 10 if `command` does not have six numbers.
 #[no_mangle]
 pub extern "C" fn scsi_decode(block: &[u8], command: &mut [u64]) -> u32

@@ -1,6 +1,6 @@
 -- Document 01, section Decoding: the table, and what a block decodes to. Assumes nothing: these are definitions.
 use Prim.Native.Nat.{ℕ}
-use mathlib.Core.Bool.{Bool, false, cond, not, _&&_, _||_}
+use mathlib.Core.Bool.{Bool, true, false, cond, not, _&&_, _||_}
 use mathlib.Core.List.{List, [], _∷_}
 use lib.Dec.{eqb, leb}
 use lib.ListN.{length}
@@ -88,6 +88,10 @@ answerOf Empty = decoding 13 []
 unfoldable pub decodeCall : Bool → List ℕ → Decoding
 decodeCall extended b = cond (eqb (length b) 0) (decoding 13 []) (decoding 0 (decoded extended b ∷ []))
 
--- "the plain entry has it off": it has this outcome for the block `b`, without extended addressing.
+-- "The plain decoding entry is to count both from now on" (02, request 6): extended addressing is on in every plain entry.
+abbrev pub plainIsExtended : Bool
+plainIsExtended = true
+
+-- The plain entry has this outcome for the block `b`.
 unfoldable pub plainCall : List ℕ → Decoding
-plainCall b = decodeCall false b
+plainCall b = decodeCall plainIsExtended b

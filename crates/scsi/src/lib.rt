@@ -98,10 +98,10 @@ pub fn decode_told(block: &[u8], extended: bool) -> Decoded
     Decoded::Command(c)
 }
 
-// The plain entry has extended addressing off.
-const PLAIN_IS_EXTENDED: bool = false;
+// Plain entries, here and in the crates above, have extended addressing on.
+pub const PLAIN_IS_EXTENDED: bool = true;
 
-// Decodes `block` with extended addressing off: this is the plain entry.
+// Decodes `block` with extended addressing on: this is the plain entry.
 pub fn decode(block: &[u8]) -> Decoded
     ensures { λ r. ⌜ answerOf r ≡ plainCall (now (block .entry)) ⌝ }
 {

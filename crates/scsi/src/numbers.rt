@@ -122,7 +122,7 @@ pub fn put_command(lent: &mut [u64], command: ScsiCommand)
 // Decodes `block`, and stores its command in the six numbers `lent`. Nothing but the command itself stands between the two: each further
 // copy of a command is 24 bytes of stack. The answer is 0 if the command stands there, 13 if the block is empty, and 10 if `lent` does
 // not have six numbers.
-fn put_decoded(block: &[u8], extended: bool, lent: &mut [u64]) -> u32
+pub fn put_decoded(block: &[u8], extended: bool, lent: &mut [u64]) -> u32
     ensures { λ r. ⌜ decodeOutcome r (now (lent .exit)) ≡ decodeOutcomeOf (now (lent .entry)) (decodeCall extended (now (block .entry))) ⌝ }
 {
     if lent.len() != 6 {
@@ -136,7 +136,7 @@ fn put_decoded(block: &[u8], extended: bool, lent: &mut [u64]) -> u32
     0
 }
 
-// Decodes `block` with extended addressing off. It answers as `put_decoded` does.
+// Decodes `block` with extended addressing on: this is the plain entry. It answers as `put_decoded` does.
 pub fn decode_into(block: &[u8], lent: &mut [u64]) -> u32
     ensures { λ r. ⌜ decodeOutcome r (now (lent .exit)) ≡ shownDecode (now (block .entry)) (now (lent .entry)) ⌝ }
 {
