@@ -29,7 +29,7 @@ use Rattle.buffer.proofs.Room.{room-left, fitting-by-unread}
 use Rattle.buffer.proofs.Unread.{unread-written, unread-writtenAll, unread-readOff}
 use Rattle.answers.specs.declared.Stalls.the-variants.{Kept}
 use Rattle.answers.specs.Answers.{Answering, answer}
-use Rattle.scsi.specs.Decoding.{decodeCall, plainCall}
+use Rattle.scsi.specs.Decoding.{decodeCall}
 use Rattle.ring.specs.declared.State.{State}
 use Rattle.ring.specs.declared.State.the-variants.{CommandTransfer, CommandTransferInvalid, DataTransferNoData, StatusTransfer, DataTransferToHost, DataTransferToHostStatusAwait, DataTransferToHostEnding, DataTransferFromHost, DataTransferFromHostEnding}
 use Rattle.ring.specs.States.{stateNumber}
@@ -43,7 +43,7 @@ use Rattle.calls.specs.Checks.{isIn, bufferOf}
 use Rattle.calls.specs.Status.{Stating, stating, takesStatus, withFigure, acceptedStatus, setStatusCall}
 use Rattle.calls.specs.Data.{Moving, moving, worksIn, movingTo, readFrom, readDataCall, limited, writeIn, writeDataCall, writeAllIn, writeDataAllCall}
 use Rattle.calls.specs.Bus.{Handling, handling, handlingOfReset, resetCall, handlingOfRequest, controlCall}
-use Rattle.calls.specs.Command.{showing, isShown, commandCall, stepping, isOffered, steppingOfDecoding, blockOf, commandStepCall}
+use Rattle.calls.specs.Command.{showing, isShown, commandCall, stepping, isOffered, steppingOfDecoding, blockOf, commandStepToldCall}
 
 -- ---- a whole record
 
@@ -347,11 +347,12 @@ module _ (d : Device) (io : List ℕ) (w : Whole (numbersOf d) (length io)) wher
   unfolding commandCall
   command-done h = passes d io w _ _ ∙ rw h
 
-  pub step-done : isOffered d ≡ true → commandStepCall d io ≡ steppingOfDecoding (d .wrapper .lun) (plainCall (blockOf (d .wrapper)))
-  unfolding commandStepCall
-  step-done h = passes d io w _ _ ∙ rw h
+  module _ (extended : Bool) where
+    pub step-done : isOffered d ≡ true → commandStepToldCall extended d io ≡ steppingOfDecoding (d .wrapper .lun) (decodeCall extended (blockOf (d .wrapper)))
+    unfolding commandStepToldCall
+    step-done h = passes d io w _ _ ∙ rw h
 
-  -- 13: "decoding an empty block"
-  pub step-empty : isOffered d ≡ true → d .wrapper .blocklength ≡ 0 → commandStepCall d io ≡ stepping (answer 13) []
-  unfolding blockOf steppingOfDecoding plainCall decodeCall
-  step-empty h e = step-done h ∙ rw e
+    -- 13: "decoding an empty block"
+    pub step-empty : isOffered d ≡ true → d .wrapper .blocklength ≡ 0 → commandStepToldCall extended d io ≡ stepping (answer 13) []
+    unfolding blockOf steppingOfDecoding decodeCall
+    step-empty h e = step-done h ∙ rw e

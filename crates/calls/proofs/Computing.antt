@@ -6,8 +6,8 @@ use Rattle.calls.specs.Checks.{isIn}
 use Rattle.calls.specs.Status.{takesStatus, withFigure, acceptedStatus, setStatusCall}
 use Rattle.calls.specs.Data.{worksIn, readFrom, limited, writeIn, writeAllIn}
 use Rattle.calls.specs.Bus.{handlingOfReset, resetCall, handlingOfRequest, controlCall}
-use Rattle.calls.specs.Command.{isShown, commandCall, isOffered, steppingOfDecoding, blockOf, commandStepCall}
+use Rattle.calls.specs.Command.{isShown, commandCall, isOffered, steppingOfDecoding, blockOf, commandStepToldCall, commandStepCall}
 
 unfoldable pub computing : Unit {0}
-unfolding isIn takesStatus withFigure acceptedStatus setStatusCall worksIn readFrom limited writeIn writeAllIn handlingOfReset resetCall handlingOfRequest controlCall isShown commandCall isOffered steppingOfDecoding blockOf commandStepCall wrapper.computing scsi.computing device.computing
+unfolding isIn takesStatus withFigure acceptedStatus setStatusCall worksIn readFrom limited writeIn writeAllIn handlingOfReset resetCall handlingOfRequest controlCall isShown commandCall isOffered steppingOfDecoding blockOf commandStepToldCall commandStepCall wrapper.computing scsi.computing device.computing
 computing = tt

@@ -29,7 +29,7 @@ use Rattle.wrapper.proofs.Numbers.{status-back}
 use Rattle.scsi.specs.declared.Decoded.{Decoded}
 use Rattle.scsi.specs.declared.Decoded.the-variants as scsi
 use Rattle.scsi.specs.declared.ScsiCommand.{ScsiCommand}
-use Rattle.scsi.specs.Decoding.{answerOf, plainCall}
+use Rattle.scsi.specs.Decoding.{answerOf, decodeCall, plainIsExtended}
 use Rattle.ring.specs.States.{stateNumber}
 use Rattle.device.specs.declared.Device.{Device}
 use Rattle.device.specs.declared.Numbers.{Numbers}
@@ -50,7 +50,7 @@ use Rattle.calls.specs.Status.{stating, statingOf, takesStatus, withFigu
 use Rattle.calls.specs.Inner.Returned.{refuses, unmoved, movesTo, keeps, enters0, hides, offersNone}
 use Rattle.calls.specs.Data.{Moving, movingOf, worksIn, movingTo, readFrom, limited, writeIn, writeAllIn}
 use Rattle.calls.specs.Bus.{handlingOf, handlingOfReset, resetCall, handlingOfRequest, controlCall}
-use Rattle.calls.specs.Command.{showingOf, showing, isShown, commandCall, offered, steppingOf, stepping, isOffered, steppingOfDecoding, blockOf, commandStepCall}
+use Rattle.calls.specs.Command.{showingOf, showing, isShown, commandCall, offered, steppingOf, Stepping, stepping, isOffered, steppingOfDecoding, blockOf, commandStepToldCall, commandStepCall}
 
 -- ---- the record
 
@@ -244,19 +244,24 @@ module _ (d : Device) (io : List ℕ) {b : Bool} (h : b ≡ not (isWhole (number
     unfolding commandCall isShown
     command-shown p = goes-on d io h _ q (rw (← ht, p))
 
-  pub step-broken : b ≡ true → {r : Step} → r ≡ offersNone BrokenRecord → steppingOf r ≡ commandStepCall d io
-  unfolding commandStepCall
-  step-broken q e = rw e (breaks d io h _ _ q)
+  module _ (extended : Bool) where
+    pub step-broken : b ≡ true → {r : Step} → r ≡ offersNone BrokenRecord → steppingOf r ≡ commandStepToldCall extended d io
+    unfolding commandStepToldCall
+    step-broken q e = rw e (breaks d io h _ _ q)
 
-  module _ (q : b ≡ false) {t : Bool} (ht : t ≡ isOffered d) where
-    pub step-offers : t ≡ true → (r : Step) → steppingOf r ≡ steppingOfDecoding (d .wrapper .lun) (plainCall (take (d .wrapper .blocklength) (d .wrapper .block)))
-        → steppingOf r ≡ commandStepCall d io
-    unfolding commandStepCall blockOf
-    step-offers p r hr = goes-on d io h _ q (rw (← ht, p) hr)
+    module _ (q : b ≡ false) {t : Bool} (ht : t ≡ isOffered d) where
+      pub step-offers : t ≡ true → (r : Step) → steppingOf r ≡ steppingOfDecoding (d .wrapper .lun) (decodeCall extended (take (d .wrapper .blocklength) (d .wrapper .block)))
+          → steppingOf r ≡ commandStepToldCall extended d io
+      unfolding commandStepToldCall blockOf
+      step-offers p r hr = goes-on d io h _ q (rw (← ht, p) hr)
 
-    pub step-offers-not : t ≡ false → {r : Step} → r ≡ offersNone Done → steppingOf r ≡ commandStepCall d io
-    unfolding commandStepCall
-    step-offers-not p e = rw e (goes-on d io h _ q (rw (← ht, p)))
+      pub step-offers-not : t ≡ false → {r : Step} → r ≡ offersNone Done → steppingOf r ≡ commandStepToldCall extended d io
+      unfolding commandStepToldCall
+      step-offers-not p e = rw e (goes-on d io h _ q (rw (← ht, p)))
+
+pub step-plain : (d : Device) (io : List ℕ) {o : Stepping} → o ≡ commandStepToldCall plainIsExtended d io → o ≡ commandStepCall d io
+unfolding commandStepCall
+step-plain d io h = h
 
 module _ (d : Device) {t : Bool} (ht : t ≡ isIn 0 d) where
   pub offers-not : t ≡ true → false ≡ isOffered d
@@ -267,13 +272,13 @@ module _ (d : Device) {t : Bool} (ht : t ≡ isIn 0 d) where
   unfolding isOffered isShown
   offers-by p e = rw (← ht, p, e)
 
-module _ (lun : ℕ) (block : List ℕ) {c : Decoded} (h : answerOf c ≡ plainCall block) where
-  pub decodes-none : c ≡ scsi.Empty → {r : Step} → r ≡ offersNone EmptyBlock → steppingOf r ≡ steppingOfDecoding lun (plainCall block)
+module _ (lun : ℕ) (extended : Bool) (block : List ℕ) {c : Decoded} (h : answerOf c ≡ decodeCall extended block) where
+  pub decodes-none : c ≡ scsi.Empty → {r : Step} → r ≡ offersNone EmptyBlock → steppingOf r ≡ steppingOfDecoding lun (decodeCall extended block)
   unfolding steppingOfDecoding
   decodes-none k e = rw (← h, k, e)
 
-  pub decodes : {x : ScsiCommand} → c ≡ scsi.Command x → stepping (answer 0) (offered lun x ∷ []) ≡ steppingOfDecoding lun (plainCall block)
+  pub decodes : {x : ScsiCommand} → c ≡ scsi.Command x → stepping (answer 0) (offered lun x ∷ []) ≡ steppingOfDecoding lun (decodeCall extended block)
   unfolding steppingOfDecoding
   decodes k = rw (← h, k)
 
-pub ruleset ways = (judges, stands, block-fits, sound-then, takes-in-2, takes-in-4, takes-in-5, takes-in-7, figure-refused, figure-taken, status-broken, status-taken, status-elsewhere, data-broken, data-elsewhere, data-done, reads, writes, writes-all, overflows, enters, reset-broken, resets, control-broken, control-counts, control-else, serves-FF, serves-FE, serves-else, command-broken, command-hidden, command-shown, step-broken, step-offers, step-offers-not, offers-not, offers-by, decodes-none, decodes)
+pub ruleset ways = (judges, stands, block-fits, sound-then, takes-in-2, takes-in-4, takes-in-5, takes-in-7, figure-refused, figure-taken, status-broken, status-taken, status-elsewhere, data-broken, data-elsewhere, data-done, reads, writes, writes-all, overflows, enters, reset-broken, resets, control-broken, control-counts, control-else, serves-FF, serves-FE, serves-else, command-broken, command-hidden, command-shown, step-broken, step-offers, step-offers-not, step-plain, offers-not, offers-by, decodes-none, decodes)

@@ -37,6 +37,8 @@ use Rattle.calls.proofs.command.command.Kinds as command-kinds
 use Rattle.calls.proofs.command.command.Reads as command
 use Rattle.calls.proofs.command.offers.Kinds as offers-kinds
 use Rattle.calls.proofs.command.offers.Reads as offers
+use Rattle.calls.proofs.command.command_step_told.Kinds as command-step-told-kinds
+use Rattle.calls.proofs.command.command_step_told.Reads as command-step-told
 use Rattle.calls.proofs.command.command_step.Kinds as command-step-kinds
 use Rattle.calls.proofs.command.command_step.Reads as command-step
 
@@ -128,6 +130,9 @@ is-in-only κs a x y s t p q = (p ∙ sym q, refl)
 
 pub offers-only : Only 0 offers-kinds.ps offers-kinds.r offers.Post (λ κs s. tt {0})
 offers-only κs a x y s t p q = (p ∙ sym q, refl)
+
+pub command-step-told-only : Only 1 command-step-told-kinds.ps command-step-told-kinds.r command-step-told.Post (λ κs s. tt {0})
+command-step-told-only κs a x y s t p q = (once steppingOf unstepped unstepped-stepped x y p q, refl)
 
 pub command-step-only : Only 1 command-step-kinds.ps command-step-kinds.r command-step.Post (λ κs s. tt {0})
 command-step-only κs a x y s t p q = (once steppingOf unstepped unstepped-stepped x y p q, refl)

@@ -1,6 +1,6 @@
 -- One table of cases of the calls. proofs/Cases.antt states that each of them holds. Assumes nothing.
 use mathlib.Core.Bool.{true, false}
-use mathlib.Core.List.{List, [], _∷_}
+use mathlib.Core.List.{List, [], _∷_, _++_}
 use Prim.Native.Nat.{ℕ}
 use lib.ListN.{replicate}
 use Rattle.fields.specs.Case.{Case, case}
@@ -9,7 +9,7 @@ use Rattle.answers.specs.declared.Stalls.the-variants.{Kept}
 use Rattle.answers.specs.Answers.{answer}
 use Rattle.wrapper.specs.declared.DataDirection.the-variants.{In}
 use Rattle.wrapper.specs.declared.status.CommandStatus.the-variants.{PhaseError}
-use Rattle.scsi.specs.declared.ScsiCommand.the-variants.{Inquiry}
+use Rattle.scsi.specs.declared.ScsiCommand.the-variants.{Unknown, Inquiry, Read}
 use Rattle.ring.specs.declared.State.{State}
 use Rattle.ring.specs.declared.State.the-variants.{CommandTransfer, CommandTransferInvalid, DataTransferNoData, DataTransferToHost, DataTransferFromHost}
 use Rattle.device.specs.declared.Device.{Device}
@@ -21,7 +21,7 @@ use Rattle.calls.specs.declared.Request.{Request}
 use Rattle.calls.specs.Status.{setStatusCall}
 use Rattle.calls.specs.Data.{readDataCall, writeDataCall, writeDataAllCall}
 use Rattle.calls.specs.Bus.{resetCall, controlCall}
-use Rattle.calls.specs.Command.{showing, offered, stepping, commandCall, commandStepCall}
+use Rattle.calls.specs.Command.{showing, offered, stepping, commandCall, commandStepToldCall, commandStepCall}
 
 -- This device has P 8, max LUN 3 and an IO buffer of 32 bytes, three of which are unread. L is 512, and 2 bytes are left. The command is
 -- 12 01 80 00 FF, for LUN 1; `state` and `blocklength` are given.
@@ -29,6 +29,13 @@ abbrev device : State → ℕ → Device
 device state blocklength =
     rebuilt (newDevice (fixed 8 3 32)) state (at 1 4)
     (record { tag = 7; length = 512; direction = In; lun = 1; blocklength = blocklength; block = 0x12 ∷ 0x01 ∷ 0x80 ∷ 0x00 ∷ 0xFF ∷ replicate 11 9 })
+    Absent (record { 0 = 2 })
+
+-- This is the same device in state 4, with a READ (16) of address 2 and 258 blocks.
+abbrev reading16 : Device
+reading16 =
+    rebuilt (newDevice (fixed 8 3 32)) DataTransferToHost (at 1 4)
+    (record { tag = 7; length = 512; direction = In; lun = 1; blocklength = 16; block = 0x88 ∷ replicate 8 0 ++ (2 ∷ 0 ∷ 0 ∷ 1 ∷ 2 ∷ 0 ∷ 0 ∷ []) })
     Absent (record { 0 = 2 })
 
 -- This is its IO buffer.
@@ -88,6 +95,11 @@ table =
     ∷ case (commandStepCall (device DataTransferToHost 5) io) (stepping (answer 0) (offered 1 (Inquiry true 128 255) ∷ []))
     ∷ case (commandStepCall (withStatus (Present PhaseError (record { 0 = 0 })) (device DataTransferToHost 5)) io) (stepping (answer 0) [])
     ∷ case (commandStepCall (device CommandTransfer 5) io) (stepping (answer 0) [])
-    -- 13: the block is empty.
+    -- READ (16): the plain step decodes it. A caller who tells that extended addressing is off gets Unknown.
+    ∷ case (commandStepCall reading16 io) (stepping (answer 0) (offered 1 (Read 2 258) ∷ []))
+    ∷ case (commandStepToldCall false reading16 io) (stepping (answer 0) (offered 1 (Unknown 0x88) ∷ []))
+    -- 13: the block is empty. 10 comes first: the lent buffer is a byte short.
     ∷ case (commandStepCall (device CommandTransferInvalid 0) io) (stepping (answer 13) [])
+    ∷ case (commandStepToldCall false (device CommandTransferInvalid 0) io) (stepping (answer 13) [])
+    ∷ case (commandStepToldCall false (device CommandTransferInvalid 0) (replicate 31 5)) (stepping (answer 10) [])
     ∷ []

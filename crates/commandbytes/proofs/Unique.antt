@@ -10,6 +10,8 @@ use Rattle.commandbytes.proofs.command.Kinds as command-kinds
 use Rattle.commandbytes.proofs.command.Reads as command
 use Rattle.commandbytes.proofs.command_step.Kinds as command-step-kinds
 use Rattle.commandbytes.proofs.command_step.Reads as command-step
+use Rattle.commandbytes.proofs.command_step_told.Kinds as command-step-told-kinds
+use Rattle.commandbytes.proofs.command_step_told.Reads as command-step-told
 
 -- What a call leaves tells its result, and what the caller lent for the command.
 pub shown-once : {n k : ℕ} {l m : List ℕ} → commandOutcome n l ≡ commandOutcome k m → (n ≡ k) × (l ≡ m)
@@ -21,3 +23,6 @@ command-only κs a x y s t p q = shown-once (p ∙ sym q)
 
 pub command-step-only : Only 3 command-step-kinds.ps command-step-kinds.r command-step.Post (λ κs s. now (s .1 .1 .0))
 command-step-only κs a x y s t p q = shown-once (p ∙ sym q)
+
+pub command-step-told-only : Only 3 command-step-told-kinds.ps command-step-told-kinds.r command-step-told.Post (λ κs s. now (s .1 .1 .1 .0))
+command-step-told-only κs a x y s t p q = shown-once (p ∙ sym q)

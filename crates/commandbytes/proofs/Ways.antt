@@ -3,13 +3,13 @@
 use mathlib.Core.Path.{_≡_, refl, sym, ap, _∙_}
 use mathlib.Core.Bool.{Bool, true, false, not, cond, _&&_}
 use mathlib.Core.List.{List, [], _∷_}
-use Prim.Native.Nat.{ℕ, _+_, _-_, _≤_}
+use Prim.Native.Nat.{ℕ, _+_, _-_, _≤_, _<_}
 use native.Mathlib.Nat.{add-sub-cancel-left}
 use native.Mathlib.Omega.{arith}
 use lib.Dec.{eqb}
 use lib.ListN.{length, take, drop}
 use lib.Seq.{take-take}
-use borrow.Author.Tests.{eq-eqb, ne-eqb}
+use borrow.Author.Tests.{eq-eqb, ne-eqb, le-leb, lt-leb}
 use Rattle.fields.specs.Field.{bytesAt, get}
 use Rattle.fields.specs.Overlay.{overlay}
 use Rattle.fields.proofs.Bools.{and-left, and-right, not-true, not-false}
@@ -21,17 +21,17 @@ use Rattle.device.specs.declared.Numbers.{Numbers}
 use Rattle.device.specs.Device.{numbersOf}
 use Rattle.device.specs.Broken.{isWhole, unlessBroken}
 use Rattle.device.proofs.Wholly.{is-whole}
-use Rattle.scsi.specs.Decoding.{Decoding, decoded, decodeCall, plainCall}
-use Rattle.scsi.specs.Numbers.{DecodeOutcome, decodeOutcome, decodeOutcomeOf, shownDecode}
+use Rattle.scsi.specs.Decoding.{Decoding, decoded, decodeCall, plainIsExtended}
+use Rattle.scsi.specs.Numbers.{DecodeOutcome, decodeOutcome, decodeOutcomeOf}
 use Rattle.calls.specs.Checks.{isIn}
-use Rattle.calls.specs.Command.{Showing, hiding, showing, isShown, commandCall, Stepping, stepping, isOffered, steppingOfDecoding, blockOf, commandStepCall}
+use Rattle.calls.specs.Command.{Showing, hiding, showing, isShown, commandCall, Stepping, stepping, isOffered, steppingOfDecoding, blockOf, commandStepToldCall}
 use Rattle.recordbytes.specs.Layout as field
 use Rattle.recordbytes.specs.Record.{isKnown, wrapperAt, deviceAt}
 use Rattle.recordbytes.proofs.Stored.{is-known}
 use Rattle.border.specs.Word.{word, answerWord}
 use Rattle.border.specs.Record.{onDevice}
 use Rattle.border.proofs.Lending.{long-then}
-use Rattle.commandbytes.specs.Command.{CommandOutcome, commandOutcome, commandOutcomeOf, commandOn, commandOutcomeOfStep, commandStepOn}
+use Rattle.commandbytes.specs.Command.{CommandOutcome, commandOutcome, commandOutcomeOf, commandOn, commandOutcomeOfStep, commandStepBy, commandStepOn, commandStepToldOn}
 
 -- ---- the record
 
@@ -91,11 +91,11 @@ pub tells-lun : (r : List ℕ) {lun x : ℕ} → lun ≡ get field.lun r → x �
 tells-lun r en ex = rw en at ex
 
 -- The part of the record up to the end of the block is the block of the wrapper.
-pub decodes-block : (r was : List ℕ) → get field.blockLength r ≤ 16 → {n : ℕ} → n ≡ get field.blockLength r → {a : ℕ} {l : List ℕ}
-    → decodeOutcome a l ≡ shownDecode (take (36 + n - 36) (drop 36 r)) was → decodeOutcome a l ≡ shownDecode (blockOf (wrapperAt r)) was
+pub decodes-block : (extended : Bool) (r was : List ℕ) → get field.blockLength r ≤ 16 → {n : ℕ} → n ≡ get field.blockLength r → {a : ℕ} {l : List ℕ}
+    → decodeOutcome a l ≡ decodeOutcomeOf was (decodeCall extended (take (36 + n - 36) (drop 36 r))) → decodeOutcome a l ≡ decodeOutcomeOf was (decodeCall extended (blockOf (wrapperAt r)))
 unfolding wrapperAt blockOf bytesAt
-decodes-block r was h {n} en e =
-    e ∙ ap (λ (b : List ℕ). shownDecode b was)
+decodes-block extended r was h {n} en e =
+    e ∙ ap (λ (b : List ℕ). decodeOutcomeOf was (decodeCall extended b))
     (ap (λ (k : ℕ). take k (drop 36 r)) (add-sub-cancel-left 36 n ∙ en) ∙ sym (take-take (get field.blockLength r) 16 (drop 36 r) h))
 
 -- ---- a block that was decoded, as a step
@@ -104,10 +104,11 @@ decodes-block r was h {n} en e =
 left : List ℕ → Stepping → CommandOutcome
 left was o = commandOutcomeOfStep (o .answer .number) was (o .offers)
 
-module _ (lun : ℕ) (block was : List ℕ) {a : ℕ} {l : List ℕ} (six : length was ≡ 6) (h : decodeOutcome a l ≡ shownDecode block was) where
+module _ (extended : Bool) (lun : ℕ) (block was : List ℕ) {a : ℕ} {l : List ℕ} (six : length was ≡ 6)
+  (h : decodeOutcome a l ≡ decodeOutcomeOf was (decodeCall extended block)) where
   -- The decoder finds an empty block (`true`) or a command.
   found : Bool → Decoding
-  found b = cond b (record { answer = 13; commands = [] }) (record { answer = 0; commands = decoded false block ∷ [] })
+  found b = cond b (record { answer = 13; commands = [] }) (record { answer = 0; commands = decoded extended block ∷ [] })
 
   Decoded : Bool → Type 0
   Decoded b = decodeOutcome a l ≡ decodeOutcomeOf was (found b)
@@ -115,9 +116,9 @@ module _ (lun : ℕ) (block was : List ℕ) {a : ℕ} {l : List ℕ} (six : leng
   Steps : Bool → ℕ → Type 0
   Steps b x = commandOutcome x l ≡ left was (steppingOfDecoding lun (found b))
 
-  told : Decoded (eqb (length block) 0)
-  unfolding Decoded found shownDecode plainCall decodeCall
-  told = h
+  given : Decoded (eqb (length block) 0)
+  unfolding Decoded found decodeCall
+  given = h
 
   empty-by : (b : Bool) → Decoded b → (a ≡ 0 → ⊥) → Steps b a
   unfolding Decoded Steps found left decodeOutcomeOf steppingOfDecoding word
@@ -132,13 +133,13 @@ module _ (lun : ℕ) (block was : List ℕ) {a : ℕ} {l : List ℕ} (six : leng
       absurd no
   offered-by false e z ex = rw (ex, rw (eq-eqb _ _ six) at (ap (λ (o : DecodeOutcome). o .lent) e))
 
-  steps-empty : (a ≡ 0 → ⊥) → commandOutcome a l ≡ left was (steppingOfDecoding lun (plainCall block))
-  unfolding Steps found plainCall decodeCall
-  steps-empty n = empty-by (eqb (length block) 0) told n
+  steps-empty : (a ≡ 0 → ⊥) → commandOutcome a l ≡ left was (steppingOfDecoding lun (decodeCall extended block))
+  unfolding Steps found decodeCall
+  steps-empty n = empty-by (eqb (length block) 0) given n
 
-  steps-offered : a ≡ 0 → {x : ℕ} → x ≡ word 0 lun 0 1 0 → commandOutcome x l ≡ left was (steppingOfDecoding lun (plainCall block))
-  unfolding Steps found plainCall decodeCall
-  steps-offered z ex = offered-by (eqb (length block) 0) told z ex
+  steps-offered : a ≡ 0 → {x : ℕ} → x ≡ word 0 lun 0 1 0 → commandOutcome x l ≡ left was (steppingOfDecoding lun (decodeCall extended block))
+  unfolding Steps found decodeCall
+  steps-offered z ex = offered-by (eqb (length block) 0) given z ex
 
 -- ---- the two calls
 
@@ -147,16 +148,16 @@ module _ (r io was : List ℕ) where
   unfolding commandOn word
   command-wrong n = rw (ne-eqb _ _ n)
 
-  pub step-wrong : (length was ≡ 6 → ⊥) → commandOutcome 10 was ≡ commandStepOn r io was
-  unfolding commandStepOn word
-  step-wrong n = rw (ne-eqb _ _ n)
+  pub step-wrong : (extended : Bool) → (length was ≡ 6 → ⊥) → commandOutcome 10 was ≡ commandStepBy extended r io was
+  unfolding commandStepBy word
+  step-wrong extended n = rw (ne-eqb _ _ n)
 
   -- These are the two calls on a device that is not broken.
   shown : Device → Showing
   shown d = cond (isShown d) (showing (d .wrapper)) (hiding (answer 0))
 
-  stepped : Device → Stepping
-  stepped d = cond (isOffered d) (steppingOfDecoding (d .wrapper .lun) (plainCall (blockOf (d .wrapper)))) (stepping (answer 0) [])
+  stepped : Bool → Device → Stepping
+  stepped extended d = cond (isOffered d) (steppingOfDecoding (d .wrapper .lun) (decodeCall extended (blockOf (d .wrapper)))) (stepping (answer 0) [])
 
   module _ {u : Bool} (eu : u ≡ isKnown r && isWhole (numbersOf (deviceAt r)) (length io)) where
     fails : not u ≡ true → stands r io ≡ false
@@ -167,18 +168,18 @@ module _ (r io was : List ℕ) where
     unfolding commandOn commandCall called shown word
     command-refused e q = rw (eq-eqb _ _ e) (none r io (commandOutcomeOf was) (hiding (answer 10)) shown (fails q))
 
-    pub step-refused : length was ≡ 6 → not u ≡ true → commandOutcome 10 was ≡ commandStepOn r io was
-    unfolding commandStepOn commandStepCall called stepped left word
-    step-refused e q = rw (eq-eqb _ _ e) (none r io (left was) (stepping (answer 10) []) stepped (fails q))
+    pub step-refused : (extended : Bool) → length was ≡ 6 → not u ≡ true → commandOutcome 10 was ≡ commandStepBy extended r io was
+    unfolding commandStepBy commandStepToldCall called stepped left word
+    step-refused extended e q = rw (eq-eqb _ _ e) (none r io (left was) (stepping (answer 10) []) (stepped extended) (fails q))
 
     module _ (q : not u ≡ false) {d : Device} (ed : d ≡ deviceAt r) where
       on-16 : length was ≡ 16 → commandOutcomeOf was (shown (deviceAt r)) ≡ commandOn r io was
       unfolding commandOn commandCall called shown
       on-16 e = rw (eq-eqb _ _ e) (made r io (commandOutcomeOf was) (hiding (answer 10)) shown (holds r io eu q))
 
-      on-6 : length was ≡ 6 → left was (stepped (deviceAt r)) ≡ commandStepOn r io was
-      unfolding commandStepOn commandStepCall called stepped left
-      on-6 e = rw (eq-eqb _ _ e) (made r io (left was) (stepping (answer 10) []) stepped (holds r io eu q))
+      on-6 : (extended : Bool) → length was ≡ 6 → left was (stepped extended (deviceAt r)) ≡ commandStepBy extended r io was
+      unfolding commandStepBy commandStepToldCall called stepped left
+      on-6 extended e = rw (eq-eqb _ _ e) (made r io (left was) (stepping (answer 10) []) (stepped extended) (holds r io eu q))
 
       module _ {t : Bool} (et : t ≡ isIn 0 d) where
         pub command-none : length was ≡ 16 → t ≡ true → commandOutcome 0 was ≡ commandOn r io was
@@ -189,21 +190,42 @@ module _ (r io was : List ℕ) where
         unfolding shown isShown deviceAt
         command-shown e p ex = ex ∙ rw (← ed, ← et, p) at (on-16 e)
 
-      module _ {t : Bool} (et : t ≡ isOffered d) where
-        pub step-none : length was ≡ 6 → not t ≡ true → commandOutcome 0 was ≡ commandStepOn r io was
+      module _ (extended : Bool) {t : Bool} (et : t ≡ isOffered d) where
+        pub step-none : length was ≡ 6 → not t ≡ true → commandOutcome 0 was ≡ commandStepBy extended r io was
         unfolding stepped left word
-        step-none e p = rw (← ed, ← et, not-true t p) at (on-6 e)
+        step-none e p = rw (← ed, ← et, not-true t p) at (on-6 extended e)
 
-        module _ (e : length was ≡ 6) (p : not t ≡ false) {a : ℕ} {l : List ℕ} (h : decodeOutcome a l ≡ shownDecode (blockOf (wrapperAt r)) was) where
-          decoded-step : left was (steppingOfDecoding (wrapperAt r .lun) (plainCall (blockOf (wrapperAt r)))) ≡ commandStepOn r io was
+        module _ (e : length was ≡ 6) (p : not t ≡ false) {a : ℕ} {l : List ℕ}
+          (h : decodeOutcome a l ≡ decodeOutcomeOf was (decodeCall extended (blockOf (wrapperAt r)))) where
+          decoded-step : left was (steppingOfDecoding (wrapperAt r .lun) (decodeCall extended (blockOf (wrapperAt r)))) ≡ commandStepBy extended r io was
           unfolding stepped deviceAt
-          decoded-step = rw (← ed, ← et, not-false t p) at (on-6 e)
+          decoded-step = rw (← ed, ← et, not-false t p) at (on-6 extended e)
 
-          pub step-empty : (a ≡ 0 → ⊥) → commandOutcome a l ≡ commandStepOn r io was
-          step-empty n = steps-empty (wrapperAt r .lun) (blockOf (wrapperAt r)) was e h n ∙ decoded-step
+          pub step-empty : (a ≡ 0 → ⊥) → commandOutcome a l ≡ commandStepBy extended r io was
+          step-empty n = steps-empty extended (wrapperAt r .lun) (blockOf (wrapperAt r)) was e h n ∙ decoded-step
 
-          pub step-offered : a ≡ 0 → {x : ℕ} → x ≡ word 0 (get field.lun r) 0 1 0 → commandOutcome x l ≡ commandStepOn r io was
+          pub step-offered : a ≡ 0 → {x : ℕ} → x ≡ word 0 (get field.lun r) 0 1 0 → commandOutcome x l ≡ commandStepBy extended r io was
           unfolding wrapperAt
-          step-offered z ex = steps-offered (wrapperAt r .lun) (blockOf (wrapperAt r)) was e h z ex ∙ decoded-step
+          step-offered z ex = steps-offered extended (wrapperAt r .lun) (blockOf (wrapperAt r)) was e h z ex ∙ decoded-step
 
-pub ruleset ways = (long-then, no-record, a-record, long, block-fits, shows-block, tells-lun, decodes-block, command-wrong, step-wrong, command-refused, step-refused, command-none, command-shown, step-none, step-empty, step-offered)
+  -- ---- the plain step, and the one that is told a number
+
+  module _ {o : CommandOutcome} where
+    pub plainly : o ≡ commandStepBy plainIsExtended r io was → o ≡ commandStepOn r io was
+    unfolding commandStepOn
+    plainly h = h
+
+    pub told : (x : ℕ) → x ≤ 1 → o ≡ commandStepBy (eqb x 1) r io was → o ≡ commandStepToldOn x r io was
+    unfolding commandStepToldOn
+    told x h e = rw (le-leb x 1 h) e
+
+  pub no-flag : (x : ℕ) → 1 < x → commandOutcome 10 was ≡ commandStepToldOn x r io was
+  unfolding commandStepToldOn word
+  no-flag x h = rw (lt-leb x 1 h)
+
+  -- The plain step is the one that is told 1.
+  pub plain-told : commandStepOn r io was ≡ commandStepToldOn 1 r io was
+  unfolding commandStepOn commandStepToldOn
+  plain-told = refl
+
+pub ruleset ways = (long-then, no-record, a-record, long, block-fits, shows-block, tells-lun, decodes-block, command-wrong, step-wrong, command-refused, step-refused, command-none, command-shown, step-none, step-empty, step-offered, plainly, told, no-flag)

@@ -85,7 +85,7 @@ long-enough rs {op} {n} e h = rw e at (by-row rs op n h)
 -- ---- a listed block is known, and no other
 
 -- This tests whether a command is Unknown.
-abbrev isUnknown : ScsiCommand → Bool
+abbrev pub isUnknown : ScsiCommand → Bool
 isUnknown (Unknown cmd) = true
 isUnknown (Inquiry evpd page allocation) = false
 isUnknown TestUnitReady = false

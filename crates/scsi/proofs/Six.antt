@@ -1,6 +1,6 @@
 -- These laws are about a command as six numbers: what each way through a function owes (`ways`). Assumes nothing.
 use mathlib.Core.Path.{_≡_, sym, ap, _∙_}
-use mathlib.Core.Bool.{Bool, false}
+use mathlib.Core.Bool.{Bool}
 use mathlib.Core.List.{List}
 use Prim.Native.Nat.{ℕ, _≤_, _<_}
 use lib.Dec.{eqb}
@@ -8,7 +8,7 @@ use lib.ListN.{length, set}
 use borrow.Author.Tests.{eq-eqb, ne-eqb, le-leb, lt-leb}
 use Rattle.fields.proofs.Seq.{all-stored}
 use Rattle.scsi.specs.declared.ScsiCommand.{ScsiCommand}
-use Rattle.scsi.specs.Decoding.{Decoding, decoded, decodeCall, plainCall}
+use Rattle.scsi.specs.Decoding.{Decoding, decoded, decodeCall, plainIsExtended, plainCall}
 use Rattle.scsi.specs.Numbers.{six, commandNumbers, decodeOutcome, decodeOutcomeOf, shownDecode, shownTold}
 
 pub six-stored : (l : List ℕ) (k a b c d e : ℕ) → length l ≡ 6 → set (set (set (set (set (set l 0 k) 1 a) 2 b) 3 c) 4 d) 5 e ≡ six k a b c d e
@@ -35,7 +35,7 @@ module _ (extended : Bool) (was block : List ℕ) (six : length was ≡ 6) where
   unfolding decodeOutcomeOf decodeCall
   decodes-nothing e = rw (eq-eqb _ _ six, eq-eqb _ _ e)
 
-pub plainly : (was block : List ℕ) {r : ℕ} {l : List ℕ} → decodeOutcome r l ≡ decodeOutcomeOf was (decodeCall false block) → decodeOutcome r l ≡ shownDecode block was
+pub plainly : (was block : List ℕ) {r : ℕ} {l : List ℕ} → decodeOutcome r l ≡ decodeOutcomeOf was (decodeCall plainIsExtended block) → decodeOutcome r l ≡ shownDecode block was
 unfolding shownDecode plainCall
 plainly was block h = h
 

@@ -16,6 +16,8 @@ use Rattle.scsi.proofs.decode.Kinds as decode-kinds
 use Rattle.scsi.proofs.decode.Reads as decode
 use Rattle.scsi.proofs.numbers.put_command.Kinds as put-command-kinds
 use Rattle.scsi.proofs.numbers.put_command.Reads as put-command
+use Rattle.scsi.proofs.numbers.put_decoded.Kinds as put-decoded-kinds
+use Rattle.scsi.proofs.numbers.put_decoded.Reads as put-decoded
 use Rattle.scsi.proofs.numbers.decode_into.Kinds as decode-into-kinds
 use Rattle.scsi.proofs.numbers.decode_into.Reads as decode-into
 use Rattle.scsi.proofs.numbers.decode_told_into.Kinds as decode-told-into-kinds
@@ -48,6 +50,9 @@ shown-once e = (ap (λ (s : DecodeOutcome). s .number) e, ap (λ (s : DecodeOutc
 
 pub put-command-only : Only 1 put-command-kinds.ps put-command-kinds.r put-command.Post (λ κs s. now (s .0))
 put-command-only κs a x y s t p q = (refl, p ∙ sym q)
+
+pub put-decoded-only : Only 2 put-decoded-kinds.ps put-decoded-kinds.r put-decoded.Post (λ κs s. now (s .1 .1 .0))
+put-decoded-only κs a x y s t p q = shown-once (p ∙ sym q)
 
 pub decode-into-only : Only 2 decode-into-kinds.ps decode-into-kinds.r decode-into.Post (λ κs s. now (s .1 .0))
 decode-into-only κs a x y s t p q = shown-once (p ∙ sym q)

@@ -13,9 +13,9 @@ use Rattle.scsi.specs.Decoding.{decodeCall, plainCall}
 abbrev plain : List ℕ → ScsiCommand → Case
 plain b c = case (plainCall b) (record { answer = 0; commands = c ∷ [] })
 
--- In a case with extended addressing on, the block `b` decodes to the command `c`.
-abbrev extended : List ℕ → ScsiCommand → Case
-extended b c = case (decodeCall true b) (record { answer = 0; commands = c ∷ [] })
+-- In a case of the entry that is told, with extended addressing off, the block `b` decodes to the command `c`.
+abbrev off : List ℕ → ScsiCommand → Case
+off b c = case (decodeCall false b) (record { answer = 0; commands = c ∷ [] })
 
 -- "(starred ones are proved)": these are the starred cases of 01 that concern this crate.
 unfoldable pub starred : List Case
@@ -46,15 +46,18 @@ ours =
     ∷ plain (0x9E ∷ replicate 12 0) (Unknown 0x9E)
     -- A block may be longer than 16 bytes.
     ∷ plain (0x12 ∷ 0xFE ∷ 0x7F ∷ 1 ∷ 2 ∷ replicate 20 0xFF) (Inquiry false 127 258)
-    -- 88 and 8A count with extended addressing, where the block is long enough, and do not count without it.
-    ∷ extended (0x88 ∷ 1 ∷ 0 ∷ 0 ∷ 0 ∷ 1 ∷ 0 ∷ 0 ∷ 0 ∷ 2 ∷ 0 ∷ 0 ∷ 1 ∷ 2 ∷ []) (Read 0x100000002 258)
-    ∷ extended (0x8A ∷ replicate 13 0) (Write 0 0)
-    ∷ extended (0x8A ∷ replicate 12 0) (Unknown 0x8A)
-    ∷ plain (0x88 ∷ replicate 15 0) (Unknown 0x88)
-    ∷ plain (0x8A ∷ replicate 15 0) (Unknown 0x8A)
+    -- 88 and 8A count in the plain entry, where the block is long enough.
+    ∷ plain (0x88 ∷ 1 ∷ 0 ∷ 0 ∷ 0 ∷ 1 ∷ 0 ∷ 0 ∷ 0 ∷ 2 ∷ 0 ∷ 0 ∷ 1 ∷ 2 ∷ []) (Read 0x100000002 258)
+    ∷ plain (0x8A ∷ 1 ∷ 0 ∷ 0 ∷ 0 ∷ 1 ∷ 0 ∷ 0 ∷ 0 ∷ 2 ∷ 0 ∷ 0 ∷ 1 ∷ 2 ∷ []) (Write 0x100000002 258)
+    ∷ plain (0x88 ∷ replicate 12 0) (Unknown 0x88)
+    ∷ plain (0x8A ∷ replicate 12 0) (Unknown 0x8A)
+    -- They do not count where the caller tells that extended addressing is off. All others do.
+    ∷ off (0x88 ∷ replicate 15 0) (Unknown 0x88)
+    ∷ off (0x8A ∷ replicate 15 0) (Unknown 0x8A)
+    ∷ off (0x9E ∷ replicate 13 0) (ReadCapacity16 0)
     -- No row has this opcode.
     ∷ plain (0x01 ∷ replicate 15 0) (Unknown 0x01)
     -- The block is empty.
     ∷ case (plainCall []) (record { answer = 13; commands = [] })
-    ∷ case (decodeCall true []) (record { answer = 13; commands = [] })
+    ∷ case (decodeCall false []) (record { answer = 13; commands = [] })
     ∷ []

@@ -75,7 +75,7 @@ pub record Decoding : Type 0 where
   pub answer : ℕ
   pub commands : List ScsiCommand
 
-abbrev decoding : ℕ → List ScsiCommand → Decoding
+abbrev pub decoding : ℕ → List ScsiCommand → Decoding
 decoding n c = record { answer = n; commands = c }
 
 -- This is the outcome that each answer of the code stands for; `c` is the command that it carries.

@@ -1,4 +1,4 @@
--- `scsi::decode` meets its contract: it calls the entry that is told, with extended addressing off. Assumes nothing.
+-- `scsi::decode` meets its contract: it calls the entry that is told, with extended addressing on. Assumes nothing.
 use borrow.Author.Needs.{needs}
 use Rattle.scsi.specs.Decoding.{plainCall}
 use Rattle.scsi.proofs.decode.Statement.{statement}

@@ -7,11 +7,11 @@ use Rattle.calls.proofs.Laws.{ways}
 use Rattle.calls.proofs.command.decoded.Statement.{statement}
 use Rattle.calls.proofs.command.decoded.Tie as tie
 
-slice-aggregate-decode : tie.Need-slice-aggregate-decode
-slice-aggregate-decode c = sym (length-take-le _ _ (omega arith))
+slice-aggregate-decode-told : tie.Need-slice-aggregate-decode-told
+slice-aggregate-decode-told c = sym (length-take-le _ _ (omega arith))
 
 pub decoded-spec : {M : Type 1} → statement M
 decoded-spec =
     tie.close (tie.spec
-    (λ c. search needs) slice-aggregate-decode (λ c. search needs) (λ c. search needs) (λ c. search needs) (λ c. search needs)
+    (λ c. search needs) slice-aggregate-decode-told (λ c. search needs) (λ c. search needs) (λ c. search needs) (λ c. search needs)
     (λ c. search (ways, needs)) (λ c. search (ways, needs)))
