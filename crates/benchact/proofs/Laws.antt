@@ -1,6 +1,6 @@
 -- Laws of the calls that events stand for: what each way through a function owes (`ways`). Assumes nothing.
 use mathlib.Core.Path.{_≡_, ap, _∙_}
-use mathlib.Core.Bool.{Bool, true, _&&_}
+use mathlib.Core.Bool.{Bool, true, false, _&&_}
 use mathlib.Core.List.{List, [], _∷_, _++_}
 use Prim.Native.Nat.{ℕ, _+_, _-_, _≤_, _<_}
 use native.Mathlib.Nat.{zero-add}
@@ -9,7 +9,7 @@ use native.Mathlib.Omega.{arith}
 use lib.Dec.{eqb, leb}
 use lib.ListN.{length, take, drop, set, length-drop, length-set}
 use lib.Seq.{take-all}
-use borrow.Author.Tests.{eqb-true, leb-true, ne-eqb}
+use borrow.Author.Tests.{eqb-true, leb-true, eq-eqb, ne-eqb}
 use Rattle.fields.specs.Field.{get}
 use Rattle.fields.specs.Overlay.{overlay}
 use Rattle.fields.proofs.Bools.{and-left, and-right}
@@ -34,10 +34,10 @@ use Rattle.calls.specs.declared.command.Step.{Step}
 use Rattle.calls.specs.Status.{statingOf, setStatusCall}
 use Rattle.calls.specs.Data.{movingOf, readDataCall, writeDataCall, writeDataAllCall}
 use Rattle.calls.specs.Bus.{Handling, handlingOf, replied, resetCall, controlCall}
-use Rattle.calls.specs.Command.{steppingOf, offeredOf, commandStepCall}
-use Rattle.benchfile.specs.Event.{inAnswer, firstAnswer, secondAnswer, firstLength, secondLength, firstPacket, secondPacket, statusByte, figure, roomField, requestType, request, agrees, isPollBody, isStatusBody, isLong, suits}
+use Rattle.calls.specs.Command.{steppingOf, offeredOf, commandStepToldCall}
+use Rattle.benchfile.specs.Event.{inAnswer, firstAnswer, secondAnswer, firstLength, secondLength, firstPacket, secondPacket, statusByte, figure, roomField, requestType, request, carriedByte, agrees, isPollBody, isStatusBody, isLong, suits}
 use Rattle.benchact.specs.declared.Acted.{Acted}
-use Rattle.benchact.specs.Act.{Acting, front, turnOf, actingOfPoll, pollActs, firmwareStatusOf, actingOfStatus, statusActs, actingOfWrite, writeActs, writeAllActs, actingOfRead, readActs, inFront, actingOfBus, resetActs, requestOf, controlActs, commandInFront, actingOfStep, commandActs, actBy}
+use Rattle.benchact.specs.Act.{Acting, front, turnOf, actingOfPoll, pollActs, firmwareStatusOf, actingOfStatus, statusActs, actingOfWrite, writeActs, writeAllActs, actingOfRead, readActs, inFront, actingOfBus, resetActs, requestOf, controlActs, extendedOf, commandInFront, actingOfStep, commandActs, actBy}
 use Rattle.benchact.specs.Inner.Act.{actingOf, polledBy, statedBy, movedBy, handledBy}
 
 -- ---- what the kind says of the body
@@ -162,8 +162,17 @@ module _ (lent : List ℕ) (w : Wrapper) (x : Offer) where
   unfolding commandInFront
   offers-command {n} e h hl = rw (e, hl) (ap (front (1 + w .blocklength)) (behind lent n (w .block) (omega arith)))
 
+module _ (body : List ℕ) where
+  pub off-when-empty : length body ≡ 0 → false ≡ extendedOf body
+  unfolding extendedOf
+  off-when-empty e = rw (eq-eqb _ _ e)
+
+  pub carries-one : (length body ≡ 0 → ⊥) → {b : ℕ} → b ≡ get carriedByte body → eqb b 1 ≡ extendedOf body
+  unfolding extendedOf
+  carries-one n h = rw (ne-eqb _ _ n, h)
+
 abbrev steppedBy : Device → Step → ℕ → Acted
-steppedBy d r n = record { device = d; answer = r .answer; count = 0; stalls = Kept; shown = n }
+steppedBy d r n = record { device = d; answer = r .answer; count = 0; stalls = Kept; shown = n; offer = r .offer }
 
 module _ (d : Device) (io lent : List ℕ) {lent′ : List ℕ} where
   module _ (r : Handled) {n : ℕ} {a : Acted} (hf : front n lent′ ≡ inFront (replied (r .report .reply)) lent) (ha : a ≡ handledBy r n) where
@@ -179,10 +188,10 @@ module _ (d : Device) (io lent : List ℕ) {lent′ : List ℕ} where
     unfolding controlActs
     controls body hq h = answers (rw hq at h)
 
-  pub steps : (r : Step) {n : ℕ} → steppingOf r ≡ commandStepCall d io → front n lent′ ≡ commandInFront (d .wrapper) (offeredOf (r .offer)) lent
-      → actingOf (steppedBy d r n) io lent′ ≡ commandActs d io lent
+  pub steps : (body : List ℕ) (r : Step) {e : Bool} {n : ℕ} → e ≡ extendedOf body → steppingOf r ≡ commandStepToldCall e d io
+      → front n lent′ ≡ commandInFront (d .wrapper) (offeredOf (r .offer)) lent → actingOf (steppedBy d r n) io lent′ ≡ commandActs body d io lent
   unfolding commandActs actingOfStep
-  steps r h hf = rw (← h, ← hf)
+  steps body r he h hf = rw (← he, ← h, ← hf)
 
 -- ---- the event
 
@@ -215,8 +224,8 @@ module _ (k : ℕ) (body : List ℕ) (d : Device) (io lent : List ℕ) {x : Acti
   unfolding actBy
   acts-7 e h = rw e h
 
-  pub acts-8 : (k ≡ 1 → ⊥) → (k ≡ 2 → ⊥) → (k ≡ 3 → ⊥) → (k ≡ 4 → ⊥) → (k ≡ 5 → ⊥) → (k ≡ 6 → ⊥) → (k ≡ 7 → ⊥) → x ≡ commandActs d io lent → x ≡ actBy k body d io lent
+  pub acts-8 : (k ≡ 1 → ⊥) → (k ≡ 2 → ⊥) → (k ≡ 3 → ⊥) → (k ≡ 4 → ⊥) → (k ≡ 5 → ⊥) → (k ≡ 6 → ⊥) → (k ≡ 7 → ⊥) → x ≡ commandActs body d io lent → x ≡ actBy k body d io lent
   unfolding actBy
   acts-8 n1 n2 n3 n4 n5 n6 n7 h = rw (ne-eqb _ _ n1, ne-eqb _ _ n2, ne-eqb _ _ n3, ne-eqb _ _ n4, ne-eqb _ _ n5, ne-eqb _ _ n6, ne-eqb _ _ n7) h
 
-pub ruleset ways = (poll-long, poll-counts, poll-ends, suits-poll, suits-status, suits-read, suits-control, turns, figures, requests, polls, states, writes, writes-all, reads, shows-nothing, shows-lun, length-stored, offers-nothing, offers-command, resets, controls, steps, acts-1, acts-2, acts-3, acts-4, acts-5, acts-6, acts-7, acts-8)
+pub ruleset ways = (poll-long, poll-counts, poll-ends, suits-poll, suits-status, suits-read, suits-control, turns, figures, requests, polls, states, writes, writes-all, reads, shows-nothing, shows-lun, length-stored, offers-nothing, offers-command, resets, controls, off-when-empty, carries-one, steps, acts-1, acts-2, acts-3, acts-4, acts-5, acts-6, acts-7, acts-8)

@@ -6,18 +6,19 @@ use Prim.Native.Nat.{ℕ}
 use denote.Ref.{now}
 use Rattle.fields.proofs.Only.{Only}
 use Rattle.answers.proofs.Unique.{named, named-answer}
+use Rattle.calls.proofs.Unique.{unoffered, unoffered-offered}
 use Rattle.benchact.specs.declared.Acted.{Acted}
 use Rattle.benchact.specs.Act.{Acting}
 use Rattle.benchact.specs.Inner.Act.{actingOf}
 use Rattle.benchact.proofs.act.Kinds as act-kinds
 use Rattle.benchact.proofs.act.Reads as act
 
--- 01's number tells the answer, so what a call tells determines what it returned.
+-- 01's number tells the answer, and the list tells the offer, so what a call tells determines what it returned.
 abbrev unacted : Acting → Acted
-unacted o = record { device = o .device; answer = named (o .answer); count = o .count; stalls = o .stalls; shown = o .shown }
+unacted o = record { device = o .device; answer = named (o .answer); count = o .count; stalls = o .stalls; shown = o .shown; offer = unoffered (o .offers) }
 
 unacted-acted : (x : Acted) (io lent : List ℕ) → unacted (actingOf x io lent) ≡ x
-unacted-acted x io lent = rw (named-answer (x .answer))
+unacted-acted x io lent = rw (named-answer (x .answer), unoffered-offered (x .offer))
 
 acted-once : (x y : Acted) (io io′ lent lent′ : List ℕ) {o : Acting} → actingOf x io lent ≡ o → actingOf y io′ lent′ ≡ o → (x ≡ y) × _≡_ {A = List ℕ × List ℕ} (io, lent) (io′, lent′)
 acted-once x y io io′ lent lent′ h k =

@@ -7,7 +7,7 @@ use lib.Dec.{eqb, leb}
 use lib.ListN.{length}
 use borrow.Author.Tests.{eq-eqb, ne-eqb, le-leb, lt-leb}
 use Rattle.fields.specs.Field.{oneByte, get}
-use Rattle.benchfile.specs.Event.{agrees, isPollBody, isStatusBody, isLong, suits, mayStand}
+use Rattle.benchfile.specs.Event.{agrees, isPollBody, isStatusBody, isStepBody, isLong, suits, mayStand}
 
 module _ (answer len : ℕ) where
   pub agrees-served : answer ≡ 0 → true ≡ agrees answer len
@@ -45,6 +45,19 @@ module _ (body : List ℕ) where
   unfolding isStatusBody
   status-even e hb = rw (eq-eqb _ _ e, hb)
 
+  pub step-empty : length body ≡ 0 → true ≡ isStepBody body
+  unfolding isStepBody
+  step-empty e = rw (eq-eqb _ _ e)
+
+  module _ (n : length body ≡ 0 → ⊥) where
+    pub step-long : (length body ≡ 1 → ⊥) → false ≡ isStepBody body
+    unfolding isStepBody
+    step-long m = rw (ne-eqb _ _ n, ne-eqb _ _ m)
+
+    pub step-carries : length body ≡ 1 → {b : ℕ} → b ≡ get (oneByte 0) body → leb b 1 ≡ isStepBody body
+    unfolding isStepBody
+    step-carries e hb = rw (ne-eqb _ _ n, eq-eqb _ _ e, hb)
+
 module _ (kind n : ℕ) where
   pub long-0 : kind ≡ 0 → eqb n 7 ≡ isLong kind n
   unfolding isLong
@@ -75,14 +88,9 @@ module _ (kind n : ℕ) where
             unfolding isLong
             long-7 e = rw (ne-eqb _ _ n0, ne-eqb _ _ n3, ne-eqb _ _ n4, ne-eqb _ _ n5, ne-eqb _ _ n6, eq-eqb _ _ e)
 
-            module _ (n7 : kind ≡ 7 → ⊥) where
-              pub long-8 : kind ≡ 8 → eqb n 0 ≡ isLong kind n
-              unfolding isLong
-              long-8 e = rw (ne-eqb _ _ n0, ne-eqb _ _ n3, ne-eqb _ _ n4, ne-eqb _ _ n5, ne-eqb _ _ n6, ne-eqb _ _ n7, eq-eqb _ _ e)
-
-              pub long-else : (kind ≡ 8 → ⊥) → false ≡ isLong kind n
-              unfolding isLong
-              long-else n8 = rw (ne-eqb _ _ n0, ne-eqb _ _ n3, ne-eqb _ _ n4, ne-eqb _ _ n5, ne-eqb _ _ n6, ne-eqb _ _ n7, ne-eqb _ _ n8)
+            pub long-else : (kind ≡ 7 → ⊥) → false ≡ isLong kind n
+            unfolding isLong
+            long-else n7 = rw (ne-eqb _ _ n0, ne-eqb _ _ n3, ne-eqb _ _ n4, ne-eqb _ _ n5, ne-eqb _ _ n6, ne-eqb _ _ n7)
 
 module _ (kind : ℕ) (body : List ℕ) where
   pub suits-poll : kind ≡ 1 → {b : Bool} → b ≡ isPollBody body → b ≡ suits kind body
@@ -94,9 +102,14 @@ module _ (kind : ℕ) (body : List ℕ) where
     unfolding suits
     suits-status e h = rw (ne-eqb _ _ n1, eq-eqb _ _ e) h
 
-    pub suits-long : (kind ≡ 2 → ⊥) → {b : Bool} → b ≡ isLong kind (length body) → b ≡ suits kind body
-    unfolding suits
-    suits-long n2 h = rw (ne-eqb _ _ n1, ne-eqb _ _ n2) h
+    module _ (n2 : kind ≡ 2 → ⊥) where
+      pub suits-step : kind ≡ 8 → {b : Bool} → b ≡ isStepBody body → b ≡ suits kind body
+      unfolding suits
+      suits-step e h = rw (ne-eqb _ _ n1, ne-eqb _ _ n2, eq-eqb _ _ e) h
+
+      pub suits-long : (kind ≡ 8 → ⊥) → {b : Bool} → b ≡ isLong kind (length body) → b ≡ suits kind body
+      unfolding suits
+      suits-long n8 h = rw (ne-eqb _ _ n1, ne-eqb _ _ n2, ne-eqb _ _ n8) h
 
 pub stands-first : (first : Bool) (kind : ℕ) → first ≡ true → eqb kind 0 ≡ mayStand first kind
 unfolding mayStand
@@ -106,4 +119,4 @@ pub stands-later : (first : Bool) (kind : ℕ) → first ≡ false → not (eqb 
 unfolding mayStand
 stands-later first kind e = rw e
 
-pub ruleset rules = (agrees-served, agrees-else, poll-short, poll-uneven, poll-disagrees, poll-agrees, status-uneven, status-even, long-0, long-3, long-4, long-5, long-6, long-7, long-8, long-else, suits-poll, suits-status, suits-long, stands-first, stands-later)
+pub ruleset rules = (agrees-served, agrees-else, poll-short, poll-uneven, poll-disagrees, poll-agrees, status-uneven, status-even, step-empty, step-long, step-carries, long-0, long-3, long-4, long-5, long-6, long-7, long-else, suits-poll, suits-status, suits-step, suits-long, stands-first, stands-later)

@@ -56,6 +56,12 @@ table =
     -- "status (byte 0 to 2, ..)"
     ∷ case (isStatusBody (0x03 ∷ 0x00 ∷ 0x00 ∷ 0x00 ∷ 0x00 ∷ [])) false
     ∷ case (isStatusBody (0x04 ∷ 0x00 ∷ 0x00 ∷ 0x00 ∷ 0x00 ∷ [])) false
+    -- "A command step of length 1 .. carries 0 or 1; length 0 means off"; "14 also for a carried byte above 1"
+    ∷ case (suits 8 []) true
+    ∷ case (suits 8 (0x00 ∷ [])) true
+    ∷ case (suits 8 (0x01 ∷ [])) true
+    ∷ case (suits 8 (0x02 ∷ [])) false
+    ∷ case (suits 8 (0x00 ∷ 0x00 ∷ [])) false
     -- "event count, offset of the last event (0 if none), 4 bytes each"
     ∷ case (get countField (0x01 ∷ 0x02 ∷ 0x03 ∷ 0x04 ∷ 0x05 ∷ 0x06 ∷ 0x07 ∷ 0x08 ∷ [])) 0x04030201
     ∷ case (get lastField (0x01 ∷ 0x02 ∷ 0x03 ∷ 0x04 ∷ 0x05 ∷ 0x06 ∷ 0x07 ∷ 0x08 ∷ [])) 0x08070605

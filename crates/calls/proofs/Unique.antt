@@ -86,12 +86,12 @@ unshown o = record { answer = named (o .answer); shown = o .shown; lun = o .lun;
 unshown-shown : (x : Shown) → unshown (showingOf x) ≡ x
 unshown-shown x = rw (named-answer (x .answer))
 
--- In the result of a step, the list determines the offer.
-unoffered : List Offered → Offer
+-- In the result of a step, the list determines the offer. Crates that pass an offer on use this too.
+pub unoffered : List Offered → Offer
 unoffered [] = offer.Nothing
 unoffered (o ∷ os) = offer.Command (o .lun) (o .command)
 
-unoffered-offered : (x : Offer) → unoffered (offeredOf x) ≡ x
+pub unoffered-offered : (x : Offer) → unoffered (offeredOf x) ≡ x
 unfolding unoffered
 unoffered-offered offer.Nothing = refl
 unoffered-offered (offer.Command lun c) = refl

@@ -105,7 +105,7 @@ left : List ℕ → Stepping → CommandOutcome
 left was o = commandOutcomeOfStep (o .answer .number) was (o .offers)
 
 module _ (extended : Bool) (lun : ℕ) (block was : List ℕ) {a : ℕ} {l : List ℕ} (six : length was ≡ 6)
-  (h : decodeOutcome a l ≡ decodeOutcomeOf was (decodeCall extended block)) where
+    (h : decodeOutcome a l ≡ decodeOutcomeOf was (decodeCall extended block)) where
   -- The decoder finds an empty block (`true`) or a command.
   found : Bool → Decoding
   found b = cond b (record { answer = 13; commands = [] }) (record { answer = 0; commands = decoded extended block ∷ [] })
@@ -196,7 +196,7 @@ module _ (r io was : List ℕ) where
         step-none e p = rw (← ed, ← et, not-true t p) at (on-6 extended e)
 
         module _ (e : length was ≡ 6) (p : not t ≡ false) {a : ℕ} {l : List ℕ}
-          (h : decodeOutcome a l ≡ decodeOutcomeOf was (decodeCall extended (blockOf (wrapperAt r)))) where
+            (h : decodeOutcome a l ≡ decodeOutcomeOf was (decodeCall extended (blockOf (wrapperAt r)))) where
           decoded-step : left was (steppingOfDecoding (wrapperAt r .lun) (decodeCall extended (blockOf (wrapperAt r)))) ≡ commandStepBy extended r io was
           unfolding stepped deviceAt
           decoded-step = rw (← ed, ← et, not-false t p) at (on-6 extended e)

@@ -7,8 +7,8 @@ use Rattle.border.specs.Record.{onDevice}
 use Rattle.ringbytes.specs.Poll.{pollOn}
 use Rattle.databytes.specs.Data.{readDataOn, writeDataOn, writeDataAllOn}
 use Rattle.callbytes.specs.Calls.{createOn, setStatusOn, resetOn, controlOn}
-use Rattle.commandbytes.specs.Command.{commandOn, commandStepOn}
+use Rattle.commandbytes.specs.Command.{commandOn, commandStepBy, commandStepOn, commandStepToldOn}
 
 unfoldable pub computing : Unit {0}
-unfolding word onDevice createOn setStatusOn resetOn controlOn readDataOn writeDataOn writeDataAllOn pollOn commandOn commandStepOn bbb.computing calls.computing recordbytes.computing
+unfolding word onDevice createOn setStatusOn resetOn controlOn readDataOn writeDataOn writeDataAllOn pollOn commandOn commandStepBy commandStepOn commandStepToldOn bbb.computing calls.computing recordbytes.computing
 computing = tt

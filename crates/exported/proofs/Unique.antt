@@ -33,6 +33,8 @@ use Rattle.exported.proofs.souk_command.Kinds as souk-command-kinds
 use Rattle.exported.proofs.souk_command.Reads as souk-command
 use Rattle.exported.proofs.souk_command_step.Kinds as souk-command-step-kinds
 use Rattle.exported.proofs.souk_command_step.Reads as souk-command-step
+use Rattle.exported.proofs.souk_command_step_told.Kinds as souk-command-step-told-kinds
+use Rattle.exported.proofs.souk_command_step_told.Reads as souk-command-step-told
 use Rattle.exported.proofs.decode.souk_decode.Kinds as souk-decode-kinds
 use Rattle.exported.proofs.decode.souk_decode.Reads as souk-decode
 use Rattle.exported.proofs.decode.souk_decode_told.Kinds as souk-decode-told-kinds
@@ -67,6 +69,9 @@ souk-command-only κs a x y s t p q = shown-once (p ∙ sym q)
 
 pub souk-command-step-only : Only 3 souk-command-step-kinds.ps souk-command-step-kinds.r souk-command-step.Post (λ κs s. now (s .1 .1 .0))
 souk-command-step-only κs a x y s t p q = shown-once (p ∙ sym q)
+
+pub souk-command-step-told-only : Only 3 souk-command-step-told-kinds.ps souk-command-step-told-kinds.r souk-command-step-told.Post (λ κs s. now (s .1 .1 .1 .0))
+souk-command-step-told-only κs a x y s t p q = shown-once (p ∙ sym q)
 
 pub souk-decode-only : Only 2 souk-decode-kinds.ps souk-decode-kinds.r souk-decode.Post (λ κs s. now (s .1 .0))
 souk-decode-only κs a x y s t p q = scsi.shown-once (p ∙ sym q)

@@ -15,7 +15,7 @@ use Rattle.border.specs.Word.{word}
 use Rattle.ringbytes.specs.Poll.{pollOutcome, pollOn}
 use Rattle.databytes.specs.Data.{dataOutcome, readDataOn, writeDataOn, writeDataAllOn}
 use Rattle.callbytes.specs.Calls.{callOutcome, createOn, setStatusOn, resetOn, controlOn}
-use Rattle.commandbytes.specs.Command.{commandOutcome, commandOn, commandStepOn}
+use Rattle.commandbytes.specs.Command.{commandOutcome, commandOn, commandStepOn, commandStepToldOn}
 
 -- The command block 12 01 80 00 FF, an inquiry for a page, in the 16 bytes that a record has for a block.
 abbrev block : List ℕ
@@ -33,6 +33,10 @@ bytes state present read write left residue status =
 -- Such a record in the state with the number `state`, with three bytes unread, two left and no status.
 abbrev recordIn : ℕ → List ℕ
 recordIn state = bytes state 0 1 4 2 0 0
+
+-- The record in state 4 with another command: a READ (16) of address 2 and 258 blocks.
+abbrev reading16 : List ℕ
+reading16 = overlay (overlay (recordIn 4) 27 (16 ∷ [])) 36 (0x88 ∷ replicate 8 0 ++ (2 ∷ 0 ∷ 0 ∷ 1 ∷ 2 ∷ 0 ∷ 0 ∷ []))
 
 -- The IO buffer of the cases. With the marks of `recordIn`, the bytes 2, 3 and 4 are unread.
 abbrev io : List ℕ
@@ -106,6 +110,12 @@ table =
     ∷ case (commandStepOn (bytes 4 1 1 4 2 12 2) io (replicate 6 8)) (commandOutcome 0 (replicate 6 8))
     ∷ case (commandStepOn (recordIn 4) io (replicate 7 8)) (commandOutcome 10 (replicate 7 8))
     ∷ case (commandStepOn (recordIn 9) io (replicate 6 8)) (commandOutcome 10 (replicate 6 8))
+    -- READ (16) is a read in the plain step and in the one that is told 1; in the one that is told 0 it is unknown. 2 tells nothing.
+    ∷ case (commandStepOn reading16 io (replicate 6 9)) (commandOutcome 0x0000000001000100 (8 ∷ 2 ∷ 258 ∷ 0 ∷ 0 ∷ 0 ∷ []))
+    ∷ case (commandStepToldOn 1 reading16 io (replicate 6 9)) (commandOutcome 0x0000000001000100 (8 ∷ 2 ∷ 258 ∷ 0 ∷ 0 ∷ 0 ∷ []))
+    ∷ case (commandStepToldOn 0 reading16 io (replicate 6 9)) (commandOutcome 0x0000000001000100 (0 ∷ 0x88 ∷ 0 ∷ 0 ∷ 0 ∷ 0 ∷ []))
+    ∷ case (commandStepToldOn 2 reading16 io (replicate 6 8)) (commandOutcome 10 (replicate 6 8))
+    ∷ case (commandStepToldOn 0 reading16 io (replicate 7 8)) (commandOutcome 10 (replicate 7 8))
     ∷ []
 
 -- A poll with a packet buffer of 8 bytes of 9 in which the first OUT read offers `packet`, the second is busy, and IN does its part.

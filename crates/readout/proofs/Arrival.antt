@@ -123,7 +123,7 @@ module _ (p : ℕ) (m : List ℕ) (s : Socket) (a : Arriving p m s) where
   event-arrives reset few = rw (reset-done (s .device) (s .io) (a .whole)) (reset-arrives (answer 0))
   event-arrives (control q) few = by-request (s .device) (s .io) q (λ (o : Handling). Arrives p m (ofBus (s .io) o)) (λ n _. nothing-arrives n) (λ _ _. reset-arrives (answer 0))
   event-arrives command few = nothing-arrives _
-  event-arrives commandStep few = nothing-arrives _
+  event-arrives (commandStep extended) few = nothing-arrives _
 
 -- ---- a history
 

@@ -15,7 +15,8 @@ use Rattle.bbb.proofs.poll.Reads as poll-reads
 use Rattle.calls.specs.Status.{statingOf}
 use Rattle.calls.specs.Data.{movingOf}
 use Rattle.calls.specs.Bus.{handlingOf}
-use Rattle.calls.specs.Command.{Showing, showingOf, Stepping, steppingOf}
+use Rattle.scsi.specs.Decoding.{plainIsExtended}
+use Rattle.calls.specs.Command.{Showing, showingOf, Stepping, steppingOf, commandStepCall}
 use Rattle.calls.proofs.set_status.Kinds as status-kinds
 use Rattle.calls.proofs.set_status.Reads as status-reads
 use Rattle.calls.proofs.write_data.Kinds as write-kinds
@@ -32,6 +33,8 @@ use Rattle.calls.proofs.command.command.Kinds as command-kinds
 use Rattle.calls.proofs.command.command.Reads as command-reads
 use Rattle.calls.proofs.command.command_step.Kinds as step-kinds
 use Rattle.calls.proofs.command.command_step.Reads as step-reads
+use Rattle.calls.proofs.command.command_step_told.Kinds as told-kinds
+use Rattle.calls.proofs.command.command_step_told.Reads as told-reads
 use Rattle.readout.specs.History.{Socket, socket, Event, poll, status, write, writeAll, read, reset, control, command, commandStep, Shows, ofPoll, ofStatus, ofWrite, ofRead, ofBus, ofLook, shows, run, all, sentIn, isServed, isPoll, served}
 use Rattle.readout.specs.Demand.{Story, history, ended, host, servedSince, pollsDue, theData, theStatus, Between, Later, Supposed, NotYet, Ends, Demand}
 use Rattle.readout.proofs.Demand.{demand}
@@ -58,11 +61,13 @@ pub data Called : Event → Socket → Shows → Type 0 where
   command-called : (κs : Lfts 1) (a : Dens κs command-kinds.ps) (x : resT command-kinds.r κs .Denot) (z : AtExit (endedOf 1 command-kinds.ps command-kinds.r) κs) → command-reads.Post κs a x z
       → Called command (socket (a .0) (now (a .1 .0))) (ofLook (socket (a .0) (now (a .1 .0))) (showingOf x .answer))
   step-called : (κs : Lfts 1) (a : Dens κs step-kinds.ps) (x : resT step-kinds.r κs .Denot) (z : AtExit (endedOf 1 step-kinds.ps step-kinds.r) κs) → step-reads.Post κs a x z
-      → Called commandStep (socket (a .0) (now (a .1 .0))) (ofLook (socket (a .0) (now (a .1 .0))) (steppingOf x .answer))
+      → Called (commandStep plainIsExtended) (socket (a .0) (now (a .1 .0))) (ofLook (socket (a .0) (now (a .1 .0))) (steppingOf x .answer))
+  told-called : (κs : Lfts 1) (a : Dens κs told-kinds.ps) (x : resT told-kinds.r κs .Denot) (z : AtExit (endedOf 1 told-kinds.ps told-kinds.r) κs) → told-reads.Post κs a x z
+      → Called (commandStep (a .1 .1 .0)) (socket (a .0) (now (a .1 .0))) (ofLook (socket (a .0) (now (a .1 .0))) (steppingOf x .answer))
 
 -- What a call showed is what its event shows.
 called-shows : {e : Event} {s : Socket} {o : Shows} → Called e s o → o ≡ shows e s
-unfolding shows
+unfolding shows commandStepCall
 called-shows (poll-called κs a x z p) = ap (ofPoll (given (now (a .1 .1 .0)) (now (a .1 .1 .1 .0)) (now (a .1 .1 .1 .1 .0)) (a .1 .1 .1 .1 .1 .0))) p
 called-shows (status-called κs a x z p) = ap (ofStatus (now (a .1 .0))) p
 called-shows (write-called κs a x z p) = ap (ofWrite (now (a .1 .1 .0))) p
@@ -72,6 +77,7 @@ called-shows (reset-called κs a x z p) = ap (ofBus (now (a .1 .0))) p
 called-shows (control-called κs a x z p) = ap (ofBus (now (a .1 .0))) p
 called-shows (command-called κs a x z p) = ap (λ (o : Showing). ofLook (socket (a .0) (now (a .1 .0))) (o .answer)) p
 called-shows (step-called κs a x z p) = ap (λ (o : Stepping). ofLook (socket (a .0) (now (a .1 .0))) (o .answer)) p
+called-shows (told-called κs a x z p) = ap (λ (o : Stepping). ofLook (socket (a .0) (now (a .1 .0))) (o .answer)) p
 
 -- "the firmware keeps one device record": each call is made with the record and the IO buffer that the call before left. The log has the
 -- last such socket, and all bytes sent.

@@ -46,7 +46,7 @@ refused (read dst) s h = (rw h, refl)
 refused reset s h = (rw h, refl)
 refused (control q) s h = (rw h, refl)
 refused command s h = (refl, refl)
-refused commandStep s h = (refl, refl)
+refused (commandStep extended) s h = (refl, refl)
 
 none-arrives : (h : List Event) (s : Socket) → isWhole (numbersOf (s .device)) (length (s .io)) ≡ false → arrivedIn h s ≡ []
 unfolding all
@@ -73,7 +73,7 @@ stays-whole (read dst) s w = read-whole (s .device) (s .io) w dst
 stays-whole reset s w = reset-whole (s .device) (s .io) w
 stays-whole (control q) s w = control-whole (s .device) (s .io) q w
 stays-whole command s w = w
-stays-whole commandStep s w = w
+stays-whole (commandStep extended) s w = w
 
 run-whole : (h : List Event) (s : Socket) → WholeIn s → WholeIn (run h s)
 unfolding run
@@ -97,7 +97,7 @@ no-reset-follows (control q) s w same =
     (λ h. cases (eqb (q .request) 0xFF) (λ k. absurd (clash (sym (rw (whole-is _ _ w, h, k) at same)))) (λ k. rw (h, k)))
     (λ h. rw h)
 no-reset-follows command s w same = refl
-no-reset-follows commandStep s w same = refl
+no-reset-follows (commandStep extended) s w same = refl
 
 earlier : (h : List Event) (s : Socket) → WholeIn s → Throughout SameCommand h s → Throughout Earlier h s
 earlier [] s w _ = tt

@@ -271,4 +271,4 @@ event-steps w p got put few s t unfinished (read dst) kept = read-steps w p got 
 event-steps w p got put few s t unfinished reset kept = absurd (clash kept)
 event-steps w p got put few s t unfinished (control q) kept = control-steps w p got put s t q kept
 event-steps w p got put few s t unfinished command kept = unchanged w p got put s t _ false
-event-steps w p got put few s t unfinished commandStep kept = unchanged w p got put s t _ false
+event-steps w p got put few s t unfinished (commandStep extended) kept = unchanged w p got put s t _ false

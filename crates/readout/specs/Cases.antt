@@ -1,5 +1,6 @@
 -- Document 01's cases of demand 3, and cases of ours: the stories, and the tables of what they show. proofs/Cases.antt has the statement
 -- that each case holds. Assumes nothing: these are definitions.
+use mathlib.Core.Bool.{true, false}
 use mathlib.Core.List.{List, [], _∷_, _++_}
 use Prim.Native.Nat.{ℕ, _+_}
 use lib.ListN.{length, replicate, take, drop}
@@ -96,7 +97,7 @@ cbwFromHost l = cbw 9 0 l
 unfoldable pub write8 : Story
 write8 = record {
   start = next (poll (sending 8)) (ended short8);
-  arrival = poll (taking 8 (take 8 (cbwFromHost 20))) ∷ poll (taking 8 (take 8 (drop 8 (cbwFromHost 20)))) ∷ commandStep ∷ poll (sending 8) ∷ poll (taking 8 (take 8 (drop 16 (cbwFromHost 20)))) ∷ [];
+  arrival = poll (taking 8 (take 8 (cbwFromHost 20))) ∷ poll (taking 8 (take 8 (drop 8 (cbwFromHost 20)))) ∷ commandStep true ∷ poll (sending 8) ∷ poll (taking 8 (take 8 (drop 16 (cbwFromHost 20)))) ∷ [];
   completing = takingTwo 8 (drop 24 (cbwFromHost 20)) (replicate 8 3);
   before = read (0 ∷ 0 ∷ []) ∷ status (record { status = 2; figure = 5 }) ∷ [];
   lastStatus = record { status = 1; figure = 8 };
@@ -110,7 +111,7 @@ full8 = record {
   start = newSocket 8 40;
   arrival = three (cbwToHost 20);
   completing = fourth (cbwToHost 20);
-  before = commandStep ∷ write (1 ∷ 2 ∷ 3 ∷ 4 ∷ 5 ∷ 6 ∷ 7 ∷ 8 ∷ []) ∷ poll (sending 8) ∷ write (9 ∷ 10 ∷ 11 ∷ 12 ∷ 13 ∷ 14 ∷ 15 ∷ 16 ∷ []) ∷ poll (busy 8) ∷ poll (sending 8) ∷ [];
+  before = commandStep false ∷ write (1 ∷ 2 ∷ 3 ∷ 4 ∷ 5 ∷ 6 ∷ 7 ∷ 8 ∷ []) ∷ poll (sending 8) ∷ write (9 ∷ 10 ∷ 11 ∷ 12 ∷ 13 ∷ 14 ∷ 15 ∷ 16 ∷ []) ∷ poll (busy 8) ∷ poll (sending 8) ∷ [];
   lastStatus = record { status = 0; figure = 20 };
   after = write (17 ∷ 18 ∷ 19 ∷ 20 ∷ []) ∷ poll (sending 8) ∷ poll (busy 8) ∷ poll (sending 8) ∷ [];
 }

@@ -13,7 +13,7 @@ use Rattle.calls.specs.declared.Request.{Request}
 use Rattle.calls.specs.Status.{Stating, setStatusCall}
 use Rattle.calls.specs.Data.{Moving, readDataCall, writeDataCall, writeDataAllCall}
 use Rattle.calls.specs.Bus.{Handling, resetCall, controlCall}
-use Rattle.calls.specs.Command.{commandCall, commandStepCall}
+use Rattle.calls.specs.Command.{commandCall, commandStepToldCall}
 
 -- The recorder's socket: `device` is the device record, and `io` is the IO buffer that is lent with it. `socket d io` is the socket made
 -- of the two.
@@ -37,9 +37,10 @@ pub data Event : Type 0 where
   -- The bus is reset; or a control request arrives.
   reset : Event
   control : Request → Event
-  -- The command is shown; or the command step is made.
+  -- The command is shown; or the command step is made, and told whether extended addressing is on. The plain step is the one told as
+  -- `plainIsExtended` has it.
   command : Event
-  commandStep : Event
+  commandStep : Bool → Event
 
 -- What an event leaves and shows: `socket` is the socket after it, `answer` is its answer, `taken` are the OUT packets that it took,
 -- `sent` are the bytes that it sent to the host, and `put` are the bytes that the firmware put in.
@@ -78,7 +79,8 @@ ofBus io o = record { socket = socket (o .device) io; answer = o .answer; taken 
 abbrev pub ofLook : Socket → Answering → Shows
 ofLook s a = record { socket = s; answer = a; taken = []; sent = []; put = [] }
 
--- What an event leaves and shows that happens at the socket `s`. `g`, `f`, `src`, `dst` and `q` are what the events are given.
+-- What an event leaves and shows that happens at the socket `s`. `g`, `f`, `src`, `dst`, `q` and `extended` are what the
+-- events are given.
 unfoldable pub shows : Event → Socket → Shows
 shows (poll g) s = ofPoll g (pollCall (s .device) (s .io) g)
 shows (status f) s = ofStatus (s .io) (setStatusCall (s .device) (s .io) f)
@@ -88,7 +90,7 @@ shows (read dst) s = ofRead (s .io) (readDataCall (s .device) (s .io) dst)
 shows reset s = ofBus (s .io) (resetCall (s .device) (s .io))
 shows (control q) s = ofBus (s .io) (controlCall (s .device) (s .io) q)
 shows command s = ofLook s (commandCall (s .device) (s .io) .answer)
-shows commandStep s = ofLook s (commandStepCall (s .device) (s .io) .answer)
+shows (commandStep extended) s = ofLook s (commandStepToldCall extended (s .device) (s .io) .answer)
 
 -- The socket that the event `e` leaves where it happens at the socket `s`.
 abbrev pub next : Event → Socket → Socket
@@ -147,7 +149,7 @@ isPoll (read dst) = false
 isPoll reset = false
 isPoll (control q) = false
 isPoll command = false
-isPoll commandStep = false
+isPoll (commandStep extended) = false
 
 -- This is 1 where the event `e` is a served poll at the socket `s`, and 0 otherwise.
 unfoldable pub served : Event → Socket → ℕ
@@ -171,7 +173,7 @@ isReset (read dst) = false
 isReset reset = true
 isReset (control q) = eqb (q .requesttype) 0xA1 && eqb (q .request) 0xFF
 isReset command = false
-isReset commandStep = false
+isReset (commandStep extended) = false
 
 -- Whether an event is a status, accepted or not.
 unfoldable pub isStatus : Event → Bool
@@ -183,7 +185,7 @@ isStatus (read dst) = false
 isStatus reset = false
 isStatus (control q) = false
 isStatus command = false
-isStatus commandStep = false
+isStatus (commandStep extended) = false
 
 -- Whether the event `e` is a status that the socket `s` accepts: its answer is 0.
 unfoldable pub accepts : Event → Socket → Bool

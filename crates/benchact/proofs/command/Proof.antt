@@ -5,4 +5,4 @@ use Rattle.benchact.proofs.command.Statement.{statement}
 use Rattle.benchact.proofs.command.Tie as tie
 
 pub command-spec : {M : Type 1} → statement M
-command-spec = tie.close (tie.spec (λ c. search needs) (λ c. search needs) (λ c. search needs) (λ c. search (ways, needs)))
+command-spec = tie.close (tie.spec (λ c. search needs) (λ c. search needs) (λ c. search needs) (λ c. search needs) (λ c. search (ways, needs)))

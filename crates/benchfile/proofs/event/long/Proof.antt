@@ -7,4 +7,4 @@ pub long-spec : {M : Type 1} → statement M
 long-spec =
     tie.close (tie.spec
     (λ c. search rules) (λ c. search rules) (λ c. search rules) (λ c. search rules) (λ c. search rules) (λ c. search rules)
-    (λ c. search rules) (λ c. search rules))
+    (λ c. search rules))

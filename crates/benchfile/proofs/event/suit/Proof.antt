@@ -9,4 +9,5 @@ suit-spec =
     tie.close (tie.spec
     (λ c. search needs) (λ c. search (rules, needs))
     (λ c. search needs) (λ c. search (rules, needs))
+    (λ c. search needs) (λ c. search (rules, needs))
     (λ c. search needs) (λ c. search (rules, needs)))
