@@ -2,11 +2,10 @@
 use mathlib.Core.Path.{_≡_, refl, sym, ap, _∙_}
 use mathlib.Core.Bool.{Bool, true, false, not, _&&_, _||_}
 use mathlib.Core.List.{List, [], _∷_}
-use Prim.Native.Nat.{ℕ, _≤_}
-use native.Mathlib.Omega.{arith}
+use Prim.Native.Nat.{ℕ}
 use lib.Dec.{eqb, leb}
 use lib.ListN.{length}
-use borrow.Author.Tests.{eqb-true, leb-true, ne-eqb}
+use borrow.Author.Tests.{eqb-true, ne-eqb}
 use Rattle.fields.proofs.Bools.{and-left, and-right, clash}
 use Rattle.scsi.specs.declared.ScsiCommand.{ScsiCommand}
 use Rattle.scsi.specs.declared.ScsiCommand.the-variants.{Unknown}
@@ -30,13 +29,13 @@ from-14 op n h = by (eqb op 0x88) (eqb op 0x8A) refl refl h
     by false true ea eb e = rw (eqb-true op 0x8A eb)
     by false false ea eb e = absurd (clash (sym e))
 
-listed-on : (op n : ℕ) → isOne op && leb 14 n ≡ true → isListed true op n ≡ true
+listed-on : (op n : ℕ) → isOne op ≡ true → leb 14 n ≡ true → isListed true op n ≡ true
 unfolding isListed opcodeCounts
-listed-on op n h = from-14 op n (and-left _ _ h) ∙ and-right (isOne op) _ h
+listed-on op n h long = from-14 op n h ∙ long
 
-listed-off : (op n : ℕ) → isOne op && leb 14 n ≡ true → isListed false op n ≡ false
+listed-off : (op n : ℕ) → isOne op ≡ true → isListed false op n ≡ false
 unfolding isListed opcodeCounts
-listed-off op n h = rw (and-left (isOne op) (leb 14 n) h)
+listed-off op n h = rw h
 
 listed-same : (op n : ℕ) → isOne op && leb 14 n ≡ false → isListed true op n ≡ isListed false op n
 unfolding isListed opcodeCounts
@@ -54,21 +53,24 @@ firstUnknown [] = false
 firstUnknown (c ∷ cs) = isUnknown c
 
 module _ (b : List ℕ) (h : isReadOrWrite16 b ≡ true) where
+  one : isOne (opcodeOf b) ≡ true
+  unfolding isReadOrWrite16
+  one = and-left _ _ h
+
   some : length b ≡ 0 → ⊥
   unfolding isReadOrWrite16
-  some e = let long : 14 ≤ length b = leb-true _ _ (and-right (isOne (opcodeOf b)) _ h) in omega (arith, long)
+  some e = clash (sym (and-right (isOne (opcodeOf b)) _ h) ∙ rw e)
 
   gives : (e : Bool) → decodeCall e b ≡ decoding 0 (decoded e b ∷ [])
   unfolding decodeCall
   gives e = rw (ne-eqb _ _ some)
 
   told-off : decodeCall false b ≡ decoding 0 (Unknown (opcodeOf b) ∷ [])
-  unfolding isReadOrWrite16
-  told-off = gives false ∙ ap (λ (c : ScsiCommand). decoding 0 (c ∷ [])) (unlisted-unknown false b (listed-off _ _ h))
+  told-off = gives false ∙ ap (λ (c : ScsiCommand). decoding 0 (c ∷ [])) (unlisted-unknown false b (listed-off _ _ one))
 
   told-on : firstUnknown (decodeCall true b .commands) ≡ false
   unfolding isReadOrWrite16
-  told-on = ap (λ (o : Decoding). firstUnknown (o .commands)) (gives true) ∙ listed-known true b (listed-on _ _ h)
+  told-on = ap (λ (o : Decoding). firstUnknown (o .commands)) (gives true) ∙ listed-known true b (listed-on (opcodeOf b) (length b) one (and-right (isOne (opcodeOf b)) _ h))
 
   differ : decodeCall true b ≡ decodeCall false b → ⊥
   differ e = clash (sym (ap (λ (o : Decoding). firstUnknown (o .commands)) (e ∙ told-off)) ∙ told-on)
