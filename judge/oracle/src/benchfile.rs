@@ -50,7 +50,10 @@ pub enum Event {
         bm_request_type: u8,
         request: u8,
     },
-    Command,
+    /// A step of one byte is told whether extended addressing is on; one without bytes is not told, and that means off.
+    Command {
+        told: Option<bool>,
+    },
 }
 
 impl Event {
@@ -64,7 +67,7 @@ impl Event {
             Event::ReadData { .. } => 5,
             Event::Reset => 6,
             Event::Control { .. } => 7,
-            Event::Command => 8,
+            Event::Command { .. } => 8,
         }
     }
 
@@ -84,12 +87,18 @@ impl Event {
             Event::Status { status, figure } => [&[*status][..], &figure.to_le_bytes()].concat(),
             Event::WriteData(source) | Event::TryWriteDataAll(source) => source.clone(),
             Event::ReadData { room } => room.to_le_bytes().to_vec(),
-            Event::Reset | Event::Command => Vec::new(),
+            Event::Reset => Vec::new(),
             Event::Control {
                 bm_request_type,
                 request,
             } => vec![*bm_request_type, *request],
+            Event::Command { told } => told.iter().map(|extended| u8::from(*extended)).collect(),
         }
+    }
+
+    /// Whether it is a command step with extended addressing on.
+    pub fn is_extended(&self) -> bool {
+        matches!(self, Event::Command { told: Some(true) })
     }
 }
 
@@ -222,7 +231,10 @@ fn event(kind: u8, payload: &[u8]) -> Result<Event, Refused> {
             bm_request_type: payload[0],
             request: payload[1],
         }),
-        (8, 0) => Ok(Event::Command),
+        (8, 0) => Ok(Event::Command { told: None }),
+        (8, 1) if payload[0] <= 1 => Ok(Event::Command {
+            told: Some(payload[0] == 1),
+        }),
         _ => Err(Refused),
     }
 }

@@ -29,6 +29,7 @@ pub fn all() -> Vec<Case> {
         sweeps(),
         lengths(),
         commands(),
+        tellings(),
         controls(),
         differences(),
         premises(),
@@ -599,26 +600,30 @@ fn chains() -> Vec<Named> {
     ]
 }
 
-/// In each state that a poll can end in: every call, every kind of control request and packets above
-/// P; then the class reset, and back again for the bus reset.
+/// From state 0 to another one.
+type Enter = fn(Script) -> Script;
+
+/// The states that a poll can end in, each with a P and a buffer, and the way there.
+const STATES: [(u8, u16, u32, Enter); 8] = [
+    (0, 8, 512, |device| device),
+    (1, 16, 32, |device| device.wrapper(bad_signature())),
+    (3, 16, 63, |device| {
+        device.wrapper(ready(1)).status(0, 0).poll()
+    }),
+    (4, 16, 64, |device| device.wrapper(reading(40))),
+    (5, 16, 512, |device| device.wrapper(ready(1))),
+    (6, 32, 32, |device| {
+        device.wrapper(reading(80)).status(1, 0).poll()
+    }),
+    (7, 32, 63, |device| device.wrapper(writing(40))),
+    (8, 8, 63, |device| {
+        device.wrapper(writing(40)).status(1, 0).poll()
+    }),
+];
+
+/// In each state: every call, every kind of control request and packets above P; then the class
+/// reset, and back again for the bus reset.
 fn sweeps() -> Vec<Named> {
-    type Enter = fn(Script) -> Script;
-    let states: [(u8, u16, u32, Enter); 8] = [
-        (0, 8, 512, |device| device),
-        (1, 16, 32, |device| device.wrapper(bad_signature())),
-        (3, 16, 63, |device| {
-            device.wrapper(ready(1)).status(0, 0).poll()
-        }),
-        (4, 16, 64, |device| device.wrapper(reading(40))),
-        (5, 16, 512, |device| device.wrapper(ready(1))),
-        (6, 32, 32, |device| {
-            device.wrapper(reading(80)).status(1, 0).poll()
-        }),
-        (7, 32, 63, |device| device.wrapper(writing(40))),
-        (8, 8, 63, |device| {
-            device.wrapper(writing(40)).status(1, 0).poll()
-        }),
-    ];
     let sweep = |(state, packet_size, buffer, enter): (u8, u16, u32, Enter)| {
         let long = || OutAnswer::Packet(vec![0x55; usize::from(packet_size) + 1]);
         let script = enter(create(packet_size, 3, buffer))
@@ -640,7 +645,7 @@ fn sweeps() -> Vec<Named> {
         let script = enter(script).status(2, 1).status(1, 2).command();
         (format!("state-{state}-every-call"), script)
     };
-    states.into_iter().map(sweep).collect()
+    STATES.into_iter().map(sweep).collect()
 }
 
 /// Each P with L of 0, 1, 12, 13, around P, 512 and large, to and from the host.
@@ -712,6 +717,60 @@ fn commands() -> Vec<Named> {
             "command-all-opcodes-at-their-shortest-lengths",
             shortest_lengths(),
         ),
+    ]
+}
+
+/// A step of each form.
+fn steps(script: Script) -> Script {
+    script.command().command_told(false).command_told(true)
+}
+
+/// Command steps that carry a byte, and beside them those that do not.
+fn tellings() -> Vec<Named> {
+    // 88 and 8A count with extended addressing, if they have 14 bytes.
+    let shown = |step: fn(Script) -> Script| {
+        let blocks = [0x88, 0x8A].into_iter().flat_map(|opcode| {
+            [16, 14, 13].map(|length| {
+                let mut block = counted(length);
+                block[0] = opcode;
+                block
+            })
+        });
+        blocks.fold(create(64, 0, 64), |script, block| {
+            step(script.wrapper(Wrapper::new(1, &block))).reset()
+        })
+    };
+    let everywhere = STATES.iter().fold(create(16, 0, 64), |script, state| {
+        let (.., enter) = state;
+        steps(enter(script)).reset()
+    });
+    vec![
+        named(
+            "step-of-one-byte-0-is-good",
+            create(64, 0, 64)
+                .wrapper(ready(1))
+                .status(0, 0)
+                .poll()
+                .command_told(false),
+        ),
+        named("step-of-88-and-8a-without-a-byte", shown(Script::command)),
+        named(
+            "step-of-88-and-8a-carries-0",
+            shown(|script| script.command_told(false)),
+        ),
+        named(
+            "step-of-88-and-8a-carries-1",
+            shown(|script| script.command_told(true)),
+        ),
+        named(
+            "step-of-every-form-where-nothing-is-offered",
+            steps(steps(create(64, 0, 64)).wrapper(ready(1)).status(0, 0)),
+        ),
+        named(
+            "step-of-every-form-gives-13-for-an-empty-block",
+            steps(create(64, 0, 64).wrapper(bad_signature())),
+        ),
+        named("step-of-every-form-in-every-state", everywhere),
     ]
 }
 

@@ -26,11 +26,13 @@ pub enum Section {
     Control,
     /// A bench file breaking one rule.
     Damage,
+    /// What a command step is told, by state and for blocks that depend on it.
+    Told,
     /// Opcode and block length of a command step.
     Pair,
 }
 
-const SECTIONS: [(Section, &str); 13] = [
+const SECTIONS: [(Section, &str); 14] = [
     (Section::Triple, "triples of state, event and answer"),
     (
         Section::Answer,
@@ -46,6 +48,7 @@ const SECTIONS: [(Section, &str); 13] = [
     (Section::Call, "amounts at calls"),
     (Section::Control, "control requests by state"),
     (Section::Damage, "damaged files by rule"),
+    (Section::Told, "command steps by what they are told"),
     (Section::Pair, "opcodes with block length"),
 ];
 

@@ -111,8 +111,14 @@ pub const RULES: &[(&str, Damage)] = &[
     ("control of 3 bytes", |events| {
         with_event(events, 7, &[0xA1, 0xFE, 0])
     }),
-    ("command step of 1 byte", |events| {
-        with_event(events, 8, &[0])
+    ("command step of 2 bytes", |events| {
+        with_event(events, 8, &[0; 2])
+    }),
+    ("command step that carries 2", |events| {
+        with_event(events, 8, &[2])
+    }),
+    ("command step that carries 255", |events| {
+        with_event(events, 8, &[255])
     }),
     ("bad event behind a refused creation", |_| {
         encode_raw(&[(0, vec![24, 0, 0, 64, 0, 0, 0]), (2, vec![3, 0, 0, 0, 0])])

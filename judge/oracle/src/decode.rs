@@ -5,6 +5,13 @@ use crate::panics;
 use usbd_storage::subclass::scsi::peek::peek_parse_cb;
 use usbd_storage::subclass::scsi::{PageControl, ScsiCommand};
 
+/// Whether the Rust was built with the feature `extended_addressing`: without it READ (16) is unknown.
+pub fn is_extended() -> bool {
+    let mut read = [0; 16];
+    read[0] = 0x88;
+    !matches!(peek_parse_cb(&read), ScsiCommand::Unknown { .. })
+}
+
 pub fn text(command: &ScsiCommand) -> String {
     match command {
         ScsiCommand::Unknown { cmd } => format!("Unknown opcode {cmd}"),

@@ -31,7 +31,7 @@ pub struct Outcome {
     pub count: usize,
     pub stalls: &'static str,
     pub bytes: Vec<u8>,
-    /// What a command step decoded.
+    /// What a command step decoded, in this build: the Rust is not told.
     pub command: Option<ScsiCommand>,
 }
 
@@ -128,7 +128,7 @@ impl<'a> Device<'a> {
                 bm_request_type,
                 request,
             } => self.control(*bm_request_type, *request),
-            Event::Command => self.command(),
+            Event::Command { .. } => self.command(),
         }
     }
 

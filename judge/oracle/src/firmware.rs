@@ -1,4 +1,4 @@
-//! The firmware of a random file: calls that fit the state and calls that do not.
+//! The firmware of a random file: calls that fit the state and calls that do not. What a command step is told is not chosen here.
 
 use crate::benchfile::Event;
 use crate::host::Host;
@@ -47,7 +47,7 @@ impl Firmware {
             return None;
         }
         if self.fresh && rng.percent(85) {
-            return Some(Event::Command);
+            return Some(Event::Command { told: None });
         }
         // The two endings last only a few polls.
         let stray_chance = match now.state {
@@ -123,7 +123,7 @@ pub fn stray(rng: &mut Rng, longest: usize) -> Event {
         4 => control(0x21, 0xFF),
         5 => control(0xA1, rng.byte()),
         6 => control(rng.byte(), rng.pick(&[0xFE, 0xFF, 0])),
-        7 | 8 => Event::Command,
+        7 | 8 => Event::Command { told: None },
         9 => status(rng, |rng| rng.next() as u32),
         10 => Event::WriteData(some_bytes(rng, longest)),
         11 => Event::TryWriteDataAll(some_bytes(rng, longest)),

@@ -28,6 +28,8 @@ const LONGEST_FILE: usize = benchfile::LONGEST - 16;
 
 pub struct Generator {
     rng: Rng,
+    /// What command steps are told comes from here, so that nothing else in a file depends on it.
+    tellings: Rng,
     files: usize,
     /// Command blocks that no step has shown yet, by opcode and length.
     unshown: Vec<(u8, usize)>,
@@ -46,6 +48,7 @@ impl Generator {
     pub fn new(seed: u64) -> Generator {
         Generator {
             rng: Rng::new(seed),
+            tellings: Rng::new(!seed),
             files: 0,
             unshown: (1..=16)
                 .flat_map(|length| (0..=255).map(move |opcode| (opcode, length)))
@@ -84,11 +87,9 @@ impl Generator {
             events.push(self.stray());
         }
         let file = damage(&events);
-        let text = lines::of_file(&file, Detail::Lines, &mut |_| {});
-        assert_eq!(text, "14\n", "LOUD: a damaged file was taken: {rule}");
         Made {
+            text: refused(rule, &file),
             file,
-            text,
             events: Vec::new(),
             reached: vec![reached::by_damage(rule)],
         }
@@ -168,7 +169,8 @@ impl Generator {
             };
             let now = device.figures();
             next = if made.events.len() < longest {
-                firmware.next_event(&now, &mut host, &mut self.rng, &self.unshown)
+                let event = firmware.next_event(&now, &mut host, &mut self.rng, &self.unshown);
+                event.map(|event| self.told(event))
             } else {
                 None
             };
@@ -179,14 +181,32 @@ impl Generator {
     }
 
     fn cross_out(&mut self, step: &Step) {
-        if let (Event::Command, [_, block @ ..]) = (step.event, &step.outcome.bytes[..]) {
+        if let (Event::Command { .. }, [_, block @ ..]) = (step.event, &step.outcome.bytes[..]) {
             self.unshown.retain(|pair| *pair != (block[0], block.len()));
         }
     }
 
     fn stray(&mut self) -> Event {
-        firmware::stray(&mut self.rng, 64)
+        let event = firmware::stray(&mut self.rng, 64);
+        self.told(event)
     }
+
+    /// Of three command steps one carries nothing, one 0 and one 1.
+    fn told(&mut self, event: Event) -> Event {
+        match event {
+            Event::Command { .. } => Event::Command {
+                told: self.tellings.pick(&[None, Some(false), Some(true)]),
+            },
+            event => event,
+        }
+    }
+}
+
+/// The lines of a file that breaks this rule.
+pub fn refused(rule: &str, file: &[u8]) -> String {
+    let text = lines::of_file(file, Detail::Lines, &mut |_| {});
+    assert_eq!(text, "14\n", "LOUD: a damaged file was taken: {rule}");
+    text
 }
 
 /// `judge/oracle/gen`: makes the files, writes them if a folder is given, and tells what they reached.

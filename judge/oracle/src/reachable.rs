@@ -11,6 +11,9 @@ use crate::damage;
 const RESTING: [u8; 8] = [0, 1, 3, 4, 5, 6, 7, 8];
 pub const PACKET_SIZES: [usize; 4] = [8, 16, 32, 64];
 pub const BUFFERS: [u32; 7] = [31, 32, 63, 64, 65, 512, 65_536];
+/// Blocks of these opcodes depend on what a step is told, if they have this length at least.
+pub const TOLD_OPCODES: [u8; 2] = [0x88, 0x8A];
+pub const TOLD_LENGTH: usize = 14;
 const LENGTHS: [&str; 8] = ["1", "12", "13", "P-1", "P", "P+1", "512", "large"];
 const KINDS: [&str; 9] = [
     "create",
@@ -121,6 +124,14 @@ pub fn all() -> Vec<Key> {
     for (rule, _) in damage::RULES {
         add(Section::Damage, rule.to_string());
     }
+    for step in ["command", "command told 0", "command told 1"] {
+        for state in RESTING {
+            add(Section::Told, format!("{step} in state {state}"));
+        }
+        for opcode in TOLD_OPCODES {
+            add(Section::Told, told(step, opcode));
+        }
+    }
     for opcode in 0..=255 {
         for length in 1..=16 {
             add(Section::Pair, pair(opcode, length));
@@ -170,6 +181,11 @@ pub fn triple(state: Option<u8>, kind: Option<u8>, answer: u8) -> String {
 
 pub fn creation(packet_size: usize, buffer: u32) -> String {
     format!("P {packet_size} buffer {buffer}")
+}
+
+/// `step` as `--show` names it.
+pub fn told(step: &str, opcode: u8) -> String {
+    format!("{step} of a whole {opcode:02x}")
 }
 
 pub fn pair(opcode: u8, length: usize) -> String {

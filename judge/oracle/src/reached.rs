@@ -4,7 +4,10 @@ use crate::benchfile::{Event, InAnswer, Offers, OutAnswer};
 use crate::chains;
 use crate::coverage::{Key, Section};
 use crate::lines::Step;
-use crate::reachable::{BUFFERS, PACKET_SIZES, creation, pair, triple};
+use crate::reachable::{
+    BUFFERS, PACKET_SIZES, TOLD_LENGTH, TOLD_OPCODES, creation, pair, told, triple,
+};
+use crate::show;
 use usbd_storage::transport::bbb::peek::Figures;
 
 /// What a refused file reaches.
@@ -98,9 +101,15 @@ fn keys_of_device_event(keys: &mut Vec<Key>, step: &Step, before: &Figures, afte
             };
             keys.push((Section::Control, format!("{request} in state {state}")));
         }
-        Event::Command => {
+        Event::Command { .. } => {
+            let mut name = String::new();
+            show::event(&mut name, step.event);
+            keys.push((Section::Told, format!("{name} in state {state}")));
             if let [_, block @ ..] = &step.outcome.bytes[..] {
                 keys.push((Section::Pair, pair(block[0], block.len())));
+                if TOLD_OPCODES.contains(&block[0]) && block.len() >= TOLD_LENGTH {
+                    keys.push((Section::Told, told(&name, block[0])));
+                }
             }
         }
         _ => {}

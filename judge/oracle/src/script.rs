@@ -105,7 +105,13 @@ impl Script {
     }
 
     pub fn command(self) -> Script {
-        self.event(Event::Command)
+        self.event(Event::Command { told: None })
+    }
+
+    pub fn command_told(self, extended: bool) -> Script {
+        self.event(Event::Command {
+            told: Some(extended),
+        })
     }
 
     pub fn filled_to(mut self, length: usize) -> Script {

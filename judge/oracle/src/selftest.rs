@@ -3,8 +3,10 @@
 
 use crate::benchfile::{InAnswer, Offers, OutAnswer};
 use crate::endpoints::ScriptedBus;
+use crate::generator;
 use crate::lines;
 use crate::panics;
+use crate::script::create;
 use usb_device::endpoint::{Endpoint, In, Out};
 use usbd_storage::subclass::scsi::peek::peek_parse_cb;
 
@@ -37,6 +39,11 @@ const FAULTS: &[(&str, Fault)] = &[
     }),
     ("a foreign panic", |_| {
         panics::catch(panics::SET_STATUS, || panic!("a foreign panic"));
+    }),
+    // A step that carries 1 breaks no rule.
+    ("a damaged file was taken", |_| {
+        let good = create(8, 0, 31).command_told(true);
+        generator::refused("a step that carries 1", &good.file());
     }),
     // A panic that is an answer of another call, but not of this one.
     ("cb.is_empty()", |_| {

@@ -10,6 +10,9 @@ use usbd_storage::transport::bbb::peek::Figures;
 /// A longer buffer is shown only up to its write mark.
 const SHOWN_WHOLE: usize = 512;
 
+/// In place of a command, where the step is told another thing than what this build does.
+const OTHER_BUILD: &str = "other-build";
+
 pub fn step(text: &mut String, step: &Step) {
     text.push_str("  event ");
     event(text, step.event);
@@ -17,7 +20,12 @@ pub fn step(text: &mut String, step: &Step) {
         write!(text, "\n  carried {number}").expect("a string");
     }
     if let Some(command) = &step.outcome.command {
-        write!(text, "\n  command {}", decode::text(command)).expect("a string");
+        let words = if step.event.is_extended() == decode::is_extended() {
+            decode::text(command)
+        } else {
+            OTHER_BUILD.to_string()
+        };
+        write!(text, "\n  command {words}").expect("a string");
     }
     match &step.after {
         Some(figures) => record(text, figures, step.io),
@@ -67,7 +75,8 @@ pub fn event(text: &mut String, event: &Event) {
             bm_request_type,
             request,
         } => write!(text, "control {bm_request_type:02x} {request:02x}"),
-        Event::Command => write!(text, "command"),
+        Event::Command { told: None } => write!(text, "command"),
+        Event::Command { told: Some(told) } => write!(text, "command told {}", u8::from(*told)),
     }
     .expect("a string");
 }

@@ -1,6 +1,6 @@
 //! `judge/oracle/vectors`: all of judge/vectors/ except its README, the same bytes each time.
 
-use crate::benchfile;
+use crate::benchfile::{self, Event};
 use crate::cases;
 use crate::coverage::{Coverage, Key, Section};
 use crate::generator::{DEFAULT_COUNT, Generator, Made};
@@ -31,7 +31,12 @@ pub fn write(folder: &str) -> io::Result<()> {
     );
     vectors.extend(picked(&mut coverage));
     report += &format!("picked: {} files\n", vectors.len() - hand_made);
-    for section in [Section::Triple, Section::Chain, Section::ChainAnswer] {
+    for section in [
+        Section::Triple,
+        Section::Chain,
+        Section::ChainAnswer,
+        Section::Told,
+    ] {
         let (reached, all) = coverage.figures(section);
         report += &format!("{section:?}: {reached} of {all}\n");
     }
@@ -71,11 +76,12 @@ fn by_hand(coverage: &mut Coverage) -> Vec<Vector> {
 }
 
 /// Random files for what the files made by hand miss: always the file that reaches most of it, cut
-/// after the last event that helps. Two things are left out: the pairs of P and buffer, which need a
-/// file each, and the opcodes with each block length, which are thousands of events.
+/// after the last event that helps. Three things are left out: the pairs of P and buffer, which need a
+/// file each, the opcodes with each block length, which are thousands of events, and what steps are
+/// told, for no line shows it. So the steps of these files are not told.
 fn picked(coverage: &mut Coverage) -> Vec<Vector> {
     let mut generator = Generator::new(SEED);
-    let made = (0..DEFAULT_COUNT).map(|_| generator.next_file());
+    let made = (0..DEFAULT_COUNT).map(|_| untold(generator.next_file()));
     let candidates: Vec<Made> = made
         .filter(|made| !made.events.is_empty() && made.file.len() <= LONGEST_PICKED)
         .collect();
@@ -112,9 +118,23 @@ fn picked(coverage: &mut Coverage) -> Vec<Vector> {
     }
 }
 
+/// The same file with steps that carry nothing.
+fn untold(made: Made) -> Made {
+    let events = made.events.into_iter().map(|event| match event {
+        Event::Command { .. } => Event::Command { told: None },
+        event => event,
+    });
+    let events: Vec<Event> = events.collect();
+    Made {
+        file: benchfile::encode(&events),
+        events,
+        ..made
+    }
+}
+
 /// The keys that are wanted and not yet reached, each once.
 fn missed<'a>(coverage: &Coverage, keys: impl Iterator<Item = &'a Key>) -> BTreeSet<Key> {
-    let wanted = |section| !matches!(section, Section::Pair | Section::Creation);
+    let wanted = |section| !matches!(section, Section::Pair | Section::Creation | Section::Told);
     keys.filter(|key| wanted(key.0) && coverage.misses(key))
         .cloned()
         .collect()
