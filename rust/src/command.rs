@@ -150,7 +150,7 @@ fn fit<T: TryFrom<u64>>(number: u64) -> T {
     }
 }
 
-/// Decodes a command block. READ (16) and WRITE (16) are unknown here, as they are in usbd-storage without extended addressing.
+/// Decodes a command block. READ (16) and WRITE (16) count: this is [`decode_told`] with `true`.
 ///
 /// ```
 /// use souklavanh::{EmptyBlock, ScsiCommand, decode};
@@ -158,6 +158,8 @@ fn fit<T: TryFrom<u64>>(number: u64) -> T {
 /// let read = [0x28, 0, 0, 0, 1, 0, 0, 0, 8];
 /// assert_eq!(decode(&read), Ok(ScsiCommand::Read { lba: 256, len: 8 }));
 /// assert_eq!(decode(&read[..8]), Ok(ScsiCommand::Unknown { cmd: 0x28 }));
+/// let far = [0x88, 0, 0, 0, 0, 1, 0, 0, 0, 0, 0, 0, 0, 8];
+/// assert_eq!(decode(&far), Ok(ScsiCommand::Read { lba: 1 << 32, len: 8 }));
 /// assert_eq!(decode(&[]), Err(EmptyBlock));
 /// ```
 pub fn decode(block: &[u8]) -> Result<ScsiCommand, EmptyBlock> {
@@ -165,7 +167,8 @@ pub fn decode(block: &[u8]) -> Result<ScsiCommand, EmptyBlock> {
     decoded(ffi::decode(block, &mut numbers), numbers)
 }
 
-/// The same, but you say whether extended addressing is on.
+/// The same, but you say whether extended addressing is on. With `false` READ (16) and WRITE (16) are unknown, as they are in
+/// the default build of usbd-storage.
 ///
 /// ```
 /// use souklavanh::{ScsiCommand, decode_told};

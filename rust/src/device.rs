@@ -218,15 +218,42 @@ impl<'a> Device<'a> {
         Ok((word.flag() != 0).then(|| Command::new(word.carried(), bytes, word.count() as u8)))
     }
 
-    /// The decoded command, as long as it has no status.
+    /// The decoded command, as long as it has no status. READ (16) and WRITE (16) count: this is
+    /// [`Device::command_step_told`] with `true`.
     pub fn command_step(&self) -> Result<Option<Offer>, Error> {
         let mut numbers = [0; ffi::COMMAND_NUMBERS];
         let word = ffi::command_step(&self.record, self.io, &mut numbers);
-        answered(word)?;
-        Ok((word.flag() != 0).then(|| Offer {
-            lun: word.carried(),
-            command: ScsiCommand::from_numbers(numbers),
-        }))
+        offered(word, numbers)
+    }
+
+    /// The same, but you say whether extended addressing is on. With `false` READ (16) and WRITE (16) are unknown, as they are
+    /// in the default build of usbd-storage.
+    ///
+    /// ```
+    /// use souklavanh::{Device, Endpoints, ScsiCommand};
+    ///
+    /// let (mut buffer, mut packet) = ([0; 512], [0; 64]);
+    /// let mut device = Device::new(64, 0, &mut buffer).unwrap();
+    ///
+    /// // The host reads eight blocks from beyond 2 TiB: READ (16), 4,096 bytes to the host.
+    /// let mut wrapper = [0; 31];
+    /// wrapper[..4].copy_from_slice(b"USBC");
+    /// wrapper[9] = 16;
+    /// wrapper[12] = 0x80;
+    /// wrapper[14..].copy_from_slice(&[16, 0x88, 0, 0, 0, 0, 1, 0, 0, 0, 0, 0, 0, 0, 8, 0, 0]);
+    /// assert_eq!(device.poll(Endpoints::offering(&wrapper), &mut packet).taken, 1);
+    ///
+    /// let read = ScsiCommand::Read { lba: 1 << 32, len: 8 };
+    /// assert_eq!(device.command_step().unwrap().unwrap().command, read);
+    /// assert_eq!(device.command_step_told(true).unwrap().unwrap().command, read);
+    /// let unknown = ScsiCommand::Unknown { cmd: 0x88 };
+    /// assert_eq!(device.command_step_told(false).unwrap().unwrap().command, unknown);
+    /// ```
+    pub fn command_step_told(&self, extended: bool) -> Result<Option<Offer>, Error> {
+        let mut numbers = [0; ffi::COMMAND_NUMBERS];
+        let extended = u32::from(extended);
+        let word = ffi::command_step_told(&self.record, self.io, extended, &mut numbers);
+        offered(word, numbers)
     }
 
     fn number_at(&self, at: usize) -> u32 {
@@ -251,6 +278,15 @@ fn new_record(
 /// The answer of a call that no endpoint takes part in.
 fn answered(word: ffi::Word) -> Result<(), Error> {
     Error::from_number(word.answer().into(), 0)
+}
+
+/// What a command step offers.
+fn offered(word: ffi::Word, numbers: [u64; ffi::COMMAND_NUMBERS]) -> Result<Option<Offer>, Error> {
+    answered(word)?;
+    Ok((word.flag() != 0).then(|| Offer {
+        lun: word.carried(),
+        command: ScsiCommand::from_numbers(numbers),
+    }))
 }
 
 fn counted(word: ffi::Word) -> Result<usize, Error> {

@@ -137,6 +137,19 @@ mod archive {
             command: *mut u64,
             command_len: usize,
         ) -> u64;
+        #[cfg_attr(
+            target_pointer_width = "32",
+            link_name = "souk_command_step_told_size32"
+        )]
+        pub fn souk_command_step_told(
+            record: *const u8,
+            record_len: usize,
+            io: *const u8,
+            io_len: usize,
+            extended: u32,
+            command: *mut u64,
+            command_len: usize,
+        ) -> u64;
         #[cfg_attr(target_pointer_width = "32", link_name = "souk_decode_size32")]
         pub fn souk_decode(
             block: *const u8,
@@ -313,6 +326,22 @@ pub fn command_step(record: &[u8], io: &[u8], command: &mut [u64]) -> Word {
             record.len(),
             io.as_ptr(),
             io.len(),
+            command.as_mut_ptr(),
+            command.len(),
+        )
+    })
+}
+
+#[inline]
+pub fn command_step_told(record: &[u8], io: &[u8], extended: u32, command: &mut [u64]) -> Word {
+    // SAFETY: as above.
+    Word(unsafe {
+        archive::souk_command_step_told(
+            record.as_ptr(),
+            record.len(),
+            io.as_ptr(),
+            io.len(),
+            extended,
             command.as_mut_ptr(),
             command.len(),
         )

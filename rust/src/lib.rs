@@ -30,6 +30,12 @@
 //! assert_eq!(&packet[..poll.sent], b"USBS\x01\0\0\0\0\0\0\0\0");
 //! ```
 //!
+//! # Large cards
+//!
+//! A host that addresses more than 2 TiB, and some that do not, send READ (16) and WRITE (16). [`Device::command_step`] and
+//! [`decode`] count both. The crate usbd-storage counts them only with its feature `extended_addressing`; who wants what its
+//! default build does calls [`Device::command_step_told`] and [`decode_told`] with `false`.
+//!
 //! # A bus reset
 //!
 //! After a bus reset, or if the plug was pulled, the firmware starts afresh, in this order:

@@ -1,10 +1,10 @@
-//! Calls that no bench file can make and that need no device: creations, decoders and verdicts by the raw calls, with room of a
-//! wrong length. `bench/probes.rs` has the refusals of a device.
+//! Calls that no bench file can make: creations, decoders and verdicts by the raw calls, with room of a wrong length, and a
+//! command step that is told another number than 0 or 1. `bench/probes.rs` has the other refusals of a device.
 
 use souklavanh::ffi::{self, COMMAND_NUMBERS};
 use souklavanh::{
-    CreateError, Device, EmptyBlock, EndpointError, Error, RECORD_LENGTH, State, Verdict, decode,
-    decode_told, verdict,
+    CreateError, Device, EmptyBlock, EndpointError, Endpoints, Error, RECORD_LENGTH, State,
+    Verdict, decode, decode_told, verdict,
 };
 
 const FILL: u8 = 0x5A;
@@ -97,6 +97,36 @@ fn decoders_refuse_an_empty_block_and_wrong_room() {
     assert_eq!(numbers, [u64::MAX; COMMAND_NUMBERS + 1]);
     assert_eq!(decode(&[]), Err(EmptyBlock));
     assert_eq!(decode_told(&[], true), Err(EmptyBlock));
+}
+
+#[test]
+fn a_command_step_is_told_0_or_1() {
+    let (mut io, mut packet) = ([0; 64], [0; 64]);
+    let mut wrapper = [0; 31];
+    wrapper[..4].copy_from_slice(b"USBC");
+    wrapper[14..].copy_from_slice(&[16, 0x88, 0, 1, 2, 3, 4, 5, 6, 7, 8, 0, 0, 0, 9, 0, 0]);
+    let mut device = Device::new(64, 0, &mut io).unwrap();
+    let poll = device.poll(Endpoints::offering(&wrapper), &mut packet);
+    assert_eq!(poll.taken, 1);
+
+    let told = |extended| {
+        let mut numbers = [u64::MAX; COMMAND_NUMBERS];
+        let word = ffi::command_step_told(device.record(), device.io(), extended, &mut numbers);
+        (word.0, numbers)
+    };
+    let before = *device.record();
+    for extended in [2, 3, 256, 1 << 31, u32::MAX] {
+        assert_eq!(told(extended), (10, [u64::MAX; COMMAND_NUMBERS]));
+    }
+    // The flag that a command is offered, for LUN 0.
+    let offered = 1 << 24;
+    let read = [8, 0x0102_0304_0506_0708, 9, 0, 0, 0];
+    assert_eq!(told(0), (offered, [0, 0x88, 0, 0, 0, 0]));
+    assert_eq!(told(1), (offered, read));
+    let mut numbers = [u64::MAX; COMMAND_NUMBERS];
+    let word = ffi::command_step(device.record(), device.io(), &mut numbers);
+    assert_eq!((word.0, numbers), (offered, read));
+    assert_eq!(device.record(), &before);
 }
 
 #[test]

@@ -4,7 +4,7 @@ use super::layout::{self, number};
 use super::lent::Lent;
 use super::outcome::Outcome;
 use super::wrapped::letters;
-use super::{Checked, require};
+use super::{Checked, require, tellings};
 use crate::benchfile::{Event, InAnswer, Offers, OutAnswer};
 use souklavanh::Stalls;
 use souklavanh::ffi::{self, COMMAND_NUMBERS, Turn, Word};
@@ -21,6 +21,13 @@ pub struct Guarded {
     fill: u8,
     /// Calls so far, for packet buffers that are longer than needed.
     calls: usize,
+}
+
+/// What a command step showed, and the lent numbers after it.
+#[derive(PartialEq)]
+struct Stepped {
+    outcome: Outcome,
+    numbers: Vec<u64>,
 }
 
 /// The creation's answer, and the device if the answer is 0.
@@ -86,7 +93,7 @@ impl Guarded {
                 bm_request_type,
                 request,
             } => self.control(*bm_request_type, *request),
-            Event::Command => self.command_step(),
+            Event::Command { .. } => self.command_step(event.is_extended()),
         }?;
         require(
             matches!(event, Event::Status { .. })
@@ -219,11 +226,34 @@ impl Guarded {
         })
     }
 
-    /// Offer and decode. What is offered is what the record has: the LUN, and as many bytes of the block as it says.
-    fn command_step(&mut self) -> Checked<Outcome> {
+    /// Offer and decode, as the event tells it; the other two calls must say the same, but for the command.
+    fn command_step(&mut self, extended: bool) -> Checked<Outcome> {
+        let off =
+            self.step_by(|record, io, numbers| ffi::command_step_told(record, io, 0, numbers))?;
+        let on =
+            self.step_by(|record, io, numbers| ffi::command_step_told(record, io, 1, numbers))?;
+        require(
+            self.step_by(ffi::command_step)? == on,
+            "the plain command step is another than the one with extended addressing on",
+        )?;
+        require(
+            off.outcome == on.outcome,
+            "more than the command depends on extended addressing",
+        )?;
+        let depends =
+            !off.outcome.bytes.is_empty() && tellings::depends(layout::block(self.record.all()));
+        require(
+            (off.numbers != on.numbers) == depends,
+            "extended addressing counts for another block than 88 and 8A with 14 bytes",
+        )?;
+        Ok(if extended { on.outcome } else { off.outcome })
+    }
+
+    /// One of the calls. What is offered is what the record has: the LUN, and as many bytes of the block as it says.
+    fn step_by(&mut self, call: fn(&[u8], &[u8], &mut [u64]) -> Word) -> Checked<Stepped> {
         let value = u64::from_ne_bytes([self.fill; 8]);
         let mut numbers = Lent::filled(COMMAND_NUMBERS, value);
-        let word = ffi::command_step(self.record.all(), self.io.all(), numbers.all_mut());
+        let word = call(self.record.all(), self.io.all(), numbers.all_mut());
         let offered = word.flag() == 1;
         require(
             numbers.untouched_from(if offered { COMMAND_NUMBERS } else { 0 }),
@@ -246,7 +276,10 @@ impl Guarded {
             outcome.bytes.push(word.carried());
             outcome.bytes.extend(layout::block(record));
         }
-        Ok(outcome)
+        Ok(Stepped {
+            outcome,
+            numbers: numbers.all().to_vec(),
+        })
     }
 
     /// A command is shown in every state but 0. The bench file has no event for this, so it is tested after every

@@ -8,7 +8,9 @@
 //!   - packet size, IO buffer length and max LUN in the record stay those of the creation, residue and status byte those of
 //!     the last status;
 //!   - a refusal with 3, 10, 11 or 12 leaves record, IO buffer, packet buffer and destination as they were;
-//!   - a part that a result does not give is 0.
+//!   - a part that a result does not give is 0;
+//!   - the plain command step and decoder say what those that are told say with extended addressing on; and what is told counts
+//!     for blocks of 88 and 8A with 14 bytes and for no others.
 //!
 //! Every few hundred events [`probes`] makes, on copies, calls that no bench file can make.
 //!
@@ -22,6 +24,7 @@ pub mod play;
 pub mod probes;
 pub mod replica;
 pub mod rules;
+pub mod tellings;
 pub mod wrapped;
 
 /// What is wrong, in words; the caller that plays the file adds where.

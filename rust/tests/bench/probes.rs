@@ -1,6 +1,7 @@
 //! Calls that have to be refused and that no bench file can make, on copies of a device: every call with a record that
 //! breaks one of document 01's rules, for each rule; a poll with a packet buffer that is too short or a packet that is too
-//! long; a status byte above 2; and room that does not have the length of a command.
+//! long; a status byte above 2; room that does not have the length of a command; and a command step that is told another number
+//! than 0 or 1.
 
 use super::guarded::Guarded;
 use super::layout;
@@ -26,6 +27,12 @@ const CALLS: &[Call] = &[
     ("command", |replica| replica.command(layout::BLOCK_BYTES)),
     ("command step", |replica| {
         replica.command_step(COMMAND_NUMBERS)
+    }),
+    ("command step told 0", |replica| {
+        replica.command_step_told(0, COMMAND_NUMBERS)
+    }),
+    ("command step told 1", |replica| {
+        replica.command_step_told(1, COMMAND_NUMBERS)
     }),
     ("poll with no packet buffer", |replica| {
         replica.poll(0, 8, 8)
@@ -57,6 +64,21 @@ const ON_WHOLE: &[Refused] = &[
     ("a block of 17", 10, |replica, _| replica.command(17)),
     ("five numbers", 10, |replica, _| replica.command_step(5)),
     ("seven numbers", 10, |replica, _| replica.command_step(7)),
+    ("five numbers, told", 10, |replica, _| {
+        replica.command_step_told(0, 5)
+    }),
+    ("seven numbers, told", 10, |replica, _| {
+        replica.command_step_told(1, 7)
+    }),
+    ("a step told 2", 10, |replica, _| {
+        replica.command_step_told(2, COMMAND_NUMBERS)
+    }),
+    ("a step told 256", 10, |replica, _| {
+        replica.command_step_told(256, COMMAND_NUMBERS)
+    }),
+    ("a step told 2^32 - 1", 10, |replica, _| {
+        replica.command_step_told(u32::MAX, COMMAND_NUMBERS)
+    }),
 ];
 
 /// Makes all of them, and returns how many calls were refused, as they must be.
@@ -112,7 +134,9 @@ fn of_broken_wrapped(replica: &mut Replica, rule: &Rule) -> Checked {
         && device.renew().map(|_| ()) == broken
         && device.control(0xA1, 0xFE).map(|_| ()) == broken
         && device.command().map(|_| ()) == broken
-        && device.command_step().map(|_| ()) == broken;
+        && device.command_step().map(|_| ()) == broken
+        && device.command_step_told(false).map(|_| ()) == broken
+        && device.command_step_told(true).map(|_| ()) == broken;
     require(
         all_refused && device.record() == &record,
         &format!("{}: the safe wrapper does not refuse it", rule.name),

@@ -104,4 +104,10 @@ impl Replica {
         let record = &self.record[..self.record_lent];
         ffi::command_step(record, &self.io[..self.io_lent], &mut self.numbers[..room]).0
     }
+
+    pub fn command_step_told(&mut self, extended: u32, room: usize) -> u64 {
+        let record = &self.record[..self.record_lent];
+        let numbers = &mut self.numbers[..room];
+        ffi::command_step_told(record, &self.io[..self.io_lent], extended, numbers).0
+    }
 }

@@ -1,12 +1,9 @@
 //! Events as calls of the safe wrapper.
 
 use super::outcome::Outcome;
-use super::{Checked, require};
+use super::{Checked, require, tellings};
 use crate::benchfile::{Event, InAnswer, Offers, OutAnswer};
-use souklavanh::{
-    CommandStatus, Device, EndpointError, Endpoints, Error, In, Out, Poll, Stalls, decode,
-    decode_told,
-};
+use souklavanh::{CommandStatus, Device, EndpointError, Endpoints, Error, In, Out, Poll, Stalls};
 
 /// What packet buffers and destinations hold before a call.
 const FILL: u8 = 0xA5;
@@ -31,7 +28,7 @@ pub fn apply(device: &mut Device, packet_size: usize, event: &Event) -> Checked<
             bm_request_type,
             request,
         } => control(device, *bm_request_type, *request),
-        Event::Command => command(device)?,
+        Event::Command { .. } => command(device, event.is_extended())?,
     })
 }
 
@@ -129,9 +126,27 @@ fn control(device: &mut Device, bm_request_type: u8, request: u8) -> Outcome {
     })
 }
 
-/// Offer and decode. The decoders, called alone, have to say the same about the block that is shown.
-fn command(device: &Device) -> Checked<Outcome> {
-    let offer = match device.command_step() {
+/// Offer and decode. The plain step has extended addressing on, and only the command depends on what a step is told.
+fn command(device: &Device, extended: bool) -> Checked<Outcome> {
+    require(
+        device.command_step() == device.command_step_told(true),
+        "the plain command step does not say what the told one says with extended addressing on",
+    )?;
+    let (outcome, other) = (step(device, extended)?, step(device, !extended)?);
+    let same_but_command = Outcome {
+        command: outcome.command,
+        ..other
+    };
+    require(
+        outcome == same_but_command,
+        "more than the command depends on extended addressing",
+    )?;
+    Ok(outcome)
+}
+
+/// The decoders, called alone, have to say the same about the block that is shown.
+fn step(device: &Device, extended: bool) -> Checked<Outcome> {
+    let offer = match device.command_step_told(extended) {
         Err(error) => return Ok(failed(error)),
         Ok(None) => return Ok(Outcome::answered(0)),
         Ok(Some(offer)) => offer,
@@ -144,8 +159,7 @@ fn command(device: &Device) -> Checked<Outcome> {
         "another LUN is offered than is shown",
     )?;
     require(
-        decode(shown.block()) == Ok(offer.command)
-            && decode_told(shown.block(), false) == Ok(offer.command),
+        tellings::decoded(shown.block(), extended)? == Ok(offer.command),
         "the decoder says something else of the block than the command step",
     )?;
     let mut bytes = vec![shown.lun];
