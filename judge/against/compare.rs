@@ -26,16 +26,28 @@ pub fn file(events: &[Event], tally: &mut Tally) -> Checked<String> {
     Ok(text)
 }
 
+/// The last line of a run without a difference.
+pub fn summary(tally: &Tally) -> String {
+    let build = if decode::is_extended() {
+        "with"
+    } else {
+        "without"
+    };
+    format!(
+        "{} files, {} events, 0 different from the Rust {build} extended addressing; {} calls refused as they have to be",
+        tally.files, tally.events, tally.probes
+    )
+}
+
 fn compare(ours: &Seen, rust: &Step) -> Checked {
     same("answer", &ours.outcome.answer, &rust.outcome.answer)?;
     same("carried", &ours.outcome.carried, &rust.outcome.carried)?;
     same("count", &ours.outcome.count, &rust.outcome.count)?;
     same("stalls", &ours.outcome.stalls, &rust.outcome.stalls)?;
     same("bytes", &ours.outcome.bytes, &rust.outcome.bytes)?;
-    let ours_command = ours.outcome.command.as_ref().map(words::of);
     same(
         "command",
-        &ours_command,
+        &decoded(ours)?,
         &rust.outcome.command.as_ref().map(decode::text),
     )?;
     match (ours.device, &rust.after) {
@@ -57,6 +69,22 @@ fn same<T: PartialEq + std::fmt::Debug>(what: &str, ours: &T, rust: &T) -> Check
         return Ok(());
     }
     Err(format!("{what}: ours {ours:?}, the Rust's {rust:?}"))
+}
+
+/// What a command step decodes, told as the Rust was built. What the file tells it was decoded too; if that is the same, the command
+/// has to be the same.
+fn decoded(ours: &Seen) -> Checked<Option<String>> {
+    let (Event::Command { .. }, Some(device)) = (ours.event, ours.device) else {
+        return Ok(None);
+    };
+    let extended = decode::is_extended();
+    let offer = device.command_step_told(extended).ok().flatten();
+    let command = offer.map(|offer| offer.command);
+    require(
+        ours.event.is_extended() != extended || ours.outcome.command == command,
+        "the same step decodes another command",
+    )?;
+    Ok(command.as_ref().map(words::of))
 }
 
 /// A command is shown in every state but 0, and is the one of the Rust's wrapper.

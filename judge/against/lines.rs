@@ -1,8 +1,8 @@
 //! Decoder and verdict: an answer for each line of standard input.
 
-use crate::bench::Checked;
+use crate::bench::{Checked, tellings};
 use crate::words;
-use souklavanh::{decode, decode_told, verdict};
+use souklavanh::verdict;
 use std::io::{BufRead, Write};
 
 pub fn answer(answer: impl Fn(&str) -> Checked<String>) -> Checked {
@@ -14,13 +14,11 @@ pub fn answer(answer: impl Fn(&str) -> Checked<String>) -> Checked {
     output.flush().map_err(|error| error.to_string())
 }
 
-/// The decoder that is told has to say the same as the plain one if extended addressing is off.
-pub fn decoded(line: &str, extended: bool) -> Checked<String> {
+/// Told as the Rust was built.
+pub fn decoded(line: &str) -> Checked<String> {
     let block = oracle::lines::from_hex(line);
-    let told = decode_told(&block, extended);
-    if !extended && told != decode(&block) {
-        return Err(format!("{line}: the two decoders do not agree"));
-    }
+    let told = tellings::decoded(&block, oracle::decode::is_extended())
+        .map_err(|what| format!("{line}: {what}"))?;
     Ok(told.map_or("13".to_string(), |command| words::of(&command)))
 }
 

@@ -4,8 +4,11 @@
 //!     vectors FOLDER          all good files of the folder; their lines are compared with those kept next to them
 //!     random EVENTS [SEED]    files of the oracle's generator, 1,000 for each seed from SEED on (1 if none is given),
 //!                             until at least EVENTS events are compared
-//!     decode [--extended]     a decoded command for each line of hex digits on standard input, as `judge/oracle/run --decode`
+//!     decode                  a decoded command for each line of hex digits on standard input, as `judge/oracle/run --decode`
 //!     verdict                 the verdict's number for each line `max-LUN HEX`
+//!
+//! The Rust decodes as it was built, and our calls are told to do the same. A command step is also made as the file tells it; if the
+//! Rust was built the other way, the command that it decodes then is compared with nothing of the Rust.
 //!
 //! A difference ends it with a message and status 1.
 
@@ -28,8 +31,7 @@ fn main() -> ExitCode {
         ["vectors", folder] => vectors::compare_all(folder),
         ["random", events] => random::compare(events, "1"),
         ["random", events, seed] => random::compare(events, seed),
-        ["decode"] => lines::answer(|line| lines::decoded(line, false)),
-        ["decode", "--extended"] => lines::answer(|line| lines::decoded(line, true)),
+        ["decode"] => lines::answer(lines::decoded),
         ["verdict"] => lines::answer(lines::judged),
         _ => Err("unknown arguments; judge/against/run names them".to_string()),
     };

@@ -18,10 +18,7 @@ pub fn compare(events: &str, seed: &str) -> Checked {
         println!("seed {seed}: {} events so far", tally.events);
         seed += 1;
     }
-    println!(
-        "{} files, {} events, 0 different; {} calls refused as they have to be",
-        tally.files, tally.events, tally.probes
-    );
+    println!("{}", compare::summary(&tally));
     Ok(())
 }
 

@@ -13,10 +13,7 @@ pub fn compare_all(folder: &str) -> Checked {
     if tally.files == 0 {
         return Err(format!("{folder} has no good file"));
     }
-    println!(
-        "{} files, {} events, 0 different; {} calls refused as they have to be",
-        tally.files, tally.events, tally.probes
-    );
+    println!("{}", compare::summary(&tally));
     Ok(())
 }
 

@@ -93,7 +93,7 @@ impl Guarded {
                 bm_request_type,
                 request,
             } => self.control(*bm_request_type, *request),
-            Event::Command { .. } => self.command_step(event.is_extended()),
+            Event::Command { .. } => self.command_step(),
         }?;
         require(
             matches!(event, Event::Status { .. })
@@ -226,8 +226,9 @@ impl Guarded {
         })
     }
 
-    /// Offer and decode, as the event tells it; the other two calls must say the same, but for the command.
-    fn command_step(&mut self, extended: bool) -> Checked<Outcome> {
+    /// Offer and decode, told off and on and by the plain call. Only the command may depend on it, and that is no part of this
+    /// outcome.
+    fn command_step(&mut self) -> Checked<Outcome> {
         let off =
             self.step_by(|record, io, numbers| ffi::command_step_told(record, io, 0, numbers))?;
         let on =
@@ -246,7 +247,7 @@ impl Guarded {
             (off.numbers != on.numbers) == depends,
             "extended addressing counts for another block than 88 and 8A with 14 bytes",
         )?;
-        Ok(if extended { on.outcome } else { off.outcome })
+        Ok(on.outcome)
     }
 
     /// One of the calls. What is offered is what the record has: the LUN, and as many bytes of the block as it says.
