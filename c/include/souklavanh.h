@@ -71,7 +71,8 @@
  *
  *    call                             makes sense in states
  *    souk_poll                        all
- *    souk_command_step, souk_command  2, 4, 5, 7 (in 1 they show an old command or an empty one: do not act on it)
+ *    souk_command_step, .._told       2, 4, 5, 7 (in 1 they show an old command or an empty one: do not act on it)
+ *    souk_command                     the same
  *    souk_write_data, ..._all         4
  *    souk_read_data                   7
  *    souk_set_status                  2, 4, 5, 7
@@ -97,6 +98,7 @@
 #define souk_control souk_control_size32
 #define souk_command souk_command_size32
 #define souk_command_step souk_command_step_size32
+#define souk_command_step_told souk_command_step_told_size32
 #define souk_decode souk_decode_size32
 #define souk_decode_told souk_decode_told_size32
 #define souk_verdict souk_verdict_size32
@@ -135,8 +137,8 @@ enum souk_answer {
     SOUK_INVALID_PACKET_SIZE = 8, /* souk_create: P is not 8, 16, 32 or 64. There is no device; the record is as before */
     SOUK_BUFFER_TOO_LARGE = 9,    /* souk_create: size is above 65,536. There is no device; the record is as before */
     /* The record is broken: record or io does not have the length that it had at creation, or these calls never leave such
-       bytes, so something else wrote into the record. Also: record, block or command was lent with a wrong length. As before.
-       Only souk_create helps. */
+       bytes, so something else wrote into the record. Then only souk_create helps. Also: record, block or command was lent with
+       a wrong length, or 'extended' is another number than 0 or 1. As before. */
     SOUK_BROKEN_RECORD = 10,
     SOUK_PACKET_REFUSED = 11, /* a poll: an offered packet is longer than P, or 'packet' has fewer than P bytes. As before */
     SOUK_STATUS_REFUSED = 12, /* souk_set_status: in state 0, 1, 3, 6 or 8, or a status byte above 2. As before */
@@ -187,7 +189,9 @@ enum souk_direction {
     SOUK_DIRECTION_FROM_HOST = 2
 };
 
-/* command[0]; each comment says what stands in command[1], [2] and so on. Numbers without a meaning are 0. */
+/* command[0]; each comment says what stands in command[1], [2] and so on. Numbers without a meaning are 0. The block address of
+   READ (16) and WRITE (16) has 64 bits, and their number of blocks has 32. Compare both with the disk's size as they are,
+   before you add, multiply or cut them. */
 enum souk_kind {
     SOUK_UNKNOWN = 0,                /* opcode */
     SOUK_INQUIRY = 1,                /* EVPD, page, allocation length */
@@ -197,8 +201,8 @@ enum souk_kind {
     SOUK_MODE_SENSE_10 = 5,          /* the same */
     SOUK_READ_CAPACITY_10 = 6,       /* - */
     SOUK_READ_CAPACITY_16 = 7,       /* allocation length; the service action is not looked at */
-    SOUK_READ = 8,                   /* block address, number of blocks */
-    SOUK_WRITE = 9,                  /* block address, number of blocks */
+    SOUK_READ = 8,                   /* READ (10) and READ (16): block address, number of blocks */
+    SOUK_WRITE = 9,                  /* WRITE (10) and WRITE (16): the same */
     SOUK_READ_FORMAT_CAPACITIES = 10 /* allocation length */
 };
 
@@ -241,7 +245,7 @@ static inline uint8_t souk_carried(uint64_t word) {
     return (uint8_t)(word >> 8 & 255u);
 }
 
-/* souk_command, souk_command_step: the unit that the command is for, 0 to 15, which may be above the max LUN. */
+/* souk_command, souk_command_step, .._told: the unit that the command is for, 0 to 15, which may be above the max LUN. */
 static inline uint8_t souk_lun(uint64_t word) {
     return (uint8_t)(word >> 8 & 255u);
 }
@@ -256,7 +260,7 @@ static inline uint32_t souk_taken(uint64_t word) {
     return (uint32_t)(word >> 24 & 255u);
 }
 
-/* 1 or 0. souk_control: a byte is answered. souk_command: a command is shown. souk_command_step: one is offered. */
+/* 1 or 0. souk_control: a byte is answered. souk_command: a command is shown. souk_command_step, .._told: one is offered. */
 static inline uint32_t souk_flag(uint64_t word) {
     return (uint32_t)(word >> 24 & 255u);
 }
@@ -330,16 +334,22 @@ uint64_t souk_command(const uint8_t *record, size_t record_len, const uint8_t *i
                       size_t block_len);
 
 /* Decodes the command that waits for the firmware, in every state but 0 while there is no status. So it is offered again and
-   again until the status is set. If none is offered, command is kept. In state 1 it is not a new command. Answers 0, 10 (also
-   if command does not have 6 numbers), 13 (state 1 before the first good wrapper). */
+   again until the status is set. If none is offered, command is kept. In state 1 it is not a new command. READ (16) and WRITE
+   (16) are known. Answers 0, 10 (also if command does not have 6 numbers), 13 (state 1 before the first good wrapper). */
 uint64_t souk_command_step(const uint8_t *record, size_t record_len, const uint8_t *io, size_t io_len, uint64_t *command,
                            size_t command_len);
 
-/* Decodes a block into six numbers: kind and fields. A block that is too short for its opcode is SOUK_UNKNOWN, and so are READ
-   (16) and WRITE (16). Answers 0, 10 (command does not have 6 numbers), 13 (empty block); with 10 and 13 command is kept. */
+/* The same, and the firmware says whether READ (16) and WRITE (16) are known: 'extended' is 1 if they are. If it is 0, they are
+   SOUK_UNKNOWN, as in usbd-storage without its feature extended_addressing, and as the plain calls once had them. Any other
+   number: 10, and nothing is changed. */
+uint64_t souk_command_step_told(const uint8_t *record, size_t record_len, const uint8_t *io, size_t io_len, uint32_t extended,
+                                uint64_t *command, size_t command_len);
+
+/* Decodes a block into six numbers: kind and fields. A block that is too short for its opcode is SOUK_UNKNOWN. READ (16) and
+   WRITE (16) are known. Answers 0, 10 (command does not have 6 numbers), 13 (empty block); with 10 and 13 command is kept. */
 uint32_t souk_decode(const uint8_t *block, size_t block_len, uint64_t *command, size_t command_len);
 
-/* The same, but if extended is 1, READ (16) and WRITE (16) are known too; if it is 0, they are not. Any other number: 10. */
+/* The same, with 'extended' as in souk_command_step_told. */
 uint32_t souk_decode_told(const uint8_t *block, size_t block_len, uint32_t extended, uint64_t *command, size_t command_len);
 
 /* What BOT says of one received message: an enum souk_verdict, not an answer. Reserved are all flags but the direction (bits 0
