@@ -1,5 +1,6 @@
-/* A read-only disk of one unit. It answers the commands that a stock Linux sends to a small disk, and READ FORMAT CAPACITIES,
-   which other hosts send. Everything else is refused, and the next REQUEST SENSE says why. */
+/* A read-only disk of one unit. It answers the commands that a stock Linux sends to a small disk; READ (16), which laptops send
+   to large ones; and READ FORMAT CAPACITIES, which other hosts send. Everything else is refused, and the next REQUEST SENSE says
+   why. */
 #include "commands.h"
 
 #include "faults.h"
@@ -90,6 +91,8 @@ static struct reply read_format_capacities(const uint64_t *command) {
     return passed_up_to(command[1], 12);
 }
 
+/* READ (16) brings any address of 64 bits, and more blocks than 32 bits can count in bytes. Both are compared as they came, and
+   without a sum, which could start again at 0; only then is anything cut or multiplied. */
 static struct reply read_blocks(uint64_t address, uint64_t blocks) {
     if (address > FAULT_BLOCKS || blocks > FAULT_BLOCKS - address) return refused(no_such_block);
     return passed(faults_from((uint32_t)address), (size_t)(blocks * FAULT_BLOCK));

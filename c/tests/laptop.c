@@ -166,6 +166,17 @@ static const struct request read_block_3 = {"READ (10), block 3", {0x28, 0, 0, 0
 static const struct request read_too_short = {
     "READ (10), 2 blocks with room for 1", {0x28, 0, 0, 0, 0, 0, 0, 0, 2}, 10, 0, true, BLOCK};
 
+/* What laptops send to large disks: the address in bytes 2 to 9, the number of blocks in 10 to 13. */
+static const struct request read_list_16 = {"READ (16), blocks 0 to 2", {0x88, [13] = 3}, 16, 0, true, 3 * BLOCK};
+static const struct request write_block_0_16 = {"WRITE (16), block 0", {0x8A, [13] = 1}, 16, 0, false, BLOCK};
+/* Cut to 32 bits, this address is 0. */
+static const struct request read_block_2_to_32 = {"READ (16), block 2^32", {0x88, [5] = 1, [13] = 1}, 16, 0, true, BLOCK};
+/* Address and number of blocks together are 2^64, which is 0 in 64 bits. */
+static const struct request read_last_address = {
+    "READ (16), block 2^64 - 1", {0x88, 0, 0xFF, 0xFF, 0xFF, 0xFF, 0xFF, 0xFF, 0xFF, 0xFF, [13] = 1}, 16, 0, true, BLOCK};
+/* These are 2^32 bytes, which is 0 in 32 bits. */
+static const struct request read_2_to_23_blocks = {"READ (16), 2^23 blocks", {0x88, [11] = 0x80}, 16, 0, true, BLOCK};
+
 static bool is_blank(const uint8_t *line) {
     for (int i = 0; i < LINE - 1; i++)
         if (line[i] != ' ') return false;
@@ -220,8 +231,8 @@ static void read_out(void) {
     memcpy(list, data, sizeof list);
 }
 
-static void read_again(void) {
-    uint32_t length = run(&read_list);
+static void read_again(const struct request *r) {
+    uint32_t length = run(r);
     require(length == sizeof list && memcmp(list, data, sizeof list) == 0, "another list");
     printf("    the same list\n");
 }
@@ -230,6 +241,14 @@ static void refusals(void) {
     run(&write_block_0);
     ask_why();
     run(&read_block_3);
+    ask_why();
+    run(&write_block_0_16);
+    ask_why();
+    run(&read_block_2_to_32);
+    ask_why();
+    run(&read_last_address);
+    ask_why();
+    run(&read_2_to_23_blocks);
     ask_why();
     run(&inquiry_of_unit_1);
     ask_why();
@@ -302,12 +321,14 @@ int main(void) {
     read_out();
     printf("-- the same, from a slow laptop\n");
     waits = 3;
-    read_again();
+    read_again(&read_list);
     printf("the disk found the laptop busy %u times\n", bus_in_was_busy());
     printf("-- the same, from a laptop whose driver sets flag bit 3\n");
     stray_flags = 1 << 3;
-    read_again();
+    read_again(&read_list);
     stray_flags = 0;
+    printf("-- the same, as laptops read large disks\n");
+    read_again(&read_list_16);
     printf("-- what the recorder refuses\n");
     refusals();
     printf("-- what goes wrong\n");
@@ -317,6 +338,6 @@ int main(void) {
     printf("-- a reset that leaves packets in the endpoints\n");
     packets_left_behind();
     printf("-- the fault list again\n");
-    read_again();
+    read_again(&read_list);
     return 0;
 }
