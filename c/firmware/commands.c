@@ -1,6 +1,6 @@
 /* A read-only disk of one unit. It answers the commands that a stock Linux sends to a small disk; READ (16), which laptops send
-   to large ones; and READ FORMAT CAPACITIES, which other hosts send. Everything else is refused, and the next REQUEST SENSE says
-   why. */
+   to large ones; and READ FORMAT CAPACITIES, which other hosts send. Everything else is refused, and the next REQUEST SENSE
+   says why. */
 #include "commands.h"
 
 #include "faults.h"

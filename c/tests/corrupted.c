@@ -4,7 +4,7 @@
    set to each value, and each is lent with each wrong length up to 60. Records of any bytes and any length are added, and good
    ones with several bytes changed.
    Each record goes to every call that takes one. Every call is tested by lending.h, and this is tested besides:
-     - a broken record, or a wrong length of block or command, gives 10 and nothing else;
+     - a broken record, a wrong length of block or command, or another number than 0 or 1 told, gives 10 and nothing else;
      - any other record gives another answer, and is not broken afterwards.
    A fault ends the program with a line that says which. */
 #include "lending.h"
@@ -51,7 +51,9 @@ static uint8_t *lent_before(enum area a) {
 
 static bool is_due_10(enum call which) {
     if (which == SHOW_COMMAND && length[BLOCK] != SOUK_BLOCK_SIZE) return true;
-    if (which == COMMAND_STEP && length[COMMAND] != SOUK_COMMAND_NUMBERS * sizeof(uint64_t)) return true;
+    if (which == COMMAND_STEP_TOLD && with.extended > 1) return true;
+    bool is_step = which == COMMAND_STEP || which == COMMAND_STEP_TOLD;
+    if (is_step && length[COMMAND] != SOUK_COMMAND_NUMBERS * sizeof(uint64_t)) return true;
     return broken(lent_before(RECORD), length[RECORD], length[IO]);
 }
 
@@ -72,7 +74,7 @@ static void undo(enum call which) {
 }
 
 static void try_every_call(void) {
-    for (enum call which = POLL; which <= COMMAND_STEP; which++) {
+    for (enum call which = POLL; which <= COMMAND_STEP_TOLD; which++) {
         judge(which, call(which));
         undo(which);
     }
@@ -194,6 +196,7 @@ static void choose_arguments(uint32_t packet_size) {
     with.figure = random_below(300);
     with.request_type = one_in(3) ? 0x21 : 0xA1;
     with.request = (uint8_t)(0xFD + random_below(3));
+    with.extended = one_in(50) ? (uint32_t)random_word() : random_below(2);
 }
 
 /* What a host would send: the rest of a wrapper, or a whole one. */

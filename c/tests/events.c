@@ -270,10 +270,14 @@ static void after_control(void) {
     if (state() == SOUK_COMMAND_TRANSFER) drop_message();
 }
 
+static void choose_extended(void) {
+    with.extended = wildly ? (uint32_t)random_word() : random_below(2);
+}
+
 static void choose_block(void) {
     uint32_t count = one_in(12) ? random_below(LONGEST_MESSAGE + 1) : random_below(SOUK_BLOCK_SIZE + 1);
     fill_block(lend(SRC, count), count);
-    with.extended = wildly ? (uint32_t)random_word() : random_below(2);
+    choose_extended();
 }
 
 static void choose_message(void) {
@@ -289,16 +293,16 @@ static void choose_message(void) {
 
 /* How often a call is made in each state, as parts of the row. */
 static const uint8_t weights[STATES][CALLS] = {
-    /* create, poll, status, read, write, all, reset, control, show, step, decode, told, verdict */
-    {2, 170, 1, 2, 2, 2, 1, 3, 3, 3, 4, 4, 6},     /* command transfer */
-    {20, 30, 2, 2, 2, 2, 15, 15, 5, 9, 2, 2, 2},   /* invalid */
-    {1, 50, 30, 2, 2, 2, 1, 1, 10, 10, 1, 1, 1},   /* no data */
-    {1, 130, 3, 2, 2, 2, 1, 1, 3, 3, 1, 1, 1},     /* status transfer */
-    {1, 120, 8, 2, 60, 30, 1, 1, 4, 8, 1, 1, 1},   /* to host */
-    {1, 40, 50, 2, 2, 2, 1, 2, 6, 10, 1, 1, 1},    /* status awaited */
-    {1, 130, 3, 2, 2, 2, 1, 1, 3, 3, 1, 1, 1},     /* to host, ending */
-    {1, 120, 8, 60, 2, 2, 1, 1, 4, 8, 1, 1, 1},    /* from host */
-    {1, 130, 3, 2, 2, 2, 1, 1, 3, 3, 1, 1, 1},     /* from host, ending */
+    /* create, poll, status, read, write, all, reset, control, show, step, told, decode, told, verdict */
+    {2, 170, 1, 2, 2, 2, 1, 3, 3, 3, 3, 4, 4, 6},     /* command transfer */
+    {20, 30, 2, 2, 2, 2, 15, 15, 5, 9, 9, 2, 2, 2},   /* invalid */
+    {1, 50, 30, 2, 2, 2, 1, 1, 10, 10, 10, 1, 1, 1},  /* no data */
+    {1, 130, 3, 2, 2, 2, 1, 1, 3, 3, 3, 1, 1, 1},     /* status transfer */
+    {1, 120, 8, 2, 60, 30, 1, 1, 4, 8, 8, 1, 1, 1},   /* to host */
+    {1, 40, 50, 2, 2, 2, 1, 2, 6, 10, 10, 1, 1, 1},   /* status awaited */
+    {1, 130, 3, 2, 2, 2, 1, 1, 3, 3, 3, 1, 1, 1},     /* to host, ending */
+    {1, 120, 8, 60, 2, 2, 1, 1, 4, 8, 8, 1, 1, 1},    /* from host */
+    {1, 130, 3, 2, 2, 2, 1, 1, 3, 3, 3, 1, 1, 1},     /* from host, ending */
 };
 
 static enum call weighted_call(const uint8_t *row) {
@@ -330,6 +334,10 @@ static void choose_arguments(enum call which) {
     case CONTROL: choose_control(); break;
     case SHOW_COMMAND: lend(BLOCK, SOUK_BLOCK_SIZE); break;
     case COMMAND_STEP: lend_command(SOUK_COMMAND_NUMBERS); break;
+    case COMMAND_STEP_TOLD:
+        choose_extended();
+        lend_command(SOUK_COMMAND_NUMBERS);
+        break;
     case DECODE:
     case DECODE_TOLD:
         choose_block();

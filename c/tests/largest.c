@@ -85,11 +85,32 @@ static void numbers(void) {
     same("the verdict for max LUN 16", souk_verdict(message, sizeof message, 16), 2);
 }
 
+/* Numbers that are 0 or 1 in fewer bits, and the largest fields that a block can have. */
+static void told(void) {
+    static const uint32_t others[] = {2, 256, 257, 65536, 65537, 0xFFFFFFFF};
+    uint8_t read_16[SOUK_BLOCK_SIZE];
+    uint64_t command[SOUK_COMMAND_NUMBERS];
+    memset(read_16, 0xFF, sizeof read_16);
+    read_16[0] = 0x88;
+    start(0, 0);
+    for (size_t i = 0; i < sizeof others / sizeof *others; i++) {
+        same("decoding told another number than 0 or 1",
+             souk_decode_told(read_16, sizeof read_16, others[i], command, SOUK_COMMAND_NUMBERS), SOUK_BROKEN_RECORD);
+        same("a step told another number than 0 or 1",
+             souk_command_step_told(record, sizeof record, io, sizeof io, others[i], command, SOUK_COMMAND_NUMBERS),
+             SOUK_BROKEN_RECORD);
+    }
+    souk_decode(read_16, sizeof read_16, command, SOUK_COMMAND_NUMBERS);
+    same("the largest address", command[1], 0xFFFFFFFFFFFFFFFF);
+    same("the most blocks", command[2], 0xFFFFFFFF);
+}
+
 int main(void) {
     for (size_t i = 0; i < sizeof source; i++) source[i] = (uint8_t)(i * 7 + i / 256);
     counts();
     packets();
     numbers();
+    told();
     printf("%u of %u lengths and numbers at their bounds are not as due\n", different, looked_at);
     return different != 0;
 }

@@ -4,7 +4,9 @@
      - the guards are kept, and so is all that is lent for reading or for other calls;
      - a refusal changes nothing;
      - a packet after the bytes sent, and a destination after the bytes read, are kept;
-     - block and command are kept if no command is shown, offered or decoded.
+     - block and command are kept if no command is shown, offered or decoded;
+     - told another number than 0 or 1, a call gives 10 alone;
+     - a plain call does what its told form does with 1: each time, that is made too.
    The test has to define print_where, for the line about a breach.
    If GUARD is defined as 0, what is lent ends where its heap block ends, for a tool that watches the ends of blocks.
    If STACK_WATCH is defined, the stack that each call needs is measured. */
@@ -119,6 +121,7 @@ enum call {
     CONTROL,
     SHOW_COMMAND,
     COMMAND_STEP,
+    COMMAND_STEP_TOLD,
     DECODE,
     DECODE_TOLD,
     VERDICT,
@@ -147,6 +150,8 @@ static const struct call_kind {
     [CONTROL] = {"souk_control", DEVICE, BIT(RECORD), BIT(0) | BIT(10), 0xFF01FF00FF},
     [SHOW_COMMAND] = {"souk_command", DEVICE | BIT(BLOCK), BIT(BLOCK), BIT(0) | BIT(10), 0xFF0100FFFF},
     [COMMAND_STEP] = {"souk_command_step", DEVICE | BIT(COMMAND), BIT(COMMAND), BIT(0) | BIT(10) | BIT(13), 0x0100FFFF},
+    [COMMAND_STEP_TOLD] = {"souk_command_step_told", DEVICE | BIT(COMMAND), BIT(COMMAND), BIT(0) | BIT(10) | BIT(13),
+                           0x0100FFFF},
     [DECODE] = {"souk_decode", BIT(SRC) | BIT(COMMAND), BIT(COMMAND), BIT(0) | BIT(10) | BIT(13), 0xFF},
     [DECODE_TOLD] = {"souk_decode_told", BIT(SRC) | BIT(COMMAND), BIT(COMMAND), BIT(0) | BIT(10) | BIT(13), 0xFF},
     [VERDICT] = {"souk_verdict", BIT(SRC), 0, BIT(0) | BIT(1) | BIT(2), 0xFF},
@@ -198,6 +203,9 @@ static uint64_t make(enum call which) {
     case CONTROL: word = souk_control(record, record_len, io, io_len, with.request_type, with.request); break;
     case SHOW_COMMAND: word = souk_command(record, record_len, io, io_len, lent(BLOCK), length[BLOCK]); break;
     case COMMAND_STEP: word = souk_command_step(record, record_len, io, io_len, command, command_len); break;
+    case COMMAND_STEP_TOLD:
+        word = souk_command_step_told(record, record_len, io, io_len, with.extended, command, command_len);
+        break;
     case DECODE: word = souk_decode(src, src_len, command, command_len); break;
     case DECODE_TOLD: word = souk_decode_told(src, src_len, with.extended, command, command_len); break;
     case VERDICT: word = souk_verdict(src, src_len, with.max_lun); break;
@@ -242,7 +250,7 @@ static bool is_counted(enum call which, enum area a) {
 static size_t open_to_change(enum call which, enum area a) {
     if (!(calls[which].writes & BIT(a)) || !may_write(souk_answer(result))) return 0;
     if (is_counted(which, a)) return souk_count(result);
-    if (which == SHOW_COMMAND || which == COMMAND_STEP) return souk_flag(result) ? length[a] : 0;
+    if (which == SHOW_COMMAND || which == COMMAND_STEP || which == COMMAND_STEP_TOLD) return souk_flag(result) ? length[a] : 0;
     return length[a];
 }
 
@@ -263,13 +271,38 @@ static void require_kept(enum call which, enum area a) {
             "or bytes beside it changed where they must not");
 }
 
-static uint64_t call(enum call which) {
+/* The call, and what is tested after it. */
+static uint64_t call_alone(enum call which) {
+    bool is_told = which == COMMAND_STEP_TOLD || which == DECODE_TOLD;
     for (enum area a = 0; a < AREAS; a++) remember(a);
     result = make(which);
     require(has_answer(which, souk_answer(result)), which, "the answer", "is none that this call has");
     require(!(result & ~calls[which].named), which, "the result", "has bits without a meaning");
+    require(!is_told || with.extended <= 1 || result == SOUK_BROKEN_RECORD, which, "another number than 0 or 1",
+            "has to give 10 alone");
     for (enum area a = 0; a < AREAS; a++) require_kept(which, a);
     return result;
+}
+
+/* The told form first, with 1; then what was lent is put back for the plain form. */
+static uint64_t call_plain(enum call which, enum call told) {
+    static uint64_t due[SOUK_COMMAND_NUMBERS + 1];
+    uint32_t extended = with.extended;
+    with.extended = 1;
+    uint64_t word = call_alone(told);
+    with.extended = extended;
+    require(length[COMMAND] <= sizeof due, which, "the command", "is longer than any test has it");
+    memcpy(due, lent(COMMAND), length[COMMAND]);
+    memcpy(lent(COMMAND), before[COMMAND] + start[COMMAND], length[COMMAND]);
+    require(call_alone(which) == word && memcmp(lent(COMMAND), due, length[COMMAND]) == 0, which, "the plain form",
+            "does not do what the told one does with 1");
+    return result;
+}
+
+static uint64_t call(enum call which) {
+    if (which == COMMAND_STEP) return call_plain(which, COMMAND_STEP_TOLD);
+    if (which == DECODE) return call_plain(which, DECODE_TOLD);
+    return call_alone(which);
 }
 
 #endif

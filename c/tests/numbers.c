@@ -254,7 +254,8 @@ static void kinds(void) {
     SAME(SOUK_READ, kind_of(0x28));
     SAME(SOUK_WRITE, kind_of(0x2A));
     SAME(SOUK_READ_FORMAT_CAPACITIES, kind_of(0x23));
-    SAME(SOUK_UNKNOWN, kind_of(0x88));
+    SAME(SOUK_READ, kind_of(0x88));
+    SAME(SOUK_WRITE, kind_of(0x8A));
 }
 
 static uint64_t page_control_of(uint8_t byte_2) {
@@ -278,6 +279,35 @@ static void told(void) {
     SAME(SOUK_DONE, souk_decode_told(read_16, sizeof read_16, 1, command, SOUK_COMMAND_NUMBERS));
     SAME(SOUK_READ, command[0]);
     SAME(SOUK_BROKEN_RECORD, souk_decode_told(read_16, sizeof read_16, 2, command, SOUK_COMMAND_NUMBERS));
+    SAME(SOUK_DONE, souk_decode_told(read_16, sizeof read_16, 0, command, SOUK_COMMAND_NUMBERS));
+    SAME(SOUK_UNKNOWN, command[0]);
+}
+
+static uint64_t step_told(uint32_t extended, uint64_t *command) {
+    return souk_command_step_told(record, sizeof record, io, sizeof io, extended, command, SOUK_COMMAND_NUMBERS);
+}
+
+/* The block of the other wrappers, as a READ (16). */
+static void told_steps(void) {
+    uint8_t bytes[WRAPPER];
+    uint64_t command[SOUK_COMMAND_NUMBERS];
+    fill_wrapper(bytes, DECLARED, 0x80);
+    bytes[14] = SOUK_BLOCK_SIZE;
+    bytes[15] = 0x88;
+    create();
+    offer(bytes, sizeof bytes);
+    uint64_t word = step_told(1, command);
+    same("souk_flag of souk_command_step_told", souk_flag(word), 1);
+    same("souk_lun of souk_command_step_told", souk_lun(word), LUN);
+    SAME(SOUK_READ, command[0]);
+    same("the address of a READ (16)", command[1], 0x010000000800);
+    same("the blocks of a READ (16)", command[2], 0xAABBCCDD);
+    SAME(SOUK_BROKEN_RECORD, step_told(2, command));
+    same("souk_flag of souk_command_step_told with 0", souk_flag(step_told(0, command)), 1);
+    SAME(SOUK_UNKNOWN, command[0]);
+    same("the opcode of an unknown command", command[1], 0x88);
+    souk_command_step(record, sizeof record, io, sizeof io, command, SOUK_COMMAND_NUMBERS);
+    SAME(SOUK_READ, command[0]);
 }
 
 static void verdicts(void) {
@@ -304,6 +334,7 @@ int main(void) {
     kinds();
     page_controls();
     told();
+    told_steps();
     verdicts();
     printf("%u numbers of c/include/souklavanh.h are the socket's\n", compared);
     return 0;

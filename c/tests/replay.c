@@ -94,8 +94,8 @@ static bool is_good_event(const struct event *e) {
     case KIND_TRY_WRITE_DATA_ALL: return true;
     case KIND_READ_DATA:
     case KIND_CONTROL: return e->count == 2;
-    case KIND_RESET:
-    case KIND_COMMAND_STEP: return e->count == 0;
+    case KIND_RESET: return e->count == 0;
+    case KIND_COMMAND_STEP: return e->count == 0 || (e->count == 1 && e->body[0] <= 1);
     default: return false;
     }
 }
@@ -202,11 +202,23 @@ static struct line play_control(const uint8_t *body) {
     return (struct line){souk_answer(word), 0, souk_stalls(word), &byte, souk_flag(word)};
 }
 
-/* The line shows the LUN and the block. The step decodes the block and does not hand it out; another call shows it. */
-static struct line play_command_step(void) {
-    static uint8_t shown[1 + SOUK_BLOCK_SIZE];
+/* No line shows what a step decoded: it has to be what the block is alone, told the same. */
+static void require_decoded(const uint8_t *block, size_t count) {
+    uint64_t offered[SOUK_COMMAND_NUMBERS];
+    memcpy(offered, lent(COMMAND), sizeof offered);
+    lend_copy(SRC, block, count);
     lend_command(SOUK_COMMAND_NUMBERS);
-    uint64_t word = call(COMMAND_STEP);
+    require(call(DECODE_TOLD) == SOUK_DONE && memcmp(offered, lent(COMMAND), sizeof offered) == 0, DECODE_TOLD, "the block",
+            "is decoded to another command than the one offered");
+}
+
+/* The line shows the LUN and the block. The step decodes the block and does not hand it out; another call shows it. A step
+   without a byte has extended addressing off. */
+static struct line play_command_step(const struct event *e) {
+    static uint8_t shown[1 + SOUK_BLOCK_SIZE];
+    with.extended = e->count == 0 ? 0 : e->body[0];
+    lend_command(SOUK_COMMAND_NUMBERS);
+    uint64_t word = call(COMMAND_STEP_TOLD);
     if (!souk_flag(word)) return (struct line){.answer = souk_answer(word)};
     const uint8_t *block = lend(BLOCK, SOUK_BLOCK_SIZE);
     uint64_t second = call(SHOW_COMMAND);
@@ -215,6 +227,7 @@ static struct line play_command_step(void) {
     require(souk_count(second) <= SOUK_BLOCK_SIZE, SHOW_COMMAND, "the block", "is longer than any");
     shown[0] = souk_lun(word);
     memcpy(shown + 1, block, souk_count(second));
+    require_decoded(block, souk_count(second));
     return (struct line){.answer = souk_answer(word), .bytes = shown, .shown = 1 + souk_count(second)};
 }
 
@@ -228,7 +241,7 @@ static struct line play(const struct event *e) {
     case KIND_READ_DATA: return play_read(e->body);
     case KIND_RESET: return play_reset();
     case KIND_CONTROL: return play_control(e->body);
-    default: return play_command_step();
+    default: return play_command_step(e);
     }
 }
 
