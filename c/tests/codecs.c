@@ -1,5 +1,5 @@
 /* Gives each line of standard input to one of the proved codecs and prints what it answered, in the words of judge/oracle/run.
-       decode, decode-told-off, decode-extended    a block in hex; told-off and extended call the entry that is told
+       decode, decode-told-off, decode-told-on     a block in hex; decode calls the plain entry, the others the one that is told
        parse                                       a message in hex
        status                                      tag, length, figure and status byte, decimal
        verdict                                     max LUN in decimal and a message in hex; prints the verdict's number
@@ -145,7 +145,7 @@ static void print_command(uint32_t answer) {
 
 static void decode(void) { print_command(scsi_decode(bytes, hex(), lent.command, COMMAND)); }
 static void decode_told_off(void) { print_command(scsi_decode_told(bytes, hex(), 0, lent.command, COMMAND)); }
-static void decode_extended(void) { print_command(scsi_decode_told(bytes, hex(), 1, lent.command, COMMAND)); }
+static void decode_told_on(void) { print_command(scsi_decode_told(bytes, hex(), 1, lent.command, COMMAND)); }
 
 static void parse(void) {
     static const char *const directions[] = {"none", "in", "out"};
@@ -211,7 +211,7 @@ static void refusals(void) {
         answer = scsi_decode_told(inquiry, 5, 0, lent.command, wrong(COMMAND, i));
         refusal("told off, wrong length of the command", answer, 10);
         answer = scsi_decode_told(inquiry, 5, 1, lent.command, wrong(COMMAND, i));
-        refusal("extended, wrong length of the command", answer, 10);
+        refusal("told on, wrong length of the command", answer, 10);
         answer = wrapper_parse(wrapper, WRAPPER, lent.fields, wrong(FIELDS, i), lent.block, BLOCK);
         refusal("parse, wrong length of the fields", answer, 10);
         answer = wrapper_parse(wrapper, WRAPPER, lent.fields, FIELDS, lent.block, wrong(BLOCK, i));
@@ -223,7 +223,7 @@ static void refusals(void) {
     }
     refusal("decode, empty block", scsi_decode(inquiry, 0, lent.command, COMMAND), 13);
     refusal("told off, empty block", scsi_decode_told(inquiry, 0, 0, lent.command, COMMAND), 13);
-    refusal("extended, empty block", scsi_decode_told(inquiry, 0, 1, lent.command, COMMAND), 13);
+    refusal("told on, empty block", scsi_decode_told(inquiry, 0, 1, lent.command, COMMAND), 13);
     refusal("told 2", scsi_decode_told(inquiry, 5, 2, lent.command, COMMAND), 10);
     refusal("told 2^32 - 1", scsi_decode_told(inquiry, 5, 0xFFFFFFFF, lent.command, COMMAND), 10);
     refuses_message("parse, another signature", other_signature, WRAPPER);
@@ -240,7 +240,7 @@ int main(int argc, char **argv) {
         const char *name;
         void (*of_line)(void);
     } modes[] = {
-        {"decode", decode}, {"decode-told-off", decode_told_off}, {"decode-extended", decode_extended},
+        {"decode", decode}, {"decode-told-off", decode_told_off}, {"decode-told-on", decode_told_on},
         {"parse", parse},   {"status", status},                   {"verdict", verdict},
     };
     require(argc == 2, "one argument: the mode");
