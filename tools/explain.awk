@@ -19,7 +19,7 @@ BEGIN {
     opcode_names()
     # Of each kind the one length that it has; of the others the least.
     split("7 5 5 0 0 2 0 2 0", needs, " ")
-    split("1 0 1 0 0 1 1 1 1", fixed, " ")
+    split("1 0 1 0 0 1 1 1 0", fixed, " ")
     size = lines = 0
     waiting = status_sent = ""
     state = unread = 0
@@ -131,7 +131,7 @@ function event_words() {
     if (kind == 5) return "firmware: read_data, room " number(from, 2)
     if (kind == 6) return "bus reset"
     if (kind == 7) return "control " toupper(file_hex(from, 1) " " file_hex(from + 1, 1)) control_words()
-    return "firmware: command step"
+    return "firmware: command step" (length_of == 0 ? "" : ", extended addressing " (file[from] == 1 ? "on" : "off"))
 }
 
 function poll_words(    out) {
@@ -179,8 +179,13 @@ function outcome() {
 
 function write_outcome() { return "wrote " (now[6] == length_of ? "" : now[6] " of ") file_shown(from, length_of) }
 
-# "LUN in two digits, then exactly block-length bytes"
-function command_words(hex) { return "LUN " hex_byte(hex, 0) ": " block_words(substr(hex, 3), 1) }
+# "LUN in two digits, then exactly block-length bytes". Extended addressing is on only where the step carries 1.
+function command_words(hex,    lun, block) {
+    lun = "LUN " hex_byte(hex, 0) ": "
+    block = substr(hex, 3)
+    if (!needs_extended(block) || length_of == 1 && file[from] == 1) return lun block_words(block, 1)
+    return lun "unknown command " toupper(substr(block, 1, 2)) " (extended addressing is off): " block
+}
 
 function poll_outcome(    text) {
     text = wrapper_outcome()
@@ -238,10 +243,15 @@ function opcode_names() {
     called["28"] = "READ (10)";               shortest["28"] = 9
     called["2a"] = "WRITE (10)";              shortest["2a"] = 9
     called["5a"] = "MODE SENSE (10)";         shortest["5a"] = 9
+    called["88"] = "READ (16)";               shortest["88"] = 14
+    called["8a"] = "WRITE (16)";              shortest["8a"] = 14
     called["9e"] = "READ CAPACITY (16)";      shortest["9e"] = 14
 }
 
-# Its name, and the fields where they are asked for. 88 and 8A count only with extended addressing, which bench does not have.
+# Whether it counts with extended addressing and not without.
+function needs_extended(hex) { return hex ~ /^8[8a]/ && length(hex) / 2 >= shortest[substr(hex, 1, 2)] }
+
+# Its name, and the fields where they are asked for.
 function block_words(hex, fields,    opcode) {
     opcode = substr(hex, 1, 2)
     if (!(opcode in called)) return "unknown command " toupper(opcode) (fields ? ": " hex : "")
@@ -256,9 +266,13 @@ function field_words(opcode, hex) {
     if (opcode == "5a") return mode_words(hex) big(hex, 7, 2)
     if (opcode == "23") return " allocation " big(hex, 7, 2)
     if (opcode == "28" || opcode == "2a") return " address " whole(big(hex, 2, 4)) ", blocks " big(hex, 7, 2)
+    if (opcode == "88" || opcode == "8a") return " address " exact(substr(hex, 5, 16)) ", blocks " whole(big(hex, 10, 4))
     if (opcode == "9e") return " allocation " whole(big(hex, 10, 4))
     return ""
 }
+
+# A number of 16 hex digits. From 2^53 on awk does not hold every one: these stay in hex.
+function exact(hex) { return hex < "0020000000000000" ? whole(big(hex, 0, 8)) : "0x" hex }
 
 function mode_words(hex,    page) {
     page = hex_byte(hex, 2)
@@ -298,9 +312,11 @@ function event_breach(at, end, count,    kind, n, need) {
     need = needs[kind + 1]
     if (fixed[kind + 1] && n != need) return "a " kinds[kind + 1] " has " plural(need, "byte") ", and this one has " n
     if (n < need) return "a " kinds[kind + 1] " has at least " plural(need, "byte") ", and this one has " n
+    if (kind == 8 && n > 1) return "a command step has at most 1 byte, and this one has " n
     if (at + 3 + n > end) return "the length is " n ", and the trailer begins after " plural(end - at - 3, "byte")
     if (kind == 1) return poll_breach(at + 3, n)
     if (kind == 2 && file[at + 3] > 2) return "the status byte is " file[at + 3] ", and it is to be 0, 1 or 2"
+    if (kind == 8 && n == 1 && file[at + 3] > 1) return "the command step carries " file[at + 3] ", and it is to be 0 or 1"
     return ""
 }
 
