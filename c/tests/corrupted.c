@@ -196,7 +196,7 @@ static void choose_arguments(uint32_t packet_size) {
     with.figure = random_below(300);
     with.request_type = one_in(3) ? 0x21 : 0xA1;
     with.request = (uint8_t)(0xFD + random_below(3));
-    with.extended = one_in(50) ? (uint32_t)random_word() : random_below(2);
+    with.extended = one_in(50) ? wild_extended() : random_below(2);
 }
 
 /* What a host would send: the rest of a wrapper, or a whole one. */

@@ -271,7 +271,7 @@ static void after_control(void) {
 }
 
 static void choose_extended(void) {
-    with.extended = wildly ? (uint32_t)random_word() : random_below(2);
+    with.extended = wildly ? wild_extended() : random_below(2);
 }
 
 static void choose_block(void) {

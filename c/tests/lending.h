@@ -48,6 +48,12 @@ static inline uint8_t random_byte(void) {
     return (uint8_t)random_below(256);
 }
 
+/* For a call that is told 0 or 1: mostly another number, a small one, or one that is 0 or 1 in fewer bits. */
+static inline uint32_t wild_extended(void) {
+    uint32_t number = random_below(4), shift = 8 * random_below(4);
+    return number << shift | random_below(2);
+}
+
 /* ---- Areas */
 
 enum area { RECORD, IO, PACKET, DST, BLOCK, COMMAND, SRC, ONE, TWO, AREAS };
