@@ -52,6 +52,6 @@ module _ (d : Device) (io : List ℕ) where
       by true e = ap (steppingOfDecoding (d .wrapper .lun)) (telling (blockOf (d .wrapper)) .same e)
       by false e = refl
 
-  pub step-telling : Telling d io
-  unfolding commandStepCall
-  step-telling = record { plain = refl; differs = differ; same = same-else }
+pub step-telling : (d : Device) (io : List ℕ) → Telling d io
+unfolding commandStepCall
+step-telling d io = record { plain = refl; differs = differ d io; same = same-else d io }

@@ -223,9 +223,9 @@ module _ (r io was : List ℕ) where
   unfolding commandStepToldOn word
   no-flag x h = rw (lt-leb x 1 h)
 
-  -- The plain step is the one that is told 1.
-  pub plain-told : commandStepOn r io was ≡ commandStepToldOn 1 r io was
-  unfolding commandStepOn commandStepToldOn
-  plain-told = refl
+-- The plain step is the one that is told 1.
+pub plain-told : (r io was : List ℕ) → commandStepOn r io was ≡ commandStepToldOn 1 r io was
+unfolding commandStepOn commandStepToldOn
+plain-told r io was = refl
 
 pub ruleset ways = (long-then, no-record, a-record, long, block-fits, shows-block, tells-lun, decodes-block, command-wrong, step-wrong, command-refused, step-refused, command-none, command-shown, step-none, step-empty, step-offered, plainly, told, no-flag)

@@ -1,5 +1,5 @@
 -- These laws are about a command as six numbers: what each way through a function owes (`ways`). Assumes nothing.
-use mathlib.Core.Path.{_≡_, sym, ap, _∙_}
+use mathlib.Core.Path.{_≡_, refl, sym, ap, _∙_}
 use mathlib.Core.Bool.{Bool}
 use mathlib.Core.List.{List}
 use Prim.Native.Nat.{ℕ, _≤_, _<_}
@@ -46,5 +46,10 @@ told was block x h e = rw (le-leb x 1 h) e
 pub no-flag : (was block : List ℕ) (x : ℕ) → 1 < x → decodeOutcome 10 was ≡ shownTold x block was
 unfolding shownTold
 no-flag was block x h = rw (lt-leb x 1 h)
+
+-- The plain entry is the one that is told 1.
+pub plain-told : (block was : List ℕ) → shownDecode block was ≡ shownTold 1 block was
+unfolding shownDecode shownTold plainCall
+plain-told block was = refl
 
 pub ruleset ways = (six-stored, put-in, not-six, decodes, decodes-nothing, plainly, told, no-flag)
