@@ -28,8 +28,8 @@ starred =
     ∷ plain (0x1A ∷ 0x08 ∷ 0xBF ∷ 0x00 ∷ 0xC0 ∷ []) (ModeSense6 true DefaultValues 63 0 192)
     ∷ []
 
--- These cases are ours. Rows are tried at their shortest length, and some with a byte less; in most of them the
--- bytes show the place and the order of each field.
+-- These cases are ours. With the starred ones each row is tried at its shortest length and with a byte less; in most of them the bytes
+-- show the place and the order of each field.
 unfoldable pub ours : List Case
 ours =
     -- "four bytes: Unknown"
@@ -37,11 +37,15 @@ ours =
     ∷ plain (0x00 ∷ []) TestUnitReady
     ∷ plain (0x03 ∷ 0x01 ∷ 2 ∷ 3 ∷ 4 ∷ []) (RequestSense true 4)
     ∷ plain (0x03 ∷ 0xFE ∷ 2 ∷ 3 ∷ []) (Unknown 0x03)
+    ∷ plain (0x1A ∷ replicate 3 0) (Unknown 0x1A)
     ∷ plain (0x23 ∷ 1 ∷ 2 ∷ 3 ∷ 4 ∷ 5 ∷ 6 ∷ 1 ∷ 2 ∷ []) (ReadFormatCapacities 258)
+    ∷ plain (0x23 ∷ replicate 7 0) (Unknown 0x23)
     ∷ plain (0x25 ∷ []) ReadCapacity10
+    ∷ plain (0x28 ∷ replicate 7 0) (Unknown 0x28)
     ∷ plain (0x2A ∷ 1 ∷ 0 ∷ 0 ∷ 1 ∷ 2 ∷ 6 ∷ 1 ∷ 2 ∷ []) (Write 258 258)
     ∷ plain (0x2A ∷ replicate 7 0) (Unknown 0x2A)
     ∷ plain (0x5A ∷ 0xF7 ∷ 0xFF ∷ 3 ∷ 4 ∷ 5 ∷ 6 ∷ 1 ∷ 2 ∷ []) (ModeSense10 false SavedValues 63 3 258)
+    ∷ plain (0x5A ∷ replicate 7 0) (Unknown 0x5A)
     ∷ plain (0x9E ∷ replicate 9 0xFF ++ (0 ∷ 0 ∷ 1 ∷ 2 ∷ [])) (ReadCapacity16 258)
     ∷ plain (0x9E ∷ replicate 12 0) (Unknown 0x9E)
     -- A block may be longer than 16 bytes.
