@@ -1,4 +1,5 @@
--- Document 01, 'Answer numbers': each answer by its number, with the number that it carries. Assumes nothing: these are definitions.
+-- Document 01, 'Answer numbers': each answer by its number, with what it carries and what is missing. Assumes nothing: these are
+-- definitions.
 use Prim.Native.Nat.{ℕ}
 use mathlib.Core.Bool.{Bool, true, false, cond}
 use lib.Dec.{eqb}
@@ -9,26 +10,36 @@ use Rattle.answers.specs.declared.Answer.the-variants.{Done, IoBufferOve
 use Rattle.answers.specs.declared.Stalls.{Stalls}
 use Rattle.answers.specs.declared.Stalls.the-variants.{Kept, Stalled, Unstalled, UnstalledStalled}
 
--- An answer of the table has `number`, its number, and `carried`, the number that it carries, 0 if it carries none.
+-- An answer of the table has `number`, its number, `carried`, the number of the endpoint's error that it carries, 0 if it carries none, and
+-- `missing`, the number of bytes of room that are missing. Document 02, request 5: "It is bytes wanted less room after the move with
+-- answer 1, and 0 with every other."
 pub record Answering : Type 0 where
   pub number : ℕ
   pub carried : ℕ
+  pub missing : ℕ
 
--- This is the answer with the number `n` that carries nothing.
+-- This is the answer with the number `n` that carries nothing, and with which nothing is missing.
 abbrev pub answer : ℕ → Answering
-answer n = record { number = n; carried = 0 }
+answer n = record { number = n; carried = 0; missing = 0 }
 
--- This is the table's number for each answer of the code. "7 other endpoint error, its number carried": `n`
--- is that number, and no other answer carries one.
+-- This is the answer 1: `n` bytes of room are missing.
+abbrev pub lacking : ℕ → Answering
+lacking n = record { number = 1; carried = 0; missing = n }
+
+-- This is the answer 7, "other endpoint error, its number carried": `n` is that number.
+abbrev pub failing : ℕ → Answering
+failing n = record { number = 7; carried = n; missing = 0 }
+
+-- This is the table's number for each answer of the code.
 abbrev pub answerOf : Answer → Answering
 answerOf Done = answer 0
-answerOf IoBufferOverflow = answer 1
+answerOf (IoBufferOverflow n) = lacking n
 answerOf InvalidMaxLun = answer 2
 answerOf InvalidState = answer 3
 answerOf FullPacketExpected = answer 4
 answerOf BufferTooSmall = answer 5
 answerOf WouldBlock = answer 6
-answerOf (EndpointError n) = record { number = 7; carried = n }
+answerOf (EndpointError n) = failing n
 answerOf PacketSizeRefused = answer 8
 answerOf BufferTooLarge = answer 9
 answerOf BrokenRecord = answer 10
@@ -51,7 +62,7 @@ serves (Failed n) = false
 abbrev pub answeredBy : Endpoint → Answering
 answeredBy Served = answer 0
 answeredBy Busy = answer 6
-answeredBy (Failed n) = record { number = 7; carried = n }
+answeredBy (Failed n) = failing n
 
 -- This is asked of both endpoints: the first argument says whether to unstall them, and the second whether to stall them after that. In the
 -- lines of `bench` the four cases are `-`, `S`, `U` and `US`.

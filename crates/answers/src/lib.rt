@@ -9,10 +9,11 @@ pub enum Endpoint {
     Failed(u8),
 }
 
-// These are document 01's answers 0 to 13, in its order. Only EndpointError carries a number, that of the endpoint's error.
+// These are document 01's answers 0 to 13, in its order. EndpointError carries the number of the endpoint's error, and IoBufferOverflow says
+// how many bytes of room are missing.
 pub enum Answer {
     Done,
-    IoBufferOverflow,
+    IoBufferOverflow(usize),
     InvalidMaxLun,
     InvalidState,
     FullPacketExpected,
@@ -41,7 +42,7 @@ pub fn answer_number(answer: Answer) -> u8
 {
     match answer {
         Answer::Done => 0,
-        Answer::IoBufferOverflow => 1,
+        Answer::IoBufferOverflow(_) => 1,
         Answer::InvalidMaxLun => 2,
         Answer::InvalidState => 3,
         Answer::FullPacketExpected => 4,
@@ -63,13 +64,35 @@ pub fn carried(answer: Answer) -> u8
 {
     match answer {
         Answer::Done => 0,
-        Answer::IoBufferOverflow => 0,
+        Answer::IoBufferOverflow(_) => 0,
         Answer::InvalidMaxLun => 0,
         Answer::InvalidState => 0,
         Answer::FullPacketExpected => 0,
         Answer::BufferTooSmall => 0,
         Answer::WouldBlock => 0,
         Answer::EndpointError(number) => number,
+        Answer::PacketSizeRefused => 0,
+        Answer::BufferTooLarge => 0,
+        Answer::BrokenRecord => 0,
+        Answer::PacketRefused => 0,
+        Answer::StatusRefused => 0,
+        Answer::EmptyBlock => 0,
+    }
+}
+
+// Gives the number of bytes of room that are missing with `answer`, and 0 with every other answer than IoBufferOverflow.
+pub fn missing(answer: Answer) -> usize
+    ensures { λ r. ⌜ r ≡ answerOf answer .missing ⌝ }
+{
+    match answer {
+        Answer::Done => 0,
+        Answer::IoBufferOverflow(bytes) => bytes,
+        Answer::InvalidMaxLun => 0,
+        Answer::InvalidState => 0,
+        Answer::FullPacketExpected => 0,
+        Answer::BufferTooSmall => 0,
+        Answer::WouldBlock => 0,
+        Answer::EndpointError(_) => 0,
         Answer::PacketSizeRefused => 0,
         Answer::BufferTooLarge => 0,
         Answer::BrokenRecord => 0,

@@ -1,11 +1,11 @@
 -- One table of cases of polls, document 01's and ours. proofs/Cases.antt states that each of them holds. Assumes nothing.
-use mathlib.Core.List.{List, [], _∷_}
+use mathlib.Core.List.{List, [], _∷_, _++_}
 use Prim.Native.Nat.{ℕ}
 use lib.ListN.{replicate, take, drop}
 use Rattle.fields.specs.Case.{Case, case}
 use Rattle.buffer.specs.Buffer as buffer
 use Rattle.answers.specs.declared.Stalls.the-variants.{Stalled, Unstalled}
-use Rattle.answers.specs.Answers.{answerOf, answer}
+use Rattle.answers.specs.Answers.{answerOf, answer, lacking, failing}
 use Rattle.ring.specs.declared.State.{State}
 use Rattle.ring.specs.declared.State.the-variants.{CommandTransferInvalid, DataTransferNoData, StatusTransfer, DataTransferToHost, DataTransferToHostStatusAwait, DataTransferToHostEnding, DataTransferFromHost}
 use Rattle.ring.specs.States.{stateNumber}
@@ -106,7 +106,7 @@ ours =
     -- 5: the status is written into the emptied buffer and sent at once. The number of a failing endpoint is carried.
     ∷ case (pollAnswered (deviceIn DataTransferToHostStatusAwait passed 2 5 0) 0 0 0 .packet) (0x55 ∷ 0x53 ∷ 0x42 ∷ 0x53 ∷ 1 ∷ 0 ∷ 0 ∷ 0 ∷ [])
     ∷ case (pollLineOf (pollAnswered (deviceIn DataTransferToHostStatusAwait passed 2 5 0) 0 0 0)) (pollLine 0 3 0 5 0 8)
-    ∷ case (pollAnswered (deviceIn DataTransferToHostStatusAwait passed 2 5 0) 0 0 9 .answer) (record { number = 7; carried = 9 })
+    ∷ case (pollAnswered (deviceIn DataTransferToHostStatusAwait passed 2 5 0) 0 0 9 .answer) (failing 9)
     -- 6: the buffer is filled up to min(left, P) bytes. After a busy poll it is not filled again.
     ∷ case (pollAnswered (deviceIn DataTransferToHostEnding passed 6 8 5) 0 0 0 .packet) (7 ∷ 8 ∷ 0xFF ∷ 0xFF ∷ 0xFF ∷ replicate 3 7)
     ∷ case (pollLineOf (pollAnswered (deviceIn DataTransferToHostEnding passed 6 8 5) 0 0 1)) (pollLine 6 6 5 5 0 0)
@@ -116,6 +116,12 @@ ours =
     ∷ case (pollLineOf (pollAnswered (deviceIn DataTransferFromHost passed 0 3 20) 0 0 0)) (pollLine 0 8 19 1 1 0)
     ∷ case (pollLineOf (pollAnswered (deviceIn DataTransferNoData Absent 0 3 20) 0 0 0)) (pollLine 0 5 20 3 0 0)
     ∷ case (pollLineOf (pollCall (newDevice (fixed 64 0 128)) (replicate 128 0) (given (replicate 64 7) (wrapperFromHost 20) (10 ∷ 11 ∷ []) (record { first = 0; second = 0; write = 0 })))) (pollLine 0 7 18 2 2 0)
+    -- Room for P bytes is wanted, whatever the packet has and OUT does: in 7, and in 0 and then in 7 after the wrapper.
+    ∷ case (pollAnswered (deviceIn DataTransferFromHost Absent 0 36 20) 0 0 0 .answer) (lacking 4)
+    ∷ case (pollAnswered (deviceIn DataTransferFromHost Absent 0 36 20) 1 0 0 .answer) (lacking 4)
+    ∷ case (nextPoll (nextPoll (nextPoll (firstPoll 8 31 (replicate 8 0)) (replicate 8 0)) (replicate 8 0)) [] .answer) (lacking 1)
+    ∷ case (firstPoll 64 64 (wrapperFromHost 100 ++ replicate 33 0) .answer) (lacking 33)
+    ∷ case (pollLineOf (firstPoll 64 64 (wrapperFromHost 100 ++ replicate 33 0))) (pollLine 1 7 100 33 1 0)
     -- 11: the packet buffer is below P, or an offer is above P. 10 is checked before.
     ∷ case (pollCall (deviceIn DataTransferToHost Absent 0 8 8) io (given (replicate 7 7) [] [] (record { first = 0; second = 0; write = 0 })) .answer) (answer 11)
     ∷ case (pollCall (deviceIn DataTransferToHost Absent 0 8 8) io (given (replicate 8 7) [] (replicate 9 1) (record { first = 0; second = 0; write = 0 })) .answer) (answer 11)

@@ -1,5 +1,6 @@
 -- Document 01 on the lines of `bench`: "Fields per event, decimal: index, answer, state, left, unread, count .., stalls (`-`, `S`, `U`,
--- `US`), bytes in lower-case hex .. or `-`." Assumes nothing: these are definitions.
+-- `US`), bytes in lower-case hex .. or `-`." Document 02, request 5, adds a ninth field, the bytes missing. Assumes nothing: these are
+-- definitions.
 use Prim.Native.Nat.{ℕ, zero, suc, _+_, _/_, _%_}
 use mathlib.Core.Bool.{cond}
 use mathlib.Core.List.{List, [], _∷_, _++_}
@@ -66,6 +67,10 @@ bytesText (b ∷ bs) = hex (b ∷ bs)
 unfoldable pub fieldsText : Line → List ℕ
 fieldsText l = numbersText l ++ stallsText (l .stalls) ++ (space ∷ [])
 
+-- "`bench` shows it as a ninth field": the end of a line, after its bytes, where `missing` bytes of room are missing.
+unfoldable pub endText : ℕ → List ℕ
+endText missing = (space ∷ []) ++ decimal missing ++ (newline ∷ [])
+
 -- The whole text of the line `l` with the bytes `bytes`.
 unfoldable pub lineOf : Line → List ℕ → List ℕ
-lineOf l bytes = fieldsText l ++ bytesText bytes ++ (newline ∷ [])
+lineOf l bytes = fieldsText l ++ bytesText bytes ++ endText (l .missing)

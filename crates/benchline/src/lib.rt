@@ -4,7 +4,7 @@ use answers::Stalls;
 ghost use mathlib.Core.Path.{_≡_};
 ghost use Prim.Native.Nat.{_+_, _≤_, _<_};
 ghost use lib.ListN.{length};
-ghost use Rattle.benchline.specs.Line.{digit, decimal, numberText, numbersText, stallsText, fieldsText, hex, bytesText, lineOf};
+ghost use Rattle.benchline.specs.Line.{digit, decimal, numberText, numbersText, stallsText, fieldsText, hex, bytesText, endText, lineOf};
 ghost use Rattle.benchline.specs.Inner.Line.{numbersLength, roomFor, Puts};
 
 // Everything that a line tells apart from its bytes.
@@ -16,6 +16,7 @@ pub struct Line {
     pub unread: usize,
     pub count: usize,
     pub stalls: Stalls,
+    pub missing: usize,
 }
 
 // Puts `n` in decimal at the index `at`.
@@ -128,6 +129,17 @@ fn put_bytes(text: &mut [u8], at: usize, bytes: &[u8]) -> usize
     put_hex(text, at, bytes)
 }
 
+// Puts the end of a line at the index `at`: a space, `missing` in decimal, and the end itself.
+fn put_end(text: &mut [u8], at: usize, missing: usize) -> usize
+    requires { ⌜ at + length (endText missing) ≤ length (now text) ⌝ }
+    ensures { λ r. ⌜ Puts at (endText missing) (now (text .entry)) (now (text .exit)) r ⌝ }
+{
+    text[at] = b' ';
+    let end = put_decimal(text, at + 1, missing as u64);
+    text[end] = b'\n';
+    end + 1
+}
+
 // Puts the whole line at the front of `text`, and returns its length.
 pub fn put_line(l: Line, bytes: &[u8], text: &mut [u8]) -> usize
     requires { ⌜ roomFor (length (now bytes)) ≤ length (now text) ⌝ }
@@ -135,6 +147,5 @@ pub fn put_line(l: Line, bytes: &[u8], text: &mut [u8]) -> usize
 {
     let at = put_fields(text, l);
     let end = put_bytes(text, at, bytes);
-    text[end] = b'\n';
-    end + 1
+    put_end(text, end, l.missing)
 }

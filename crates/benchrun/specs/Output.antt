@@ -28,7 +28,7 @@ laterLines index (e ∷ es) d io lent =
 -- dashes, and the run ends." The IO buffer is the front of `space`, as long as the creation asks for; `lent` are the lent bytes.
 unfoldable pub creationLines : Creation → List (List ℕ) → List ℕ → List ℕ → List ℕ
 creationLines c es space lent =
-    lineText 0 (c .device) (c .answer .number) 0 Kept []
+    lineText 0 (c .device) (c .answer) 0 Kept []
     ++ cond (eqb (c .answer .number) 0) (laterLines 1 es (c .device) (take (c .device .fixed .size) space) lent) []
 
 -- The lines of a good file with these events. "a file of none is good and prints nothing"

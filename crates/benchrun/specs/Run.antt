@@ -9,6 +9,7 @@ use Rattle.fields.specs.Overlay.{overlay}
 use Rattle.fields.specs.Field.{get}
 use Rattle.answers.specs.declared.Stalls.{Stalls}
 use Rattle.answers.specs.declared.Stalls.the-variants.{Kept}
+use Rattle.answers.specs.Answers.{Answering}
 use Rattle.ring.specs.States.{stateNumber}
 use Rattle.device.specs.declared.Device.{Device}
 use Rattle.device.specs.Create.{fixed, Creation, noDevice, createCall}
@@ -22,18 +23,18 @@ use Rattle.benchrun.specs.declared.step.Run.{Run}
 
 -- ---- the line
 
--- "index, answer, state, left, unread, count .., stalls": the line of the event with the index `index`. `answer`, `count` and `stalls`
--- are what the event told; the other fields are read from the device `d` as the event leaves it.
-unfoldable pub fieldsOf : ℕ → Device → ℕ → ℕ → Stalls → Line
-fieldsOf index d answer count stalls = record { index = index; answer = answer; state = stateNumber (d .state); left = d .left .0; unread = d .marks .write - d .marks .read; count = count; stalls = stalls }
+-- "index, answer, state, left, unread, count .., stalls", and the bytes missing: the line of the event with the index `index`. The answer
+-- `a`, `count` and `stalls` are what the event told; the other fields are read from the device `d` as the event leaves it.
+unfoldable pub fieldsOf : ℕ → Device → Answering → ℕ → Stalls → Line
+fieldsOf index d a count stalls = record { index = index; answer = a .number; state = stateNumber (d .state); left = d .left .0; unread = d .marks .write - d .marks .read; count = count; stalls = stalls; missing = a .missing }
 
 -- The text of that line, with the bytes `bytes`.
-unfoldable pub lineText : ℕ → Device → ℕ → ℕ → Stalls → List ℕ → List ℕ
-lineText index d answer count stalls bytes = lineOf (fieldsOf index d answer count stalls) bytes
+unfoldable pub lineText : ℕ → Device → Answering → ℕ → Stalls → List ℕ → List ℕ
+lineText index d a count stalls bytes = lineOf (fieldsOf index d a count stalls) bytes
 
 -- The text of the line of the event with the index `index`, which left and told `a`. The first of the lent bytes are shown.
 unfoldable pub lineOfActing : ℕ → Acting → List ℕ
-lineOfActing index a = lineText index (a .device) (a .answer .number) (a .count) (a .stalls) (take (a .shown) (a .lent))
+lineOfActing index a = lineText index (a .device) (a .answer) (a .count) (a .stalls) (take (a .shown) (a .lent))
 
 -- ---- the first event
 
@@ -59,8 +60,8 @@ creationOfBody body = createCall (fixed (get packetSize body) (get maxLun body) 
 -- two dashes, and the run ends." The next event stands at the offset 10.
 unfoldable pub beginningOfCreation : Creation → List ℕ → Beginning
 beginningOfCreation c text = beginningOf
-    (record { device = c .device; at = 10; index = 1; line = length (lineText 0 (c .device) (c .answer .number) 0 Kept []); going = eqb (c .answer .number) 0 })
-    (overlay text 0 (lineText 0 (c .device) (c .answer .number) 0 Kept []))
+    (record { device = c .device; at = 10; index = 1; line = length (lineText 0 (c .device) (c .answer) 0 Kept []); going = eqb (c .answer .number) 0 })
+    (overlay text 0 (lineText 0 (c .device) (c .answer) 0 Kept []))
 
 -- What the first of the events `events` leaves where the text buffer is `text`. Where no event stands there, the run ends with no device
 -- and no line.

@@ -1,6 +1,7 @@
 // One event of a run, and its line. The first event creates the device, and each later one acts on it.
 use answers::Stalls;
 use answers::answer_number;
+use answers::missing;
 use benchact::Acted;
 use benchact::act;
 use benchfile::event::event_at;
@@ -49,7 +50,7 @@ fn unread(marks: Marks) -> usize
 
 // The fields of the line with the index `index`, for an event that left and told `a`.
 fn fields_of(index: usize, a: Acted) -> Line
-    ensures { λ r. ⌜ r ≡ fieldsOf index (a .device) (answerOf (a .answer) .number) (a .count) (a .stalls) ⌝ }
+    ensures { λ r. ⌜ r ≡ fieldsOf index (a .device) (answerOf (a .answer)) (a .count) (a .stalls) ⌝ }
 {
     let d = a.device;
     let state = d.state;
@@ -65,6 +66,7 @@ fn fields_of(index: usize, a: Acted) -> Line
         unread: unread(marks),
         count: a.count,
         stalls: stalls,
+        missing: missing(answer),
     }
 }
 
@@ -72,7 +74,7 @@ fn fields_of(index: usize, a: Acted) -> Line
 // bytes.
 fn tell(index: usize, a: Acted, lent: &[u8], text: &mut [u8]) -> usize
     requires { ⌜ roomFor (length (now lent)) ≤ length (now text) ⌝ }
-    ensures { λ r. ⌜ Puts 0 (lineText index (a .device) (answerOf (a .answer) .number) (a .count) (a .stalls) (take (a .shown) (now (lent .entry)))) (now (text .entry)) (now (text .exit)) r ⌝ }
+    ensures { λ r. ⌜ Puts 0 (lineText index (a .device) (answerOf (a .answer)) (a .count) (a .stalls) (take (a .shown) (now (lent .entry)))) (now (text .entry)) (now (text .exit)) r ⌝ }
 {
     let n = least(a.shown, lent.len());
     put_line(fields_of(index, a), &lent[..n], text)

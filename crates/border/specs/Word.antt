@@ -1,8 +1,12 @@
 -- A result of several parts in one number of 64 bits: bits 0 to 7 are the answer, 8 to 15 the number carried or a LUN, 16 to 23 what is
--- asked of both endpoints, 24 to 31 a flag or the number of OUT packets taken, 32 to 63 a count. Assumes nothing: these are definitions.
-use Prim.Native.Nat.{ℕ, _+_, _*_}
+-- asked of both endpoints, 24 to 31 a flag or the number of OUT packets taken, 32 to 63 a count or the bytes missing. Assumes nothing: these
+-- are definitions.
+use Prim.Native.Nat.{ℕ, _+_, _*_, min}
+use mathlib.Core.Bool.{cond}
+use lib.Dec.{eqb}
 use Rattle.answers.specs.declared.Stalls.{Stalls}
 use Rattle.answers.specs.declared.Stalls.the-variants.{Kept, Stalled, Unstalled, UnstalledStalled}
+use Rattle.answers.specs.Answers.{Answering}
 
 -- The five parts are put into one number.
 unfoldable pub word : ℕ → ℕ → ℕ → ℕ → ℕ → ℕ
@@ -14,6 +18,11 @@ stallsNumber Kept = 0
 stallsNumber Stalled = 1
 stallsNumber Unstalled = 2
 stallsNumber UnstalledStalled = 3
+
+-- Bits 32 to 63 of a call that answers `a`: the `count`, or with answer 1, where there is nothing to count, the bytes missing. Where more
+-- than 2^32 - 1 bytes are missing, this number stands for them.
+unfoldable pub upperHalf : Answering → ℕ → ℕ
+upperHalf a count = cond (eqb (a .number) 1) (min (a .missing) 4294967295) count
 
 -- This is a word with an `answer` and nothing else.
 abbrev pub answerWord : ℕ → ℕ

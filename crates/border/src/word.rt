@@ -1,6 +1,12 @@
 // A result of several parts in one number of 64 bits; specs/Word.antt says which bits each part has.
+use answers::Answer;
 use answers::Stalls;
+use answers::answer_number;
+use answers::missing;
+use fields::least;
+use recordbytes::store;
 ghost use mathlib.Core.Path.{_≡_};
+ghost use Rattle.answers.specs.Answers.{answerOf};
 ghost use Rattle.border.specs.Word as spec;
 
 // This number says what is asked of both endpoints.
@@ -13,6 +19,16 @@ pub fn stalls_number(stalls: Stalls) -> u8
         Stalls::Unstalled => 2,
         Stalls::UnstalledStalled => 3,
     }
+}
+
+// Bits 32 to 63 of a result: the `count`, or how many bytes of room are missing.
+pub fn upper_half(answer: Answer, count: u32) -> u32
+    ensures { λ x. ⌜ x ≡ spec.upperHalf (answerOf answer) count ⌝ }
+{
+    if answer_number(answer) == 1 {
+        return store::narrow(least(missing(answer), 4294967295));
+    }
+    count
 }
 
 // The five parts are put into one number.

@@ -68,6 +68,11 @@ filled v n s = appended (replicate (fitting n s) v) (withRoom n s)
 unfoldable pub lacksRoom : ℕ → Buffer → Bool
 lacksRoom n s = ltb (room (withRoom n s)) n
 
+-- "bytes wanted less room after the move" (02, request 5): this many bytes of room are missing in `s` for the `n` bytes that are asked for.
+-- If these fit, none are: a difference of ℕ is 0 where it would be below 0.
+unfoldable pub missing : ℕ → Buffer → ℕ
+missing n s = n - room (withRoom n s)
+
 -- `write_all` asks for room in `s` for the larger of `want` (a packet may have that many bytes) and the length of `ys`. If there is too
 -- little, nothing is written, but the move stays; otherwise all of `ys` is appended.
 unfoldable pub writtenAll : ℕ → List ℕ → Buffer → Buffer

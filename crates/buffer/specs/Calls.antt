@@ -5,26 +5,32 @@ use mathlib.Core.Bool.{cond}
 use mathlib.Core.List.{List}
 use lib.ListN.{length}
 use Rattle.fields.specs.Overlay.{overlay}
-use Rattle.buffer.specs.Buffer.{Buffer, buffer, isSound, unread, moved, fitting, written, filled, lacksRoom, writtenAll, ready, readyBytes, readOff, emptied}
+use Rattle.buffer.specs.Buffer.{Buffer, buffer, isSound, unread, moved, fitting, written, filled, lacksRoom, missing, writtenAll, ready, readyBytes, readOff, emptied}
 use Rattle.buffer.specs.declared.Marks.{Marks}
 use Rattle.buffer.specs.declared.Answer.{Answer}
 use Rattle.buffer.specs.declared.Answer.the-variants.{Done, Overflow, Broken}
 
 -- A call has this outcome: `answer` is the number of 01's table, `count` is how many bytes the call took,
--- gave or found, and `leaves` is the buffer after it.
+-- gave or found, `missing` is how many bytes of room it lacked, and `leaves` is the buffer after it.
 pub record Answering : Type 0 where
   pub answer : ℕ
   pub count : ℕ
+  pub missing : ℕ
   pub leaves : Buffer
 
+-- This is the outcome of a call that lacked no room.
 abbrev pub answering : ℕ → ℕ → Buffer → Answering
-answering answer count leaves = record { answer = answer; count = count; leaves = leaves }
+answering answer count leaves = record { answer = answer; count = count; missing = 0; leaves = leaves }
+
+-- This is the outcome of a call that lacked `n` bytes of room: the answer is 1, and nothing was taken.
+abbrev pub lacking : ℕ → Buffer → Answering
+lacking n leaves = record { answer = 1; count = 0; missing = n; leaves = leaves }
 
 -- This is the outcome that each answer of the code stands for. `m` are the marks at the call, and `b` are the bytes after it; an answer
--- carries the marks `t` after the call, and the count `n` where there is one.
+-- carries the marks `t` after the call, and `n`, the count or the bytes missing.
 abbrev pub answerOf : Marks → Answer → List ℕ → Answering
 answerOf m (Done n t) b = answering 0 n (buffer b t)
-answerOf m (Overflow t) b = answering 1 0 (buffer b t)
+answerOf m (Overflow n t) b = lacking n (buffer b t)
 answerOf m Broken b = answering 10 0 (buffer b m)
 
 -- "Broken means: .. read mark above write mark or write mark above the length": if `s` is broken this is `refused`, otherwise `done`.
@@ -56,12 +62,13 @@ unfoldable pub fillCall : ℕ → ℕ → Buffer → Answering
 fillCall v n s = checked s (answering 0 (fitting n s) (filled v n s))
 
 -- `write_all` takes all of `ys` into `s`, and the count is their number; or it answers 1, because
--- "room, after moving, is below P (packet read) or the source". `want` is that P where a packet is read, and the source is `ys`.
+-- "room, after moving, is below P (packet read) or the source", and says how much is missing. `want` is that P where a packet is read, and
+-- the source is `ys`.
 unfoldable pub writeAllCall : ℕ → List ℕ → Buffer → Answering
 writeAllCall want ys s =
     checked s
     (cond (lacksRoom (max want (length ys)) s)
-    (answering 1 0 (writtenAll want ys s))
+    (lacking (missing (max want (length ys)) s) (writtenAll want ys s))
     (answering 0 (length ys) (writtenAll want ys s)))
 
 -- `read` gives bytes of `s` to a destination of `n` bytes, and counts them.

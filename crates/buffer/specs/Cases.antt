@@ -5,7 +5,7 @@ use lib.ListN.{length, replicate}
 use Rattle.fields.specs.Case.{Case}
 use Rattle.fields.specs.Case as table-of
 use Rattle.buffer.specs.Buffer.{Buffer, buffer, at}
-use Rattle.buffer.specs.Calls.{Answering, answering, availableCall, cleanCall, shiftCall, writeCall, writeAllCall, fillCall, readCall, readInto}
+use Rattle.buffer.specs.Calls.{Answering, answering, lacking, availableCall, cleanCall, shiftCall, writeCall, writeAllCall, fillCall, readCall, readInto}
 
 -- A call of the buffer comes with its arguments. The argument of `read` is the destination as it is before the call.
 pub data Call : Type 0 where
@@ -39,6 +39,10 @@ after (read d) s = seen (readCall (length d) s) (readInto d s)
 abbrev callCase : List ℕ → ℕ → ℕ → Call → ℕ → ℕ → List ℕ → ℕ → ℕ → Case
 callCase b r w c n k b′ r′ w′ = table-of.case (after c (buffer b (at r w))) (seen (answering n k (buffer b′ (at r′ w′))) [])
 
+-- This is a case of a call that is refused with 1: `n` bytes of room are missing.
+abbrev lackingCase : List ℕ → ℕ → ℕ → Call → ℕ → List ℕ → ℕ → ℕ → Case
+lackingCase b r w c n b′ r′ w′ = table-of.case (after c (buffer b (at r w))) (seen (lacking n (buffer b′ (at r′ w′))) [])
+
 -- This is a case of `read`. On the bytes `b` with the marks `r` and `w`, a read into the destination `d` answers the number `n` with the
 -- count `k`, and leaves the bytes as they were, the marks `r′` and `w′`, and the destination `d′`.
 abbrev reading : List ℕ → ℕ → ℕ → List ℕ → ℕ → ℕ → ℕ → ℕ → List ℕ → Case
@@ -64,13 +68,17 @@ table =
     ∷ callCase (1 ∷ 2 ∷ 3 ∷ []) 3 3 (fillUpTo 255 2) 0 2 (255 ∷ 255 ∷ 3 ∷ []) 0 2
     ∷ callCase (1 ∷ 2 ∷ 3 ∷ []) 1 2 (fillUpTo 255 9) 0 2 (2 ∷ 255 ∷ 255 ∷ []) 0 3
     -- Room for 3 bytes is asked for; after the move, which stays, there is room for 2. Room for 2 bytes is there.
-    ∷ callCase (1 ∷ 2 ∷ 3 ∷ []) 1 2 (writeAll 3 (9 ∷ [])) 1 0 (2 ∷ 2 ∷ 3 ∷ []) 0 1
+    ∷ lackingCase (1 ∷ 2 ∷ 3 ∷ []) 1 2 (writeAll 3 (9 ∷ [])) 1 (2 ∷ 2 ∷ 3 ∷ []) 0 1
     ∷ callCase (1 ∷ 2 ∷ 3 ∷ []) 1 2 (writeAll 2 (9 ∷ [])) 0 1 (2 ∷ 9 ∷ 3 ∷ []) 0 2
     -- Room is asked for the source alone, which does not fit. A busy endpoint asks for room, and gives no byte.
-    ∷ callCase (1 ∷ 2 ∷ 3 ∷ []) 0 2 (writeAll 0 (8 ∷ 9 ∷ [])) 1 0 (1 ∷ 2 ∷ 3 ∷ []) 0 2
+    ∷ lackingCase (1 ∷ 2 ∷ 3 ∷ []) 0 2 (writeAll 0 (8 ∷ 9 ∷ [])) 1 (1 ∷ 2 ∷ 3 ∷ []) 0 2
     ∷ callCase (1 ∷ 2 ∷ 3 ∷ []) 1 2 (writeAll 2 []) 0 0 (2 ∷ 2 ∷ 3 ∷ []) 0 1
-    -- "Buffer 31, P 8: after 24 bytes the next poll gives 1"
-    ∷ callCase (replicate 31 7) 0 24 (writeAll 8 (1 ∷ 2 ∷ 3 ∷ 4 ∷ 5 ∷ 6 ∷ 7 ∷ [])) 1 0 (replicate 31 7) 0 24
+    -- "Buffer 31, P 8: after 24 bytes the next poll gives 1": one byte is missing.
+    ∷ lackingCase (replicate 31 7) 0 24 (writeAll 8 (1 ∷ 2 ∷ 3 ∷ 4 ∷ 5 ∷ 6 ∷ 7 ∷ [])) 1 (replicate 31 7) 0 24
+    -- The larger of the two is wanted, 9 bytes and then 6; there is room for 3. In a full buffer all that is wanted is missing.
+    ∷ lackingCase (1 ∷ 2 ∷ 3 ∷ 4 ∷ []) 2 3 (writeAll 9 (8 ∷ [])) 6 (3 ∷ 2 ∷ 3 ∷ 4 ∷ []) 0 1
+    ∷ lackingCase (1 ∷ 2 ∷ 3 ∷ 4 ∷ []) 2 3 (writeAll 2 (4 ∷ 5 ∷ 6 ∷ 7 ∷ 8 ∷ 9 ∷ [])) 3 (3 ∷ 2 ∷ 3 ∷ 4 ∷ []) 0 1
+    ∷ lackingCase (1 ∷ 2 ∷ []) 0 2 (writeAll 8 []) 8 (1 ∷ 2 ∷ []) 0 2
     -- Fewer bytes are unread than the destination holds, and then more.
     ∷ reading (1 ∷ 2 ∷ 3 ∷ []) 1 3 (7 ∷ 7 ∷ 7 ∷ []) 0 2 3 3 (2 ∷ 3 ∷ 7 ∷ [])
     ∷ reading (1 ∷ 2 ∷ 3 ∷ []) 0 3 (7 ∷ []) 0 1 1 3 (1 ∷ [])

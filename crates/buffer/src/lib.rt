@@ -19,8 +19,8 @@ pub struct Marks {
 pub enum Answer {
     // The call is done: it took, gave or found this many bytes, and the marks after it are these.
     Done(usize, Marks),
-    // The room, after the move, is below what was asked for. The move stays, so there are new marks.
-    Overflow(Marks),
+    // The room, after the move, is below what was asked for: this many bytes of room are missing. The move stays, so there are new marks.
+    Overflow(usize, Marks),
     // The marks are out of order or past the bytes.
     Broken,
 }
@@ -86,10 +86,10 @@ pub fn write_all(io: &mut [u8], m: Marks, want: usize, src: &[u8]) -> Answer
     if sound(io.len(), m) {
         let p = marked::write_all(io, m, want, src);
         let t = p.marks;
-        if p.done {
+        if p.missing == 0 {
             return Answer::Done(src.len(), t);
         }
-        return Answer::Overflow(t);
+        return Answer::Overflow(p.missing, t);
     }
     Answer::Broken
 }

@@ -6,10 +6,9 @@ use crate::span::move_front;
 use crate::span::put;
 use fields::least;
 ghost use mathlib.Core.Path.{_≡_};
-ghost use mathlib.Core.Bool.{not};
 ghost use Prim.Native.Nat.{_+_, _-_, _≤_, max};
 ghost use lib.ListN.{length};
-ghost use Rattle.buffer.specs.Buffer.{buffer, at, moved, withRoom, fitting, written, filled, lacksRoom, writtenAll, ready, readyBytes, readOff};
+ghost use Rattle.buffer.specs.Buffer.{buffer, at, moved, withRoom, fitting, written, filled, missing, writtenAll, ready, readyBytes, readOff};
 ghost use Rattle.buffer.specs.Inner.Buffer.{Sound, Leaves};
 ghost use Rattle.fields.specs.Overlay.{overlay};
 
@@ -19,9 +18,10 @@ pub struct Taken {
     pub marks: Marks,
 }
 
-// `done` says whether all bytes were taken, and `marks` are the marks after the call: a refusal keeps the move.
+// `missing` is how many bytes of room were missing: with 0 all bytes were taken, and else none. `marks` are the marks after the call: a
+// refusal keeps the move.
 pub struct Put {
-    pub done: bool,
+    pub missing: usize,
     pub marks: Marks,
 }
 
@@ -83,21 +83,22 @@ pub fn write(io: &mut [u8], m: Marks, src: &[u8]) -> Taken
 // Appends all of `src` to the unread bytes, or nothing. Room is asked for `want` bytes, and for all of `src`.
 pub fn write_all(io: &mut [u8], m: Marks, want: usize, src: &[u8]) -> Put
     requires { ⌜ Sound (buffer (now io) m) ⌝ }
-    ensures { λ r. ⌜ (r .done ≡ not (lacksRoom (max want (length (now (src .entry)))) (buffer (now (io .entry)) m)))
+    ensures { λ r. ⌜ (r .missing ≡ missing (max want (length (now (src .entry)))) (buffer (now (io .entry)) m))
         × Leaves (buffer (now (io .exit)) (r .marks)) (writtenAll want (now (src .entry)) (buffer (now (io .entry)) m)) ⌝ }
 {
     let need = greatest(want, src.len());
     let t = make_room(io, m, need);
     let at = t.write;
-    if io.len() - at < need {
+    let room = io.len() - at;
+    if room < need {
         return Put {
-            done: false,
+            missing: need - room,
             marks: t,
         };
     }
     put(io, at, src);
     Put {
-        done: true,
+        missing: 0,
         marks: Marks {
             read: t.read,
             write: at + src.len(),

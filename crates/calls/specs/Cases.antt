@@ -6,7 +6,7 @@ use lib.ListN.{replicate}
 use Rattle.fields.specs.Case.{Case, case}
 use Rattle.buffer.specs.Buffer.{at}
 use Rattle.answers.specs.declared.Stalls.the-variants.{Kept}
-use Rattle.answers.specs.Answers.{answer}
+use Rattle.answers.specs.Answers.{answer, lacking}
 use Rattle.wrapper.specs.declared.DataDirection.the-variants.{In}
 use Rattle.wrapper.specs.declared.status.CommandStatus.the-variants.{PhaseError}
 use Rattle.scsi.specs.declared.ScsiCommand.the-variants.{Unknown, Inquiry, Read}
@@ -75,9 +75,10 @@ table =
     ∷ case (writeDataCall (device DataTransferToHost 5) io (6 ∷ 7 ∷ 8 ∷ []) .bytes) (1 ∷ 2 ∷ 3 ∷ 4 ∷ 6 ∷ 7 ∷ replicate 26 5)
     ∷ case (writeDataAllCall (device DataTransferToHost 5) io (6 ∷ 7 ∷ 8 ∷ []) .count) 3
     ∷ case (writeDataAllCall (device DataTransferToHost 5) io (6 ∷ 7 ∷ 8 ∷ []) .device .marks) (at 1 7)
-    -- 29 bytes fit after the move, and 30 do not: the move stays.
+    -- 29 bytes fit after the move, and 30 do not: one byte is missing, and the move stays.
     ∷ case (writeDataAllCall (device DataTransferToHost 5) io (replicate 29 6) .bytes) (2 ∷ 3 ∷ 4 ∷ replicate 29 6)
-    ∷ case (writeDataAllCall (device DataTransferToHost 5) io (replicate 30 6) .answer) (answer 1)
+    ∷ case (writeDataAllCall (device DataTransferToHost 5) io (replicate 30 6) .answer) (lacking 1)
+    ∷ case (writeDataAllCall (device DataTransferToHost 5) io (replicate 100 6) .answer) (lacking 71)
     ∷ case (writeDataAllCall (device DataTransferToHost 5) io (replicate 30 6) .count) 0
     ∷ case (writeDataAllCall (device DataTransferToHost 5) io (replicate 30 6) .device .marks) (at 0 3)
     ∷ case (writeDataAllCall (device DataTransferToHost 5) io (replicate 30 6) .bytes) (2 ∷ 3 ∷ 4 ∷ 4 ∷ replicate 28 5)

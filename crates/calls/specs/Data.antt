@@ -4,8 +4,8 @@ use mathlib.Core.Bool.{cond}
 use mathlib.Core.List.{List}
 use lib.ListN.{length, take}
 use Rattle.fields.specs.Overlay.{overlay}
-use Rattle.buffer.specs.Buffer.{Buffer, fitting, written, lacksRoom, writtenAll, ready, readyBytes, readOff}
-use Rattle.answers.specs.Answers.{Answering, answer, answerOf}
+use Rattle.buffer.specs.Buffer.{Buffer, fitting, written, lacksRoom, missing, writtenAll, ready, readyBytes, readOff}
+use Rattle.answers.specs.Answers.{Answering, answer, lacking, answerOf}
 use Rattle.wrapper.specs.declared.counters.Left.{Left}
 use Rattle.device.specs.declared.Device.{Device}
 use Rattle.device.specs.Device.{withMarks}
@@ -60,9 +60,9 @@ abbrev pub writeDataCall : Device → List ℕ → List ℕ → Moving
 writeDataCall d io src = worksIn 4 d io io (writeIn d (bufferOf d io) (limited (d .left) src))
 
 -- All of `src` is written into the buffer `s`. If it does not fit, nothing is written, and the answer is 1: "room, after moving, is below
--- .. the source (`try_write_data_all`)"; "state and move reached stay".
+-- .. the source (`try_write_data_all`)"; "state and move reached stay". The answer says how much is missing for the source.
 unfoldable pub writeAllIn : Device → Buffer → List ℕ → Moving
-writeAllIn d s src = cond (lacksRoom (length src) s) (movingTo (answer 1) 0 d (writtenAll 0 src s)) (movingTo (answer 0) (length src) d (writtenAll 0 src s))
+writeAllIn d s src = cond (lacksRoom (length src) s) (movingTo (lacking (missing (length src) s)) 0 d (writtenAll 0 src s)) (movingTo (answer 0) (length src) d (writtenAll 0 src s))
 
 -- This is `try_write_data_all` from `src`, for any record `d` over any IO buffer `io`. "`try_write_data_all` in 4, not limited by `left`"
 abbrev pub writeDataAllCall : Device → List ℕ → List ℕ → Moving

@@ -243,11 +243,11 @@ pub fn try_write_data_all(device: Device, io: &mut [u8], src: &[u8]) -> Moved
         let marks = device.marks;
         let all = marked::write_all(io, marks, 0, src);
         let after = all.marks;
-        if all.done {
+        if all.missing == 0 {
             return left_at(device, after, Answer::Done, src.len());
         }
         // A refusal keeps the move.
-        return left_at(device, after, Answer::IoBufferOverflow, 0);
+        return left_at(device, after, Answer::IoBufferOverflow(all.missing), 0);
     }
     refused(device, Answer::InvalidState)
 }

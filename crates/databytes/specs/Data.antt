@@ -5,7 +5,7 @@ use mathlib.Core.List.{List}
 use Rattle.device.specs.declared.Device.{Device}
 use Rattle.calls.specs.Data.{Moving, readDataCall, writeDataCall, writeDataAllCall}
 use Rattle.recordbytes.specs.Record.{storeDevice}
-use Rattle.border.specs.Word.{word, answerWord}
+use Rattle.border.specs.Word.{word, upperHalf, answerWord}
 use Rattle.border.specs.Record.{onDevice}
 
 -- `result` is what the call returns, and `bytes` are the record's bytes as it leaves them. `into` is what the call may write to, as it
@@ -18,10 +18,10 @@ pub record DataOutcome : Type 0 where
 abbrev pub dataOutcome : ℕ → List ℕ → List ℕ → DataOutcome
 dataOutcome result bytes into = record { result = result; bytes = bytes; into = into }
 
--- What a call over the record's bytes `r` returns and leaves where the call by value gives `o`: answer and count are put into one
--- number, and the device is stored in `r`.
+-- What a call over the record's bytes `r` returns and leaves where the call by value gives `o`: answer and count, or the bytes missing, are
+-- put into one number, and the device is stored in `r`.
 abbrev pub dataOutcomeOf : List ℕ → Moving → DataOutcome
-dataOutcomeOf r o = dataOutcome (word (o .answer .number) 0 0 0 (o .count)) (storeDevice (o .device) r) (o .bytes)
+dataOutcomeOf r o = dataOutcome (word (o .answer .number) 0 0 0 (upperHalf (o .answer) (o .count))) (storeDevice (o .device) r) (o .bytes)
 
 -- `read_data` into the destination `dst`, over the record's bytes `r` and the IO buffer `io`. Bytes that are no record are refused with
 -- 10, and everything stays as it was.

@@ -1,6 +1,7 @@
 // The firmware reads and writes the data of a transfer, over a record of bytes. Each call takes any bytes of any length. It tests first
 // whether they are a record, and the call by value tests whether that is broken. A refusal with 10 leaves everything as it was.
 use answers::answer_number;
+use border::word::upper_half;
 use border::word::word;
 use calls::Moved;
 use recordbytes::device_at;
@@ -12,7 +13,7 @@ ghost use lib.ListN.{length};
 ghost use Rattle.answers.specs.Answers.{answerOf};
 ghost use Rattle.recordbytes.specs.Layout.{recordSize};
 ghost use Rattle.recordbytes.specs.Record.{storeMarks};
-ghost use Rattle.border.specs.Word.{word, answerWord};
+ghost use Rattle.border.specs.Word.{word, upperHalf, answerWord};
 ghost use Rattle.databytes.specs.Data.{dataOutcome, readDataOn, writeDataOn, writeDataAllOn};
 ghost use Rattle.databytes.specs.Inner.Data.{StorableMove, is10};
 
@@ -20,7 +21,7 @@ ghost use Rattle.databytes.specs.Inner.Data.{StorableMove, is10};
 // record are known to fit into their places.
 fn moved(record: &mut [u8], m: Moved) -> u64
     requires { ⌜ (length (now «record») ≡ recordSize) × (is10 m ≡ false → StorableMove m) ⌝ }
-    ensures { λ x. ⌜ (x ≡ cond (is10 m) (answerWord 10) (word (answerOf (m .report .answer) .number) 0 0 0 (m .report .count))) × (now («record» .exit) ≡ cond (is10 m) (now («record» .entry)) (storeMarks (m .device .marks) (now («record» .entry)))) ⌝ }
+    ensures { λ x. ⌜ (x ≡ cond (is10 m) (answerWord 10) (word (answerOf (m .report .answer) .number) 0 0 0 (upperHalf (answerOf (m .report .answer)) (m .report .count)))) × (now («record» .exit) ≡ cond (is10 m) (now («record» .entry)) (storeMarks (m .device .marks) (now («record» .entry)))) ⌝ }
 {
     let report = m.report;
     let answer = report.answer;
@@ -31,7 +32,13 @@ fn moved(record: &mut [u8], m: Moved) -> u64
     let d = m.device;
     let marks = d.marks;
     store::marks(record, marks);
-    word(number, 0, 0, 0, store::narrow(report.count))
+    word(
+        number,
+        0,
+        0,
+        0,
+        upper_half(answer, store::narrow(report.count)),
+    )
 }
 
 // Reads unread bytes of `io` into `dst`.

@@ -11,7 +11,8 @@ use Rattle.calls.specs.declared.FirmwareStatus.{FirmwareStatus}
 use Rattle.calls.specs.declared.Request.{Request}
 use Rattle.device.specs.Create.{fixed}
 use Rattle.recordbytes.specs.Record.{newRecord}
-use Rattle.border.specs.Word.{word}
+use Rattle.answers.specs.Answers.{answer, lacking}
+use Rattle.border.specs.Word.{word, upperHalf}
 use Rattle.ringbytes.specs.Poll.{pollOutcome, pollOn}
 use Rattle.databytes.specs.Data.{dataOutcome, readDataOn, writeDataOn, writeDataAllOn}
 use Rattle.callbytes.specs.Calls.{callOutcome, createOn, setStatusOn, resetOn, controlOn}
@@ -59,6 +60,11 @@ unfoldable pub table : List Case
 table =
     -- Each part of a result has its place.
     case (word 7 5 2 1 3) 0x0000000301020507
+    -- With answer 1 the bytes missing stand in the place of the count. More than 2^32 - 1 are shown as that many.
+    ∷ case (upperHalf (answer 0) 3) 3
+    ∷ case (upperHalf (lacking 7) 0) 7
+    ∷ case (upperHalf (lacking 4294967295) 0) 4294967295
+    ∷ case (upperHalf (lacking 4294967296) 0) 4294967295
     -- Creation with 64, 0 and 64 makes a record, of 52 bytes only. 01's refusals come before the one for the length, and the bytes stay.
     ∷ case (createOn (replicate 52 9) (fixed 64 0 64)) (callOutcome 0 (64 ∷ 0 ∷ 0 ∷ 0 ∷ 64 ∷ replicate 47 0))
     ∷ case (createOn (replicate 51 9) (fixed 64 0 64)) (callOutcome 10 (replicate 51 9))
@@ -85,10 +91,10 @@ table =
     ∷ case (readDataOn (recordIn 4) io (8 ∷ 8 ∷ [])) (dataOutcome 3 (recordIn 4) (8 ∷ 8 ∷ []))
     ∷ case (readDataOn (recordIn 9) io (8 ∷ 8 ∷ [])) (dataOutcome 10 (recordIn 9) (8 ∷ 8 ∷ []))
     -- Two bytes are left. Of three bytes `souk_write_data` takes two, and `souk_try_write_data_all` takes all. 29 bytes have no room:
-    -- that gives 1, and the move stays.
+    -- that gives 1, with the one byte missing from bit 32 on, and the move stays.
     ∷ case (writeDataOn (recordIn 4) io (6 ∷ 7 ∷ 8 ∷ [])) (dataOutcome 0x0000000200000000 (bytes 4 0 1 6 2 0 0) (1 ∷ 2 ∷ 3 ∷ 4 ∷ 6 ∷ 7 ∷ replicate 25 5))
     ∷ case (writeDataAllOn (recordIn 4) io (6 ∷ 7 ∷ 8 ∷ [])) (dataOutcome 0x0000000300000000 (bytes 4 0 1 7 2 0 0) (1 ∷ 2 ∷ 3 ∷ 4 ∷ 6 ∷ 7 ∷ 8 ∷ replicate 24 5))
-    ∷ case (writeDataAllOn (recordIn 4) io (replicate 29 6)) (dataOutcome 1 (bytes 4 0 0 3 2 0 0) (2 ∷ 3 ∷ 4 ∷ 4 ∷ replicate 27 5))
+    ∷ case (writeDataAllOn (recordIn 4) io (replicate 29 6)) (dataOutcome 0x0000000100000001 (bytes 4 0 0 3 2 0 0) (2 ∷ 3 ∷ 4 ∷ 4 ∷ replicate 27 5))
     ∷ case (writeDataOn (recordIn 9) io (6 ∷ [])) (dataOutcome 10 (recordIn 9) io)
     -- A reset asks for `U`, and stores the state, left and the flag. The residue and the status byte stay.
     ∷ case (resetOn (newRecord (fixed 8 3 31)) io) (callOutcome 0x0000000000020000 (newRecord (fixed 8 3 31)))
@@ -140,6 +146,8 @@ polling =
     ∷ case (pollOn (bytes 6 1 3 4 2 12 1) io (silent 8)) (pollOutcome 0x0000000200000000 (bytes 6 1 5 5 0 12 1) (1 ∷ 2 ∷ 3 ∷ 4 ∷ 0xFF ∷ replicate 26 5) (4 ∷ 0xFF ∷ replicate 6 9))
     -- A packet of data comes in: one packet is taken, and the write mark and left are stored.
     ∷ case (pollOn (recordIn 7) io (offering (6 ∷ 7 ∷ []))) (pollOutcome 0x0000000001000000 (bytes 7 0 1 6 0 0 0) (1 ∷ 2 ∷ 3 ∷ 4 ∷ 6 ∷ 7 ∷ replicate 25 5) (replicate 8 9))
+    -- 27 bytes are unread, and a packet wants 8: four bytes are missing. The move stays, and no packet is taken.
+    ∷ case (pollOn (bytes 7 0 1 28 2 0 0) io (offering (6 ∷ []))) (pollOutcome 0x0000000400000001 (bytes 7 0 0 27 2 0 0) (2 ∷ 3 ∷ 4 ∷ replicate 28 5) (replicate 8 9))
     -- The first eight bytes of the status go out, with the wrapper's tag.
     ∷ case (pollOn (bytes 5 1 1 4 0 12 1) io (silent 8)) (pollOutcome 0x0000000800000000 (bytes 3 1 8 13 0 12 1) (0x55 ∷ 0x53 ∷ 0x42 ∷ 0x53 ∷ 7 ∷ 0 ∷ 0 ∷ 0 ∷ 12 ∷ 0 ∷ 0 ∷ 0 ∷ 1 ∷ replicate 18 5) (0x55 ∷ 0x53 ∷ 0x42 ∷ 0x53 ∷ 7 ∷ 0 ∷ 0 ∷ 0 ∷ []))
     -- The last eight bytes of a wrapper come in: it is stored, and the device awaits its status in 5.

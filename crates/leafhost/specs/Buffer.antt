@@ -1,5 +1,5 @@
 -- A caller in C or Rust sees this of the buffer: 01's answer number as the result, the bytes of the IO buffer, and three numbers, which are
--- the read mark, the write mark and a count. Assumes nothing: these are definitions.
+-- the read mark, the write mark, and a count or the bytes missing. Assumes nothing: these are definitions.
 use Prim.Native.Nat.{ℕ}
 use mathlib.Core.Bool.{cond}
 use mathlib.Core.List.{List, [], _∷_}
@@ -23,11 +23,12 @@ pub record BufferOutcome : Type 0 where
 abbrev pub bufferOutcome : ℕ → List ℕ → List ℕ → BufferOutcome
 bufferOutcome n b m = record { number = n; bytes = b; marks = m }
 
--- The caller sees this of the outcome `o`. Its numbers `was` stay if the answer is 10; otherwise they become the two marks and the count.
+-- The caller sees this of the outcome `o`. Its numbers `was` stay if the answer is 10; otherwise they become the two marks and the count,
+-- or with answer 1 the bytes missing in the place of the count.
 unfoldable pub bufferOutcomeOf : List ℕ → Answering → BufferOutcome
 bufferOutcomeOf was o =
     bufferOutcome (o .answer) (o .leaves .bytes)
-    (cond (eqb (o .answer) 10) was (o .leaves .marks .read ∷ o .leaves .marks .write ∷ o .count ∷ []))
+    (cond (eqb (o .answer) 10) was (o .leaves .marks .read ∷ o .leaves .marks .write ∷ cond (eqb (o .answer) 1) (o .missing) (o .count) ∷ []))
 
 -- The caller sees this of the buffer's call `call` on the bytes `io`, with its numbers `marks`. If these are not three, they are a broken
 -- record: the result is 10, and all is as before.

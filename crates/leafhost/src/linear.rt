@@ -1,5 +1,5 @@
 // These are the buffer's calls; the result is 01's answer number. `marks` are three numbers: the read mark, the write mark, and the count
-// of the last call that was not refused with 10. If they are not three, they are a broken record: the answer is 10, and nothing changes.
+// of the last call that was not refused with 10, or with answer 1 the bytes missing. If they are not three, they are a broken record: the answer is 10, and nothing changes.
 use buffer::Answer;
 use buffer::Marks;
 ghost use mathlib.Core.Path.{_≡_};
@@ -20,10 +20,10 @@ fn report(marks: &mut [usize], a: Answer) -> u32
             marks[2] = n;
             0
         }
-        Answer::Overflow(t) => {
+        Answer::Overflow(n, t) => {
             marks[0] = t.read;
             marks[1] = t.write;
-            marks[2] = 0;
+            marks[2] = n;
             1
         }
         Answer::Broken => 10,

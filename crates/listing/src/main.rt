@@ -4,6 +4,7 @@
 use answers::Answer;
 use answers::Stalls;
 use answers::answer_number;
+use answers::missing;
 use bbb::Polled;
 use bbb::Turn;
 use benchline::Line;
@@ -73,13 +74,14 @@ fn line_of(index: usize, device: Device, answer: Answer, count: usize, stalls: S
         unread: unread(marks),
         count: count,
         stalls: stalls,
+        missing: missing(answer),
     }
 }
 
 // Prints the line with the bytes sent, which are the first `sent` bytes of the packet buffer.
 fn print(line: Line, packet: &[u8], sent: usize) {
     let n = least(least(sent, packet.len()), 64);
-    let mut text = [0u8; 259];
+    let mut text = [0u8; 280];
     let end = put_line(line, &packet[..n], &mut text);
     io::write_all(STDOUT_FILENO, &text[..end]);
 }

@@ -7,9 +7,9 @@ use Prim.Native.Nat.{ℕ, _-_, min}
 use lib.Dec.{eqb}
 use lib.ListN.{length}
 use Rattle.fields.specs.Overlay.{overlay}
-use Rattle.buffer.specs.Buffer.{Buffer, unread, lacksRoom, writtenAll, filled, written, emptied, ready, readyBytes, readOff}
+use Rattle.buffer.specs.Buffer.{Buffer, unread, lacksRoom, missing, writtenAll, filled, written, emptied, ready, readyBytes, readOff}
 use Rattle.answers.specs.declared.Endpoint.{Endpoint}
-use Rattle.answers.specs.Answers.{Answering, answer, serves, answeredBy}
+use Rattle.answers.specs.Answers.{Answering, answer, lacking, serves, answeredBy}
 use Rattle.wrapper.specs.declared.counters.Left.{Left}
 use Rattle.wrapper.specs.declared.counters.Residue.{Residue}
 use Rattle.wrapper.specs.Status.{statusBytes}
@@ -20,9 +20,10 @@ use Rattle.wrapper.specs.Status.{statusBytes}
 unfoldable pub handed : Endpoint → List ℕ → List ℕ
 handed e packet = cond (serves e) packet []
 
--- A read answers 1 if "room, after moving, is below P (packet read)". Otherwise the endpoint is asked and gives the answer.
+-- A read answers 1 if "room, after moving, is below P (packet read)", and says how much is missing: P is wanted, whatever the packet's
+-- length, for the endpoint is not asked yet. Otherwise it is asked and gives the answer.
 unfoldable pub readAnswer : ℕ → Endpoint → Buffer → Answering
-readAnswer p e s = cond (lacksRoom p s) (answer 1) (answeredBy e)
+readAnswer p e s = cond (lacksRoom p s) (lacking (missing p s)) (answeredBy e)
 
 -- A packet is taken if there is room for `p` bytes and the endpoint does its part.
 unfoldable pub takesOne : ℕ → Endpoint → Buffer → Bool

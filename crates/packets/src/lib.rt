@@ -41,7 +41,7 @@ fn reported(t: Put, out: Endpoint, n: usize) -> Received
     ensures { λ r. ⌜ Reports t out n r ⌝ }
 {
     let marks = t.marks;
-    if t.done {
+    if t.missing == 0 {
         return Received {
             answer: answered(out),
             taken: served(out),
@@ -50,7 +50,7 @@ fn reported(t: Put, out: Endpoint, n: usize) -> Received
         };
     }
     Received {
-        answer: Answer::IoBufferOverflow,
+        answer: Answer::IoBufferOverflow(t.missing),
         taken: false,
         count: 0,
         marks: marks,

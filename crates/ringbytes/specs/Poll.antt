@@ -5,7 +5,7 @@ use mathlib.Core.List.{List}
 use Rattle.device.specs.declared.Device.{Device}
 use Rattle.bbb.specs.Poll.{Given, Polling, pollCall}
 use Rattle.recordbytes.specs.Record.{storeDevice}
-use Rattle.border.specs.Word.{word, answerWord, stallsNumber}
+use Rattle.border.specs.Word.{word, upperHalf, answerWord, stallsNumber}
 use Rattle.border.specs.Record.{onDevice}
 
 -- `result` is what the poll returns. `bytes`, `io` and `packet` are the record's bytes, the IO buffer and the packet buffer as it leaves
@@ -22,7 +22,7 @@ pollOutcome result bytes io packet = record { result = result; bytes = bytes; io
 -- What the poll over the record's bytes `r` returns and leaves where the poll by value gives `o`: the report is put into one number,
 -- and the device is stored in `r`.
 abbrev pub pollOutcomeOf : List ℕ → Polling → PollOutcome
-pollOutcomeOf r o = pollOutcome (word (o .answer .number) (o .answer .carried) (stallsNumber (o .stalls)) (o .taken) (o .sent)) (storeDevice (o .device) r) (o .io) (o .packet)
+pollOutcomeOf r o = pollOutcome (word (o .answer .number) (o .answer .carried) (stallsNumber (o .stalls)) (o .taken) (upperHalf (o .answer) (o .sent))) (storeDevice (o .device) r) (o .io) (o .packet)
 
 -- A poll that is given `g`, over the record's bytes `r` and the IO buffer `io`. Bytes that are no record are refused with 10, and
 -- everything stays as it was.

@@ -10,6 +10,7 @@ use bbb::is_valid;
 use bbb::open::Opened;
 use bbb::open::open;
 use border::word::stalls_number;
+use border::word::upper_half;
 use border::word::word;
 use device::Numbers;
 use device::Status;
@@ -80,7 +81,7 @@ fn keep(record: &mut [u8], c: Change)
 // Puts the parts of a report into one number.
 fn result(report: Report) -> u64
     requires { ⌜ report .sent < 2 ^ 32 ⌝ }
-    ensures { λ x. ⌜ x ≡ spec.word (answers.answerOf (report .answer) .number) (answers.answerOf (report .answer) .carried) (spec.stallsNumber (report .stalls)) (report .taken) (report .sent) ⌝ }
+    ensures { λ x. ⌜ x ≡ spec.word (answers.answerOf (report .answer) .number) (answers.answerOf (report .answer) .carried) (spec.stallsNumber (report .stalls)) (report .taken) (spec.upperHalf (answers.answerOf (report .answer)) (report .sent)) ⌝ }
 {
     let answer = report.answer;
     let stalls = report.stalls;
@@ -89,7 +90,7 @@ fn result(report: Report) -> u64
         carried(answer),
         stalls_number(stalls),
         report.taken,
-        store::narrow(report.sent),
+        upper_half(answer, store::narrow(report.sent)),
     )
 }
 

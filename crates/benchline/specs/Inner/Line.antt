@@ -18,9 +18,9 @@ numbersLength l =
     + length (numberText (l .count))
 
 -- Enough room for any line with `n` bytes: six numbers of 20 digits, a space after each, two letters for the stalls, a space, a dash or
--- two digits for each byte, and the end of the line.
+-- two digits for each byte, a space, one more number and the end of the line.
 unfoldable pub roomFor : ℕ → ℕ
-roomFor n = 131 + 2 * n
+roomFor n = 152 + 2 * n
 
 -- The text `ys` was put into the list `before` at the index `at`, and the list is `after` then: everything else stayed. The text ends at
 -- the index `end`.

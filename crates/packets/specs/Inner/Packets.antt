@@ -3,11 +3,12 @@ use mathlib.Core.Path.{_≡_}
 use mathlib.Core.Bool.{false, cond}
 use mathlib.Core.List.{List}
 use Prim.Native.Nat.{ℕ}
+use lib.Dec.{eqb}
 use Rattle.buffer.specs.declared.marked.Put.{Put}
 use Rattle.buffer.specs.Buffer.{Buffer, buffer, unread}
 use Rattle.buffer.specs.Inner.Buffer.{Leaves}
 use Rattle.answers.specs.declared.Endpoint.{Endpoint}
-use Rattle.answers.specs.Answers.{answer, answerOf, serves, answeredBy}
+use Rattle.answers.specs.Answers.{lacking, answerOf, serves, answeredBy}
 use Rattle.packets.specs.declared.Received.{Received}
 use Rattle.packets.specs.declared.Sent.{Sent}
 use Rattle.packets.specs.Packets.{readAnswer, takesOne, brought, received, sendAnswer, sentCount, sentOff, sentInto}
@@ -15,9 +16,9 @@ use Rattle.packets.specs.Packets.{readAnswer, takesOne, brought, receive
 -- A read reports `r`: room was asked for, and `t` is what came of that; `e` is what the OUT endpoint does, and `n` bytes were put in if
 -- there was room.
 pub record Reports (t : Put) (e : Endpoint) (n : ℕ) (r : Received) : Type 0 where
-  pub answer : answerOf (r .answer) ≡ cond (t .done) (answeredBy e) (answer 1)
-  pub taken : r .taken ≡ cond (t .done) (serves e) false
-  pub count : r .count ≡ cond (t .done) n 0
+  pub answer : answerOf (r .answer) ≡ cond (eqb (t .missing) 0) (answeredBy e) (lacking (t .missing))
+  pub taken : r .taken ≡ cond (eqb (t .missing) 0) (serves e) false
+  pub count : r .count ≡ cond (eqb (t .missing) 0) n 0
   pub marks : r .marks ≡ t .marks
 
 -- A read promises this. It asks OUT, which does `e` and offers `packet`, for one packet of at most `p` bytes; before it the buffer is
