@@ -1,8 +1,9 @@
 # The words of ./bench --explain: one line for each event that ran.
 #     awk -f tools/explain.awk of=bytes BYTES of=lines LINES
-# BYTES is a bench file as 'od -An -v -tu1' prints it, LINES is what bench printed for it. Answers, states, counts, stalls and
-# bytes are bench's own. From the file come the event itself and, where a poll completes one, the wrapper. Nothing is worked
-# out twice: the decoder below only names the fields of a block that bench showed, and a refused file is only told why.
+# BYTES is a bench file as 'od -An -v -tu1' prints it, LINES is what bench printed for it. Answers, states, counts, stalls,
+# bytes and the number missing are bench's own. From the file come the event itself and, where a poll completes one, the
+# wrapper. Nothing is worked out twice: the decoder below only names the fields of a block that bench showed, and a refused
+# file is only told why.
 
 BEGIN {
     split("Done IoBufferOverflow InvalidMaxLun InvalidState FullPacketExpected BufferTooSmall WouldBlock EndpointError " \
@@ -40,7 +41,7 @@ END {
         length_of = number(at + 1, 2)
         from = at + 3
         event[i] = event_words()
-        answer[i] = now[2] " " answers[now[2] + 1]
+        answer[i] = answer_words()
         after[i] = kind == 0 && now[2] > 0 ? "no device" : now[3] " " states[now[3] + 1]
         came[i] = join(join(figures(), outcome()), now[7] in stalls ? stalls[now[7]] : "")
         state = now[3]
@@ -159,6 +160,11 @@ function control_words() {
 }
 
 # ---- what came of it, from bench's line
+
+# Only with answer 1 is there a number missing.
+function answer_words() {
+    return now[2] " " answers[now[2] + 1] (now[9] == "0" ? "" : ", " plural(now[9], "byte") " short")
+}
 
 function figures() {
     if (now[4] == "0" && now[5] == "0") return ""

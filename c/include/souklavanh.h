@@ -31,8 +31,9 @@
  *        souk_count(word)   if this is n > 0, send the first n bytes of 'packet': hand exactly these bytes to the IN
  *                           endpoint, as one packet, before the next poll. If 'write' was not 0, n is 0.
  *      Do all three whatever the answer is: a poll that ends with 4 or 6 may have gone on to another state first.
- *   The answer 6 (busy) is not a fault. Poll again later; the firmware must not undo or repeat anything. The answer 4, and the
- *   answer 1 in state 7, mean that the firmware has to write or read data first.
+ *   The answer 6 (busy) is not a fault. Poll again later; the firmware must not undo or repeat anything. The answer 4 means
+ *   that the firmware has to write data first. The answer 1 in state 7 means that it has to read data first, at least
+ *   souk_missing(word) bytes.
  *
  * A BUS RESET, or a plug that was pulled, breaks off the present command, and the host no longer knows about it. Before the
  * next poll, in this order:
@@ -121,10 +122,16 @@ enum {
 /* The answers. 'As before' means: record, io, packet, dst, block and command hold the same bytes as before the call. */
 enum souk_answer {
     SOUK_DONE = 0,
-    /* No room. From a poll: fewer than P bytes are free for an OUT packet; the packet was not taken. The state reached stays;
-       unread bytes may have moved to the front of io but are the same. In state 7: call souk_read_data, then poll. In state 0:
-       bytes of a command that was broken off are in the way; create the record anew. From souk_try_write_data_all: the source
-       does not fit; nothing of it was taken, but unread bytes may have moved to the front of io. */
+    /* No room: souk_missing says how many bytes of it are missing. From a poll: fewer than P bytes are free for an OUT packet,
+       whatever its length; the packet was not taken. The state reached stays; unread bytes may have moved to the front of io
+       but are the same.
+       In state 7: read at least as many bytes as are missing with souk_read_data, then poll. souk_taken is 1 if the poll took a
+       wrapper first, with data behind it in the same packet.
+       In state 0: io is too small by as many bytes for a wrapper in such pieces, and later polls answer the same. P + 30 bytes
+       are enough for all pieces. If io has these, bytes of a command that was broken off are in the way; create the record
+       anew.
+       From souk_try_write_data_all: the source does not fit; nothing of it was taken, but unread bytes may have moved to the
+       front of io. */
     SOUK_IO_BUFFER_OVERFLOW = 1,
     SOUK_INVALID_MAX_LUN = 2, /* souk_create: max_lun is above 15. There is no device; the record is as before */
     SOUK_INVALID_STATE = 3,   /* read call outside 7, write call outside 4. As before */
@@ -266,9 +273,17 @@ static inline uint32_t souk_flag(uint64_t word) {
 }
 
 /* souk_poll: bytes sent. souk_read_data, souk_write_data, souk_try_write_data_all: bytes read or written. souk_control: the
-   byte answered. souk_command: the block's length. */
+   byte answered. souk_command: the block's length. With SOUK_IO_BUFFER_OVERFLOW nothing was sent or written, and these bits
+   hold another number, souk_missing; so the count is then 0 here. */
 static inline uint32_t souk_count(uint64_t word) {
-    return (uint32_t)(word >> 32);
+    return souk_answer(word) == SOUK_IO_BUFFER_OVERFLOW ? 0u : (uint32_t)(word >> 32);
+}
+
+/* souk_poll, souk_try_write_data_all: with SOUK_IO_BUFFER_OVERFLOW, how many bytes of room are missing: those wanted, P or
+   src_len, less those free in io. It is at least 1, and from a poll at most P. 0xFFFFFFFF also stands for more, which only a
+   source of 4 GiB or more can lack. With every other answer it is 0. */
+static inline uint32_t souk_missing(uint64_t word) {
+    return souk_answer(word) == SOUK_IO_BUFFER_OVERFLOW ? (uint32_t)(word >> 32) : 0u;
 }
 
 /* A four-byte number of the record. */
@@ -311,7 +326,9 @@ uint64_t souk_write_data(uint8_t *record, size_t record_len, uint8_t *io, size_t
                          size_t src_len);
 
 /* Puts in all of src, or puts in nothing and answers 1. What is left does not limit it: if more than L is put in, more than L
-   would go out. Answers 0, 1, 3, 10. */
+   would go out. Answers 0, 1, 3, 10.
+   After answer 1 the same call succeeds once polls have sent at least souk_missing bytes. If a poll answers 4 before that, it
+   has to be given more first. src without its last souk_missing bytes fits at once. */
 uint64_t souk_try_write_data_all(uint8_t *record, size_t record_len, uint8_t *io, size_t io_len, const uint8_t *src,
                                  size_t src_len);
 

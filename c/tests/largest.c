@@ -32,6 +32,10 @@ static uint64_t start(uint32_t declared, uint8_t flags) {
     return poll(bytes, sizeof bytes, SOUK_ENDPOINT_READY, P);
 }
 
+static uint64_t write_all(size_t length) {
+    return souk_try_write_data_all(record, sizeof record, io, sizeof io, source, length);
+}
+
 static uint32_t unread(void) {
     return souk_number(record, SOUK_AT_WRITE_MARK) - souk_number(record, SOUK_AT_READ_MARK);
 }
@@ -47,8 +51,9 @@ static void counts(void) {
     start(LONG, 0x80);
     same("write_data of 65,537", souk_count(souk_write_data(record, sizeof record, io, sizeof io, source, IO + 1)), IO);
     start(LONG, 0x80);
-    same("try_write_data_all of 65,536",
-         souk_count(souk_try_write_data_all(record, sizeof record, io, sizeof io, source, IO)), IO);
+    same("missing for 65,537 in an empty buffer", souk_missing(write_all(IO + 1)), 1);
+    same("try_write_data_all of 65,536", souk_count(write_all(IO)), IO);
+    same("missing for 65,537 in a full buffer", souk_missing(write_all(IO + 1)), IO + 1);
     start(LONG, 0);
     for (int i = 0; i < IO / P - 1; i++) poll(source, P, SOUK_ENDPOINT_READY, P);
     same("read_data into 65,536", souk_count(souk_read_data(record, sizeof record, io, sizeof io, back, IO)), IO - P);

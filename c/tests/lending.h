@@ -4,6 +4,7 @@
      - the guards are kept, and so is all that is lent for reading or for other calls;
      - a refusal changes nothing;
      - a packet after the bytes sent, and a destination after the bytes read, are kept;
+     - with answer 1 nothing is counted, and the bytes missing are those wanted less the room; with others none are missing;
      - block and command are kept if no command is shown, offered or decoded;
      - told another number than 0 or 1, a call gives 10 alone;
      - a plain call does what its told form does with 1: each time, that is made too.
@@ -277,6 +278,25 @@ static void require_kept(enum call which, enum area a) {
             "or bytes beside it changed where they must not");
 }
 
+/* The bytes of io that are not unread. */
+static uint64_t room(void) {
+    const uint8_t *record = lent(RECORD);
+    return length[IO] - (souk_number(record, SOUK_AT_WRITE_MARK) - souk_number(record, SOUK_AT_READ_MARK));
+}
+
+/* How many bytes of room a call wants that may answer 1: for a packet, or for all of the source. */
+static uint64_t wanted(enum call which) {
+    return which == POLL ? lent(RECORD)[SOUK_AT_PACKET_SIZE] : length[SRC];
+}
+
+static void require_missing(enum call which) {
+    bool overflow = which != VERDICT && souk_answer(result) == SOUK_IO_BUFFER_OVERFLOW; /* a verdict is no answer */
+    require(souk_missing(result) == (overflow ? wanted(which) - room() : 0), which, "the room that is missing",
+            "is not what is wanted less what is there");
+    require(!overflow || souk_missing(result) > 0, which, "answer 1", "though no room is missing");
+    require(souk_count(result) == (overflow ? 0 : result >> 32), which, "the count", "is not the one for this answer");
+}
+
 /* The call, and what is tested after it. */
 static uint64_t call_alone(enum call which) {
     bool is_told = which == COMMAND_STEP_TOLD || which == DECODE_TOLD;
@@ -287,6 +307,7 @@ static uint64_t call_alone(enum call which) {
     require(!is_told || with.extended <= 1 || result == SOUK_BROKEN_RECORD, which, "another number than 0 or 1",
             "has to give 10 alone");
     for (enum area a = 0; a < AREAS; a++) require_kept(which, a);
+    require_missing(which);
     return result;
 }
 

@@ -50,6 +50,11 @@ static uint64_t write_data(size_t length) {
     return souk_write_data(record, sizeof record, io, sizeof io, zeros, length);
 }
 
+static uint64_t write_all(size_t length) {
+    static const uint8_t zeros[2 * IO_LENGTH];
+    return souk_try_write_data_all(record, sizeof record, io, sizeof io, zeros, length);
+}
+
 static uint32_t set_status(uint8_t status, uint32_t figure) {
     return souk_set_status(record, sizeof record, io, sizeof io, status, figure);
 }
@@ -206,10 +211,25 @@ static void endpoints(void) {
     SAME(SOUK_ENDPOINT_FAILED, souk_answer(word));
     same("souk_carried", souk_carried(word), 77);
     SAME(SOUK_PACKET_REFUSED, souk_answer(offer(too_long, sizeof too_long)));
+}
+
+static void room(void) {
+    uint8_t bytes[P] = {0};
+    uint64_t word;
     offer_wrapper(DECLARED, 0);
-    do word = offer(too_long, P);
+    do word = offer(bytes, sizeof bytes);
     while (souk_taken(word) == 1);
     SAME(SOUK_IO_BUFFER_OVERFLOW, souk_answer(word));
+    same("souk_missing of souk_poll", souk_missing(word), P - IO_LENGTH % P);
+    same("souk_count of souk_poll without room", souk_count(word), 0);
+    offer_wrapper(DECLARED, 0x80);
+    word = write_all(IO_LENGTH + 5);
+    SAME(SOUK_IO_BUFFER_OVERFLOW, souk_answer(word));
+    same("souk_missing of souk_try_write_data_all", souk_missing(word), 5);
+    same("souk_count of souk_try_write_data_all without room", souk_count(word), 0);
+    word = write_all(IO_LENGTH);
+    same("souk_missing of souk_try_write_data_all with room", souk_missing(word), 0);
+    same("souk_count of souk_try_write_data_all", souk_count(word), IO_LENGTH);
 }
 
 static void requests(void) {
@@ -329,6 +349,7 @@ int main(void) {
     states_from_host();
     invalid_wrappers();
     endpoints();
+    room();
     requests();
     commands();
     kinds();

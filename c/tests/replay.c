@@ -123,6 +123,7 @@ struct line {
     uint32_t answer, count, stalls;
     const uint8_t *bytes;
     size_t shown;
+    uint32_t missing;
 };
 
 static void print_hex(const uint8_t *bytes, size_t count) {
@@ -147,7 +148,7 @@ static void print_line(const struct line *l) {
            (unsigned)souk_number(record, SOUK_AT_LEFT), (unsigned)unread, (unsigned)l->count, stalls[l->stalls]);
     if (l->shown == 0) printf("-");
     print_hex(l->bytes, l->shown);
-    printf("\n");
+    printf(" %u\n", (unsigned)l->missing);
 }
 
 /* ---- Playing */
@@ -167,7 +168,7 @@ static struct line play_poll(const uint8_t *body) {
     bool failed = souk_answer(word) == SOUK_ENDPOINT_FAILED;
     require(failed ? souk_carried(word) > SOUK_ENDPOINT_BUSY : souk_carried(word) == 0, POLL, "the endpoint's error",
             "and the answer do not agree");
-    return (struct line){souk_answer(word), souk_taken(word), souk_stalls(word), packet, souk_count(word)};
+    return (struct line){souk_answer(word), souk_taken(word), souk_stalls(word), packet, souk_count(word), souk_missing(word)};
 }
 
 static struct line play_status(const uint8_t *body) {
@@ -179,7 +180,7 @@ static struct line play_status(const uint8_t *body) {
 static struct line play_write(enum call which, const struct event *e) {
     lend_copy(SRC, e->body, e->count);
     uint64_t word = call(which);
-    return (struct line){.answer = souk_answer(word), .count = souk_count(word)};
+    return (struct line){.answer = souk_answer(word), .count = souk_count(word), .missing = souk_missing(word)};
 }
 
 static struct line play_read(const uint8_t *body) {
@@ -199,7 +200,7 @@ static struct line play_control(const uint8_t *body) {
     with.request = body[1];
     uint64_t word = call(CONTROL);
     byte = (uint8_t)souk_count(word);
-    return (struct line){souk_answer(word), 0, souk_stalls(word), &byte, souk_flag(word)};
+    return (struct line){.answer = souk_answer(word), .stalls = souk_stalls(word), .bytes = &byte, .shown = souk_flag(word)};
 }
 
 /* No line shows what a step decoded: it has to be what the block is alone, told the same. */
@@ -253,7 +254,7 @@ static bool play_creation(const uint8_t *body) {
     with.size = le32(body + 3);
     uint32_t answer = souk_answer(call(CREATE));
     if (answer != SOUK_DONE) {
-        printf("0 %u 0 0 0 0 - -\n", (unsigned)answer);
+        printf("0 %u 0 0 0 0 - - 0\n", (unsigned)answer);
         return false;
     }
     require(with.size <= SOUK_IO_LARGEST && with.packet_size <= SOUK_PACKET_LARGEST, CREATE, "the device",

@@ -45,6 +45,7 @@ fn compare(ours: &Seen, rust: &Step) -> Checked {
     same("count", &ours.outcome.count, &rust.outcome.count)?;
     same("stalls", &ours.outcome.stalls, &rust.outcome.stalls)?;
     same("bytes", &ours.outcome.bytes, &rust.outcome.bytes)?;
+    same("missing", &ours.outcome.missing, &rust.outcome.missing)?;
     same(
         "command",
         &decoded(ours)?,

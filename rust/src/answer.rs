@@ -1,6 +1,7 @@
 //! What a call answers if it was not done. The numbers are those of the archive.
 
 use crate::endpoints::EndpointError;
+use crate::ffi::Word;
 use core::fmt;
 
 /// Why a call on a device was not done, or was only done in part.
@@ -15,9 +16,16 @@ use core::fmt;
 /// ```
 #[derive(Clone, Copy, PartialEq, Eq, Debug)]
 pub enum Error {
-    /// The IO buffer has no room for a packet, or not for all bytes of `try_write_data_all`. From a poll that waits for a
-    /// command: bytes of a command that was broken off are in the way; call [`Device::renew`](crate::Device::renew).
-    IoBufferOverflow,
+    /// The IO buffer has no room for a packet, or not for all bytes of `try_write_data_all`. [`Device::poll`] and
+    /// [`Device::try_write_data_all`] say what to do then.
+    ///
+    /// [`Device::poll`]: crate::Device::poll
+    /// [`Device::try_write_data_all`]: crate::Device::try_write_data_all
+    IoBufferOverflow {
+        /// How many bytes of room are missing: at least 1, and from a poll at most the packet size. 2^32 - 1 also stands for
+        /// more, which only a source of 4 GiB or more can lack.
+        missing: usize,
+    },
     /// Nothing can be read or written in this state. Nothing has changed.
     InvalidState,
     /// The host wants more than the firmware has put in. What the poll did before stays.
@@ -40,7 +48,7 @@ pub enum Error {
 impl Error {
     pub fn number(self) -> u8 {
         match self {
-            Error::IoBufferOverflow => 1,
+            Error::IoBufferOverflow { .. } => 1,
             Error::InvalidState => 3,
             Error::FullPacketExpected => 4,
             Error::WouldBlock => 6,
@@ -52,21 +60,23 @@ impl Error {
         }
     }
 
-    pub(crate) fn from_number(number: u32, carried: u8) -> Result<(), Error> {
-        Err(match number {
+    pub(crate) fn from_word(word: Word) -> Result<(), Error> {
+        Err(match word.answer() {
             0 => return Ok(()),
-            1 => Error::IoBufferOverflow,
+            1 => Error::IoBufferOverflow {
+                missing: word.missing() as usize,
+            },
             3 => Error::InvalidState,
             4 => Error::FullPacketExpected,
             6 => Error::WouldBlock,
             7 => Error::Endpoint(
-                EndpointError::new(carried).expect("only an endpoint's error is carried"),
+                EndpointError::new(word.carried()).expect("only an endpoint's error is carried"),
             ),
             10 => Error::Broken,
             11 => Error::PacketSize,
             12 => Error::StatusRefused,
             13 => Error::EmptyBlock,
-            _ => unreachable!("a device call has no answer {number}"),
+            number => unreachable!("a device call has no answer {number}"),
         })
     }
 }
@@ -74,7 +84,12 @@ impl Error {
 impl fmt::Display for Error {
     fn fmt(&self, to: &mut fmt::Formatter) -> fmt::Result {
         match self {
-            Error::IoBufferOverflow => to.write_str("the IO buffer has too little room"),
+            Error::IoBufferOverflow { missing } => {
+                write!(
+                    to,
+                    "the IO buffer has too little room; bytes missing: {missing}"
+                )
+            }
             Error::InvalidState => to.write_str("not in this state"),
             Error::FullPacketExpected => to.write_str("a full packet is expected"),
             Error::WouldBlock => to.write_str("the endpoint is busy"),

@@ -135,6 +135,40 @@ impl<'a> Device<'a> {
 
     /// Makes one poll. The packet buffer must have room for a packet; the bytes sent are put at its front, and the rest of it
     /// stays.
+    ///
+    /// With [`Error::IoBufferOverflow`] the IO buffer has no room for a packet, whatever the packet's length, and the packet was
+    /// not taken. The error says how many bytes of room are missing.
+    ///
+    /// - While the host sends data, read at least as many bytes, then poll again.
+    /// - While a wrapper is awaited, the buffer is too small by as many bytes for a wrapper in such pieces, and later polls say
+    ///   the same. The packet size and 30 bytes are enough for all pieces. If it has these, bytes of a command that was broken
+    ///   off are in the way: call [`Device::renew`].
+    ///
+    /// ```
+    /// use souklavanh::{Device, Endpoints, Error};
+    ///
+    /// let (mut buffer, mut packet) = ([0; 94], [0; 64]);
+    /// let mut device = Device::new(64, 0, &mut buffer).unwrap();
+    ///
+    /// // The host writes 512 bytes. The first packet of them comes; 30 bytes are then free, and 34 missing for another packet.
+    /// let mut wrapper = [0; 31];
+    /// wrapper[..4].copy_from_slice(b"USBC");
+    /// wrapper[9] = 2;
+    /// wrapper[14..24].copy_from_slice(&[10, 0x2A, 0, 0, 0, 0, 0, 0, 0, 1]);
+    /// assert_eq!(device.poll(Endpoints::offering(&wrapper), &mut packet).taken, 1);
+    /// assert_eq!(device.poll(Endpoints::offering(&[0x41; 64]), &mut packet).taken, 1);
+    /// let poll = device.poll(Endpoints::offering(&[0x42; 64]), &mut packet);
+    /// assert_eq!((poll.taken, poll.sent), (0, 0));
+    /// let Err(Error::IoBufferOverflow { missing }) = poll.result else {
+    ///     panic!("there is room");
+    /// };
+    /// assert_eq!(missing, 34);
+    ///
+    /// // The firmware reads as many, and the packet is taken.
+    /// let mut data = [0; 512];
+    /// assert_eq!(device.read_data(&mut data[..missing]), Ok(missing));
+    /// assert_eq!(device.poll(Endpoints::offering(&[0x42; 64]), &mut packet).taken, 1);
+    /// ```
     pub fn poll(&mut self, endpoints: Endpoints, packet: &mut [u8]) -> Poll {
         Poll::from_word(ffi::poll(
             &mut self.record,
@@ -147,7 +181,7 @@ impl<'a> Device<'a> {
     /// Ends the command: its status, and how many bytes the firmware dealt with. A later status replaces it.
     pub fn set_status(&mut self, status: CommandStatus, processed: u32) -> Result<(), Error> {
         let answer = ffi::set_status(&mut self.record, self.io, status.number(), processed);
-        Error::from_number(answer, 0)
+        Error::from_word(ffi::Word(answer.into()))
     }
 
     /// Takes bytes that the host has sent, and returns how many.
@@ -161,6 +195,32 @@ impl<'a> Device<'a> {
     }
 
     /// Puts in all of these bytes or none, whether the host wants that many or not.
+    ///
+    /// If they do not fit, [`Error::IoBufferOverflow`] says how many bytes of room are missing. The same call succeeds once
+    /// polls have sent at least as many bytes; if a poll answers [`Error::FullPacketExpected`] before that, it has to be given
+    /// more first. Without their last `missing` bytes they fit at once.
+    ///
+    /// ```
+    /// use souklavanh::{Device, Endpoints, Error};
+    ///
+    /// let (mut buffer, mut packet) = ([0; 100], [0; 64]);
+    /// let mut device = Device::new(64, 0, &mut buffer).unwrap();
+    ///
+    /// // The host reads a block of 512 bytes.
+    /// let mut wrapper = [0; 31];
+    /// wrapper[..4].copy_from_slice(b"USBC");
+    /// wrapper[9] = 2;
+    /// wrapper[12] = 0x80;
+    /// wrapper[14..24].copy_from_slice(&[10, 0x28, 0, 0, 0, 0, 0, 0, 0, 1]);
+    /// assert_eq!(device.poll(Endpoints::offering(&wrapper), &mut packet).taken, 1);
+    ///
+    /// // 80 bytes are put in, and 20 are free. For 60 more, 40 bytes are missing; the next packet that goes out makes room.
+    /// device.try_write_data_all(&[0x41; 80]).unwrap();
+    /// let lacking = Err(Error::IoBufferOverflow { missing: 40 });
+    /// assert_eq!(device.try_write_data_all(&[0x42; 60]), lacking);
+    /// assert_eq!(device.poll(Endpoints::silent(), &mut packet).sent, 64);
+    /// assert_eq!(device.try_write_data_all(&[0x42; 60]), Ok(()));
+    /// ```
     pub fn try_write_data_all(&mut self, source: &[u8]) -> Result<(), Error> {
         counted(ffi::try_write_data_all(&mut self.record, self.io, source)).map(|_| ())
     }
@@ -186,7 +246,7 @@ impl<'a> Device<'a> {
     /// ```
     pub fn reset(&mut self) -> Result<Stalls, Error> {
         let word = ffi::reset(&mut self.record, self.io);
-        answered(word)?;
+        Error::from_word(word)?;
         Ok(Stalls::from_number(word.stalls()))
     }
 
@@ -203,7 +263,7 @@ impl<'a> Device<'a> {
     /// ```
     pub fn control(&mut self, request_type: u8, request: u8) -> Result<Control, Error> {
         let word = ffi::control(&mut self.record, self.io, request_type, request);
-        answered(word)?;
+        Error::from_word(word)?;
         Ok(Control {
             answer: (word.flag() != 0).then_some(word.count() as u8),
             stalls: Stalls::from_number(word.stalls()),
@@ -214,7 +274,7 @@ impl<'a> Device<'a> {
     pub fn command(&self) -> Result<Option<Command>, Error> {
         let mut bytes = [0; 16];
         let word = ffi::command(&self.record, self.io, &mut bytes);
-        answered(word)?;
+        Error::from_word(word)?;
         Ok((word.flag() != 0).then(|| Command::new(word.carried(), bytes, word.count() as u8)))
     }
 
@@ -275,14 +335,9 @@ fn new_record(
     Ok(record)
 }
 
-/// The answer of a call that no endpoint takes part in.
-fn answered(word: ffi::Word) -> Result<(), Error> {
-    Error::from_number(word.answer().into(), 0)
-}
-
 /// What a command step offers.
 fn offered(word: ffi::Word, numbers: [u64; ffi::COMMAND_NUMBERS]) -> Result<Option<Offer>, Error> {
-    answered(word)?;
+    Error::from_word(word)?;
     Ok((word.flag() != 0).then(|| Offer {
         lun: word.carried(),
         command: ScsiCommand::from_numbers(numbers),
@@ -290,6 +345,6 @@ fn offered(word: ffi::Word, numbers: [u64; ffi::COMMAND_NUMBERS]) -> Result<Opti
 }
 
 fn counted(word: ffi::Word) -> Result<usize, Error> {
-    answered(word)?;
+    Error::from_word(word)?;
     Ok(word.count() as usize)
 }

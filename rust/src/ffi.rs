@@ -31,8 +31,30 @@ impl Word {
         self.byte(3)
     }
 
-    /// Bytes sent, read or written; the byte that control answers; a command's block length.
+    /// Bytes sent, read or written; the byte that control answers; a command's block length. With answer 1 nothing was sent or
+    /// written, and the upper half has another number: [`Word::missing`].
     pub fn count(self) -> u32 {
+        if self.is_overflow() {
+            0
+        } else {
+            self.upper_half()
+        }
+    }
+
+    /// With answer 1 the bytes of room that are missing, with every other answer 0.
+    pub fn missing(self) -> u32 {
+        if self.is_overflow() {
+            self.upper_half()
+        } else {
+            0
+        }
+    }
+
+    fn is_overflow(self) -> bool {
+        self.answer() == 1
+    }
+
+    fn upper_half(self) -> u32 {
         (self.0 >> 32) as u32
     }
 

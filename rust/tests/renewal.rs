@@ -165,9 +165,11 @@ fn behind_reset_the_next_wrapper_is_invalid() {
 
 #[test]
 fn behind_reset_a_full_buffer_takes_no_wrapper() {
+    // The firmware had put in all that fits, so that no byte is free.
     for size in [64, 94] {
         let (poll, sent) = story(&mut vec![0; size], RESET);
-        assert_eq!(poll.result, Err(Error::IoBufferOverflow), "buffer {size}");
+        let full = Err(Error::IoBufferOverflow { missing: 64 });
+        assert_eq!(poll.result, full, "buffer {size}");
         assert_eq!((poll.taken, sent), (0, vec![]));
     }
 }

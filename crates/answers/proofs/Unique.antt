@@ -1,5 +1,5 @@
--- No second answer satisfies a promise. `Post` is the contract itself, as the check reads it. For this, document 01's number and the number
--- carried determine the answer (`named-answer`). Assumes nothing.
+-- No second answer satisfies a promise. `Post` is the contract itself, as the check reads it. For this, document 01's number, the number
+-- carried and the bytes missing determine the answer (`named-answer`). Assumes nothing.
 use mathlib.Core.Path.{_≡_, refl, sym, _∙_}
 use mathlib.Core.Bool.{cond}
 use Prim.Native.Nat.{ℕ}
@@ -16,6 +16,8 @@ use Rattle.answers.proofs.served.Kinds as served-kinds
 use Rattle.answers.proofs.served.Reads as served
 use Rattle.answers.proofs.carried.Kinds as carried-kinds
 use Rattle.answers.proofs.carried.Reads as carried
+use Rattle.answers.proofs.missing.Kinds as missing-kinds
+use Rattle.answers.proofs.missing.Reads as missing
 use Rattle.answers.proofs.answered.Kinds as answered-kinds
 use Rattle.answers.proofs.answered.Reads as answered
 use Rattle.answers.proofs.asked.Kinds as asked-kinds
@@ -24,7 +26,7 @@ use Rattle.answers.proofs.asked.Reads as asked
 pub named : Answering → Answer
 named a =
     cond (eqb (a .number) 0) Done
-    (cond (eqb (a .number) 1) IoBufferOverflow
+    (cond (eqb (a .number) 1) (IoBufferOverflow (a .missing))
     (cond (eqb (a .number) 2) InvalidMaxLun
     (cond (eqb (a .number) 3) InvalidState
     (cond (eqb (a .number) 4) FullPacketExpected
@@ -40,7 +42,7 @@ named a =
 pub named-answer : (a : Answer) → named (answerOf a) ≡ a
 unfolding named
 named-answer Done = refl
-named-answer IoBufferOverflow = refl
+named-answer (IoBufferOverflow n) = refl
 named-answer InvalidMaxLun = refl
 named-answer InvalidState = refl
 named-answer FullPacketExpected = refl
@@ -68,6 +70,9 @@ served-only κs a x y s t p q = (p ∙ sym q, refl)
 
 pub carried-only : Only 0 carried-kinds.ps carried-kinds.r carried.Post (λ κs s. tt {0})
 carried-only κs a x y s t p q = (p ∙ sym q, refl)
+
+pub missing-only : Only 0 missing-kinds.ps missing-kinds.r missing.Post (λ κs s. tt {0})
+missing-only κs a x y s t p q = (p ∙ sym q, refl)
 
 pub answered-only : Only 0 answered-kinds.ps answered-kinds.r answered.Post (λ κs s. tt {0})
 answered-only κs a x y s t p q = (answer-once x y p q, refl)

@@ -1,8 +1,9 @@
 -- Document 01, 'Answer numbers': each answer by its number, with what it carries and what is missing. Assumes nothing: these are
 -- definitions.
-use Prim.Native.Nat.{ℕ}
+use mathlib.Core.Path.{_≡_}
+use Prim.Native.Nat.{ℕ, _-_, _≤_}
 use mathlib.Core.Bool.{Bool, true, false, cond}
-use lib.Dec.{eqb}
+use lib.Dec.{eqb, ltb}
 use Rattle.answers.specs.declared.Endpoint.{Endpoint}
 use Rattle.answers.specs.declared.Endpoint.the-variants.{Served, Busy, Failed}
 use Rattle.answers.specs.declared.Answer.{Answer}
@@ -46,6 +47,18 @@ answerOf BrokenRecord = answer 10
 answerOf PacketRefused = answer 11
 answerOf StatusRefused = answer 12
 answerOf EmptyBlock = answer 13
+
+-- "It is bytes wanted less room after the move with answer 1, and 0 with every other": this is true of the answer `a` to a call that
+-- wants room for `wanted` bytes, and after which there is room for `room` bytes. With answer 1 at least one byte is missing.
+pub record Lacks (wanted room : ℕ) (a : Answering) : Type 0 where
+  pub less : a .number ≡ 1 → a .missing ≡ wanted - room
+  pub some : a .number ≡ 1 → 1 ≤ a .missing
+  pub none : (a .number ≡ 1 → ⊥) → a .missing ≡ 0
+
+-- What that number is good for: a call lacked `m` bytes of room, and is made again with room for `k` bytes more. While that is less than
+-- what was missing, it lacks the rest; else its answer is `done`.
+unfoldable pub again : ℕ → ℕ → Answering → Answering
+again m k done = cond (ltb k m) (lacking (m - k)) done
 
 -- "Endpoint answers: 0 does its part, 1 busy, others errors": this is what the answer `byte` stands for.
 unfoldable pub endpointOf : ℕ → Endpoint

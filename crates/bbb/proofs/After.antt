@@ -25,13 +25,13 @@ use Rattle.fields.specs.Overlay.{overlay}
 use Rattle.fields.proofs.Bools.{of-picked}
 use Rattle.fields.proofs.Seq.{drop-take}
 use Rattle.fields.proofs.Overlay.{part-inside}
-use Rattle.buffer.specs.Buffer.{Buffer, buffer, at, unread, unreadBytes, emptied, fitting, lacksRoom, ready, readyBytes}
+use Rattle.buffer.specs.Buffer.{Buffer, buffer, at, unread, unreadBytes, emptied, fitting, lacksRoom, missing, ready, readyBytes}
 use Rattle.buffer.specs.Inner.Buffer.{Sound}
 use Rattle.buffer.proofs.Kept.{length-unread, ready-most, sound-emptied}
 use Rattle.buffer.proofs.Room.{fitting-by-unread}
 use Rattle.buffer.proofs.Unread.{unread-written, unread-filled, unread-writtenAll, unread-readOff, unread-emptied}
 use Rattle.answers.specs.declared.Endpoint.{Endpoint}
-use Rattle.answers.specs.Answers.{answer, endpointOf, serves, answeredBy}
+use Rattle.answers.specs.Answers.{answer, lacking, endpointOf, serves, answeredBy}
 use Rattle.ring.specs.declared.State.the-variants.{CommandTransferInvalid, StatusTransfer, DataTransferToHost, DataTransferToHostEnding, DataTransferFromHost, DataTransferFromHostEnding}
 use Rattle.wrapper.specs.declared.Wrapper.{Wrapper}
 use Rattle.wrapper.specs.declared.counters.Left.{Left}
@@ -308,7 +308,7 @@ module _ (g : Given) (x : Point) where
       take-answer = rw room (answers-0 (outFor g x) serving)
 
     -- 1: there is no room for P bytes.
-    pub take-full : lacksRoom (P x) (bufferOfPoint x) ≡ true → (takeData g x .answer ≡ answer 1) × Idle g x (takeData g x)
+    pub take-full : lacksRoom (P x) (bufferOfPoint x) ≡ true → (takeData g x .answer ≡ lacking (missing (P x) (bufferOfPoint x))) × Idle g x (takeData g x)
     unfolding takeData takeBy readAnswer takesOne brought
     take-full full = (rw full, take-idle (rw full) (rw full) (received-full (P x) (outFor g x) (offeredAt g x) (bufferOfPoint x) h fits full))
 
@@ -353,7 +353,7 @@ module _ (g : Given) (x : Point) where
       read-ripe ripe = rw (room, serving, le-leb 31 (unread (bufferOfPoint arrived)) (omega (arith, read-count)))
 
     -- 1: there is no room for P bytes.
-    pub read-full : lacksRoom (P x) (bufferOfPoint x) ≡ true → (readCbwRule g x .answer ≡ answer 1) × Idle g x (readCbwRule g x)
+    pub read-full : lacksRoom (P x) (bufferOfPoint x) ≡ true → (readCbwRule g x .answer ≡ lacking (missing (P x) (bufferOfPoint x))) × Idle g x (readCbwRule g x)
     unfolding readCbwRule readOneBy readBy takesOne readAnswer
     read-full full = (rw full, read-idle (rw full) (received-full (P x) (firstFor g) (g .one) (bufferOfPoint x) h fits full))
 

@@ -1,6 +1,7 @@
 -- No poll changes these, whatever its state and the endpoints' answers. It is one fact, carried through every rule.
 --     poll-whole, call-whole    a whole record stays whole, over the IO buffer that a poll leaves
 --     poll-sizes, call-sizes    what creation fixed and the lengths of both buffers stay; two packets taken, P bytes sent at most (Sizes)
+--     call-lacks                with answer 1, what is missing is P less the room that the poll leaves; else nothing is
 --     Follows, follows-..       the buffer that a step leaves has sound marks, and is as long as before
 --     packet-is                 if creation fixed the same, the packet size is the same
 --     call-done                 on a whole record, with packets that fit, the call is the poll
@@ -19,11 +20,12 @@ use borrow.Author.Tests.{leb-true, le-leb}
 use Rattle.fields.specs.Field.{getBits}
 use Rattle.fields.proofs.Bools.{and-right, not-true, of-picked}
 use Rattle.fields.proofs.Overlay.{length-overlay}
-use Rattle.buffer.specs.Buffer.{Buffer, buffer, at, unread, unreadBytes, emptied, ready, readyBytes, readOff}
+use Rattle.buffer.specs.Buffer.{Buffer, buffer, at, unread, unreadBytes, roomInAll, emptied, ready, readyBytes, readOff}
 use Rattle.buffer.specs.Inner.Buffer.{Sound}
 use Rattle.buffer.proofs.Kept.{length-written, sound-written, length-filled, sound-filled, length-writtenAll, sound-writtenAll, sound-readOff, sound-emptied}
 use Rattle.answers.specs.declared.Endpoint.{Endpoint}
-use Rattle.answers.specs.Answers.{Answering, answer, endpointOf}
+use Rattle.answers.specs.Answers.{Answering, answer, Lacks, endpointOf}
+use Rattle.answers.proofs.Laws.{lacks-else}
 use Rattle.ring.specs.declared.State.{State}
 use Rattle.ring.specs.declared.State.the-variants.{CommandTransfer, CommandTransferInvalid, DataTransferNoData, StatusTransfer, DataTransferToHost, DataTransferToHostStatusAwait, DataTransferToHostEnding, DataTransferFromHost, DataTransferFromHostEnding}
 use Rattle.ring.specs.States.{byDirection}
@@ -34,8 +36,8 @@ use Rattle.wrapper.specs.declared.counters.Left.{Left}
 use Rattle.wrapper.specs.Status.{statusNumber, statusBytes}
 use Rattle.wrapper.specs.Wrapper.{isValid, wrapperOf}
 use Rattle.wrapper.proofs.Cbw.{is-valid}
-use Rattle.packets.specs.Packets.{handed, readAnswer, takesOne, brought, received, accepted, sentCount, sentOff, sentInto, filledUp, statusWritten}
-use Rattle.packets.proofs.Laws.{moves-most}
+use Rattle.packets.specs.Packets.{handed, readAnswer, takesOne, brought, received, accepted, sendAnswer, sentCount, sentOff, sentInto, filledUp, statusWritten}
+use Rattle.packets.proofs.Laws.{moves-most, read-lacks, send-lacks}
 use Rattle.device.specs.declared.Status.{Status}
 use Rattle.device.specs.declared.Status.the-variants.{Absent, Present}
 use Rattle.device.specs.declared.Fixed.{Fixed}
@@ -143,6 +145,7 @@ pub record Sizes (d : Device) (len n : ℕ) (o : Polling) : Type 0 where
 record Kept (d : Device) (len n : ℕ) (o : Polling) : Type 0 where
   whole : Whole (numbersOf (o .device)) (length (o .io))
   sizes : d .fixed .packetsize ≤ n → Sizes d len n o
+  lacks : Lacks (d .fixed .packetsize) (roomInAll (buffer (o .io) (o .device .marks))) (o .answer)
 
 module _ (d : Device) (len : ℕ) (w : Whole (numbersOf d) len) (g : Given) where
   abbrev Keeps : Polling → Type 0
@@ -154,9 +157,9 @@ module _ (d : Device) (len : ℕ) (w : Whole (numbersOf d) len) (g : Given) wher
   -- ---- the ends
 
   -- The poll ends with an answer and `k` bytes sent.
-  kept-end : (x : Point) → Stands d len x → Fitting x → x .taken ≤ 2 → (t : Answering) (k : ℕ) → k ≤ d .fixed .packetsize → (stalled : Bool) (packet : List ℕ)
+  kept-end : (x : Point) → Stands d len x → Fitting x → x .taken ≤ 2 → (t : Answering) → Lacks (d .fixed .packetsize) (roomInAll (bufferOfPoint x)) t → (k : ℕ) → k ≤ d .fixed .packetsize → (stalled : Bool) (packet : List ℕ)
       → (d .fixed .packetsize ≤ length (g .packet) → length packet ≡ length (g .packet)) → Keeps (ending x t k stalled packet)
-  kept-end x h f taken t k sent stalled packet same = record {
+  kept-end x h f taken t told k sent stalled packet same = record {
     whole = record {
       lent = size-is (h .fixed) ∙ w .lent ∙ sym (h .long);
       created = ap creationChecks (h .fixed) ∙ w .created;
@@ -167,26 +170,27 @@ module _ (d : Device) (len : ℕ) (w : Whole (numbersOf d) len) (g : Given) wher
       status = f;
     };
     sizes = λ into. record { fixed = h .fixed; io = h .long; packet = same into; taken = taken; sent = sent };
+    lacks = told;
   }
 
-  kept-rest : (x : Point) → Stands d len x → Fitting x → x .taken ≤ 2 → (t : Answering) (stalled : Bool) → Keeps (ending x t 0 stalled (g .packet))
-  kept-rest x h f taken t stalled = kept-end x h f taken t 0 zero-le stalled (g .packet) (λ _. refl)
+  kept-rest : (x : Point) → Stands d len x → Fitting x → x .taken ≤ 2 → (t : Answering) → Lacks (d .fixed .packetsize) (roomInAll (bufferOfPoint x)) t → (stalled : Bool) → Keeps (ending x t 0 stalled (g .packet))
+  kept-rest x h f taken t told stalled = kept-end x h f taken t told 0 zero-le stalled (g .packet) (λ _. refl)
 
   module _ (x : Point) (h : Stands d len x) (f : Fitting x) (once : x .taken ≤ 1) where
     -- This is the point after a packet was sent, with `l` left.
     abbrev behind : Endpoint → Left → Point
     behind e l = point (withLeft l (withMarks (sentOff (x .device .fixed .packetsize) e (bufferOfPoint x) .marks) (x .device))) (sentOff (x .device .fixed .packetsize) e (bufferOfPoint x) .bytes) (x .taken) (x .unstalled)
 
-    sends : (e : Endpoint) (l : Left) (t : Answering) → Keeps (ending (behind e l) t (sentCount (x .device .fixed .packetsize) e (bufferOfPoint x)) false (sentInto (x .device .fixed .packetsize) e (bufferOfPoint x) (g .packet)))
-    sends e l t =
+    sends : (e : Endpoint) (l : Left) → Keeps (ending (behind e l) (sendAnswer e (unread (bufferOfPoint x))) (sentCount (x .device .fixed .packetsize) e (bufferOfPoint x)) false (sentInto (x .device .fixed .packetsize) e (bufferOfPoint x) (g .packet)))
+    sends e l =
         let p : ℕ = x .device .fixed .packetsize in
-        kept-end (behind e l) (stands-left x (sentOff p e (bufferOfPoint x)) h (follows-sent p e (bufferOfPoint x) (h .sound))) f (omega arith) t _
+        kept-end (behind e l) (stands-left x (sentOff p e (bufferOfPoint x)) h (follows-sent p e (bufferOfPoint x) (h .sound))) f (omega arith) _ (send-lacks e (unread (bufferOfPoint x))) _
         (rw (← packet-is (h .fixed)) (sent-most p e (bufferOfPoint x))) false _
         (rw (← packet-is (h .fixed)) (sent-length p e (bufferOfPoint x) (g .packet)))
 
     kept-send : (counts : Bool) → Keeps (send counts g x)
     unfolding send sendBy
-    kept-send counts = sends (endpointOf (g .turn .write)) (leftThen counts (x .device .left) _) _
+    kept-send counts = sends (endpointOf (g .turn .write)) (leftThen counts (x .device .left) _)
 
     kept-take : Keeps (takeData g x)
     unfolding takeData takeBy
@@ -197,7 +201,7 @@ module _ (d : Device) (len : ℕ) (w : Whole (numbersOf d) len) (g : Given) wher
         let s : Buffer = bufferOfPoint x in
         kept-rest (counting (takesOne p e s) (lowered true (brought p e packet s) (leaving (received p e packet s) x)))
         (stands-left x _ h (follows-received p e packet s (h .sound))) f
-        (of-picked (λ (n : ℕ). n ≤ 2) (takesOne p e s) (λ _. omega arith) (λ _. omega arith)) _ false
+        (of-picked (λ (n : ℕ). n ≤ 2) (takesOne p e s) (λ _. omega arith) (λ _. omega arith)) _ (rw (← packet-is (h .fixed)) (read-lacks p e packet s (h .sound))) false
 
   -- ---- the states
 
@@ -210,7 +214,7 @@ module _ (d : Device) (len : ℕ) (w : Whole (numbersOf d) len) (g : Given) wher
 
     kept-await : Keeps (statusAwaitRule g x)
     unfolding statusAwaitRule
-    kept-await = of-picked Keeps (isPresent (x .device .status)) kept-enter (λ _. kept-rest (reaching DataTransferToHostStatusAwait x) h refl (omega arith) (answer 0) false)
+    kept-await = of-picked Keeps (isPresent (x .device .status)) kept-enter (λ _. kept-rest (reaching DataTransferToHostStatusAwait x) h refl (omega arith) (answer 0) (lacks-else (answer 0) refl refl) false)
 
     kept-to-ending : isPresent (x .device .status) ≡ true → Keeps (toHostEndingRule g x)
     unfolding toHostEndingRule
@@ -225,7 +229,7 @@ module _ (d : Device) (len : ℕ) (w : Whole (numbersOf d) len) (g : Given) wher
         of-picked Keeps (eqb (x .device .left .0) 0) (λ _. kept-await)
         (λ _. of-picked Keeps (isPresent (x .device .status)) kept-to-ending
         (λ _. of-picked Keeps (fallsShort (x .device .fixed .packetsize) (x .device .left) (unread (bufferOfPoint x)))
-        (λ _. kept-rest (reaching DataTransferToHost x) h refl (omega arith) (answer 4) false)
+        (λ _. kept-rest (reaching DataTransferToHost x) h refl (omega arith) (answer 4) (lacks-else (answer 4) refl refl) false)
         (λ _. kept-send (reaching DataTransferToHost x) h refl once true)))
 
     kept-from-ending : isPresent (x .device .status) ≡ true → Keeps (fromHostEndingRule g x)
@@ -259,13 +263,13 @@ module _ (d : Device) (len : ℕ) (w : Whole (numbersOf d) len) (g : Given) wher
         let k : Stands d len (leaving t x) = stands-left x t h (follows-31 (bufferOfPoint x) (h .sound) ripe) in
         of-picked Keeps (isValid m)
         (λ v. kept-start (wrapperOf m) (lun-most m) (block-most m v) (leaving t x) k once)
-        (λ _. kept-rest (reaching CommandTransferInvalid (leaving t x)) k (rw absent) (omega arith) (answer 0) true)
+        (λ _. kept-rest (reaching CommandTransferInvalid (leaving t x)) k (rw absent) (omega arith) (answer 0) (lacks-else (answer 0) refl refl) true)
 
-    kept-by : Fitting x → x .taken ≤ 1 → (took : Bool) (t : Answering) → Keeps (readBy took t g x)
+    kept-by : Fitting x → x .taken ≤ 1 → (took : Bool) (t : Answering) → Lacks (d .fixed .packetsize) (roomInAll (bufferOfPoint x)) t → Keeps (readBy took t g x)
     unfolding readBy
-    kept-by f once took t =
+    kept-by f once took t told =
         let ripe : Bool = leb 31 (unread (bufferOfPoint x)) in
-        of-picked Keeps (took && ripe) (λ e. kept-parse once (leb-true _ _ (and-right took ripe e))) (λ _. kept-rest x h f (omega arith) t false)
+        of-picked Keeps (took && ripe) (λ e. kept-parse once (leb-true _ _ (and-right took ripe e))) (λ _. kept-rest x h f (omega arith) t told false)
 
   kept-read : (x : Point) → Stands d len x → isPresent (x .device .status) ≡ false → Fitting x → x .taken ≡ 0 → Keeps (readCbwRule g x)
   unfolding readCbwRule readOneBy
@@ -276,13 +280,14 @@ module _ (d : Device) (len : ℕ) (w : Whole (numbersOf d) len) (g : Given) wher
       let t : Buffer = received p e (g .one) (bufferOfPoint x) in
       kept-by (counting took (leaving t x)) (stands-left x t h (follows-received p e (g .one) (bufferOfPoint x) (h .sound))) absent f
       (of-picked (λ (n : ℕ). n ≤ 1) took (λ _. omega arith) (λ _. omega arith)) took (readAnswer p e (bufferOfPoint x))
+      (rw (← packet-is (h .fixed)) (read-lacks p e (g .one) (bufferOfPoint x) (h .sound)))
 
   -- ---- all states
 
   kept-in : (s : State) (x : Point) → Stands d len x → Fitting x → x .device .state ≡ s → x .taken ≡ 0 → Keeps (ruleIn s g x)
   unfolding ruleIn invalidRule noDataRule statusTransferRule
   kept-in CommandTransfer x h f e none = kept-read x h (not-true _ (rw e at f)) f none
-  kept-in CommandTransferInvalid x h f e none = kept-rest x h f (omega arith) (answer 0) true
+  kept-in CommandTransferInvalid x h f e none = kept-rest x h f (omega arith) (answer 0) (lacks-else (answer 0) refl refl) true
   kept-in DataTransferNoData x h f e none = kept-await x h (omega arith)
   kept-in StatusTransfer x h f e none =
       of-picked Keeps (eqb (unread (bufferOfPoint x)) 0)
@@ -337,3 +342,9 @@ module _ (d : Device) (io : List ℕ) (g : Given) where
   call-sizes =
       let same : (n : ℕ) → Sizes d (length io) (length (g .packet)) (refusing d io g n) = λ _. record { fixed = refl; io = refl; packet = refl; taken = zero-le; sent = zero-le } in
       by-call (Sizes d (length io) (length (g .packet))) (same 10) (same 11) (λ w f. poll-sizes w (f .into))
+
+  -- What the call says to be missing is true of the room that it leaves.
+  pub call-lacks : Lacks (d .fixed .packetsize) (roomInAll (buffer (pollCall d io g .io) (pollCall d io g .device .marks))) (pollCall d io g .answer)
+  call-lacks =
+      by-call (λ (o : Polling). Lacks (d .fixed .packetsize) (roomInAll (buffer (o .io) (o .device .marks))) (o .answer))
+      (lacks-else (answer 10) refl refl) (lacks-else (answer 11) refl refl) (λ w _. kept w .lacks)

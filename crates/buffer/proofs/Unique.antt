@@ -2,7 +2,7 @@
 -- slice at exit. `Post` is the contract itself, as the check reads it. The calls that take any marks come first, then those of
 -- `marked` and `span`. Assumes nothing.
 use mathlib.Core.Path.{_≡_, refl, sym, ap, _∙_}
-use mathlib.Core.Bool.{Bool, cond}
+use mathlib.Core.Bool.{cond}
 use mathlib.Core.List.{List}
 use Prim.Native.Nat.{ℕ}
 use lib.Dec.{eqb}
@@ -63,17 +63,17 @@ use Rattle.buffer.proofs.span.fill.Reads as span-fill
 
 -- Document 01's number and values determine the answer, and the bytes too.
 named : Answering → Answer
-named o = cond (eqb (o .answer) 0) (Done (o .count) (o .leaves .marks)) (cond (eqb (o .answer) 1) (Overflow (o .leaves .marks)) Broken)
+named o = cond (eqb (o .answer) 0) (Done (o .count) (o .leaves .marks)) (cond (eqb (o .answer) 1) (Overflow (o .missing) (o .leaves .marks)) Broken)
 
 named-answer : (m : Marks) (x : Answer) (b : List ℕ) → named (answerOf m x b) ≡ x
 unfolding named
 named-answer m (Done n t) b = refl
-named-answer m (Overflow t) b = refl
+named-answer m (Overflow n t) b = refl
 named-answer m Broken b = refl
 
 answer-bytes : (m : Marks) (x : Answer) (b : List ℕ) → answerOf m x b .leaves .bytes ≡ b
 answer-bytes m (Done n t) b = refl
-answer-bytes m (Overflow t) b = refl
+answer-bytes m (Overflow n t) b = refl
 answer-bytes m Broken b = refl
 
 pub answer-once : (m : Marks) (x y : Answer) (b c : List ℕ) {o : Answering} → answerOf m x b ≡ o → answerOf m y c ≡ o → (x ≡ y) × (b ≡ c)
@@ -113,12 +113,12 @@ left-once p q =
     let e = p .same ∙ sym (q .same) in
     (ap (λ (s : Buffer). s .marks) e, ap (λ (s : Buffer). s .bytes) e)
 
--- These are the results of the calls of `marked`: a count, or whether all was taken, together with the marks.
+-- These are the results of the calls of `marked`: a count, or what is missing, together with the marks.
 abbrev taken : ℕ → Marks → Taken
 taken n m = record { count = n; marks = m }
 
-abbrev wrote : Bool → Marks → Put
-wrote d m = record { done = d; marks = m }
+abbrev wrote : ℕ → Marks → Put
+wrote n m = record { missing = n; marks = m }
 
 taken-once : {x y : Taken} {b c : List ℕ} {n : ℕ} {t : Buffer}
     → x .count ≡ n → Leaves (buffer b (x .marks)) t → y .count ≡ n → Leaves (buffer c (y .marks)) t → (x ≡ y) × (b ≡ c)
@@ -126,11 +126,11 @@ taken-once {x} {y} en p ek q =
     let e = left-once p q in
     (ap (λ (k : ℕ). taken k (x .marks)) (en ∙ sym ek) ∙ ap (taken (y .count)) (e .0), e .1)
 
-wrote-once : {x y : Put} {b c : List ℕ} {d : Bool} {t : Buffer}
-    → x .done ≡ d → Leaves (buffer b (x .marks)) t → y .done ≡ d → Leaves (buffer c (y .marks)) t → (x ≡ y) × (b ≡ c)
-wrote-once {x} {y} ed p ef q =
+wrote-once : {x y : Put} {b c : List ℕ} {n : ℕ} {t : Buffer}
+    → x .missing ≡ n → Leaves (buffer b (x .marks)) t → y .missing ≡ n → Leaves (buffer c (y .marks)) t → (x ≡ y) × (b ≡ c)
+wrote-once {x} {y} en p ek q =
     let e = left-once p q in
-    (ap (λ (d : Bool). wrote d (x .marks)) (ed ∙ sym ef) ∙ ap (wrote (y .done)) (e .0), e .1)
+    (ap (λ (k : ℕ). wrote k (x .marks)) (en ∙ sym ek) ∙ ap (wrote (y .missing)) (e .0), e .1)
 
 pub marked-clean-only : Only 0 marked-clean-kinds.ps marked-clean-kinds.r marked-clean.Post (λ κs s. tt {0})
 marked-clean-only κs a x y s t p q = (p ∙ sym q, refl)

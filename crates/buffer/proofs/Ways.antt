@@ -1,18 +1,19 @@
 -- There is one law for each way through a function of src/. From the tests on the way and from what the callees ensure, it proves what the
 -- function owes. Assumes nothing.
-use mathlib.Core.Path.{_≡_, sym, ap, _∙_, subst}
-use mathlib.Core.Bool.{Bool, true, false, cond, not}
+use mathlib.Core.Path.{_≡_, refl, sym, ap, _∙_, subst}
+use mathlib.Core.Bool.{Bool, true, false, cond}
 use mathlib.Core.List.{List}
 use Prim.Native.Nat.{ℕ, _+_, _-_, _≤_, _<_, min, max}
 use native.Mathlib.Nat.{min-le-left, min-le-right}
 use native.Mathlib.Omega.{arith}
-use borrow.Author.Tests.{lt-ltb, le-ltb, not-true, not-false}
+use borrow.Author.Tests.{lt-ltb, le-ltb}
 use lib.ListN.{length, take, drop, replicate, length-replicate}
 use lib.Seq.{length-take-le, take-take}
 use Rattle.fields.specs.Overlay.{overlay}
-use Rattle.buffer.specs.Buffer.{Buffer, buffer, at, isSound, unread, unreadBytes, room, moved, withRoom, appended, fitting, written, filled, lacksRoom, writtenAll, ready, readyBytes, readOff}
+use Rattle.buffer.specs.Buffer.{Buffer, buffer, at, isSound, unread, unreadBytes, room, moved, withRoom, appended, fitting, written, filled, lacksRoom, missing, writtenAll, ready, readyBytes, readOff}
 use Rattle.buffer.specs.Inner.Buffer.{Sound, Leaves}
-use Rattle.buffer.specs.Calls.{answering, ifSound}
+use Rattle.buffer.specs.Calls.{answering, lacking, ifSound}
+use Rattle.buffer.proofs.Room.{none-missing, some-missing}
 use Rattle.buffer.proofs.Kept.{is-sound, sound-moved, sound-written, sound-filled, sound-writtenAll, sound-readOff, sound-withRoom}
 
 -- ---- marked: t is the buffer after room was made, and b are its bytes at the end
@@ -72,14 +73,19 @@ module _ (want : ℕ) (ys : List ℕ) (n : ℕ) (s t : Buffer) (g : Sound s) (en
   unfolding lacksRoom
   has h = rw (← en, ← et .same, le-ltb _ _ h)
 
-  pub refuses : room t < n → (false ≡ not (lacksRoom (max want (length ys)) s)) × Leaves t (writtenAll want ys s)
+  -- What was asked for less the room is what is missing, and 0 where there is enough room.
+  misses : {k : ℕ} → k ≡ n - room t → k ≡ missing (max want (length ys)) s
+  unfolding missing
+  misses h = rw (← en, ← et .same) h
+
+  pub refuses : room t < n → (n - room t ≡ missing (max want (length ys)) s) × Leaves t (writtenAll want ys s)
   unfolding writtenAll
-  refuses h = (rw (lacks h), leaves (rw (lacks h, ← en, ← et .same)) (sound-writtenAll want ys s g))
+  refuses h = (misses refl, leaves (rw (lacks h, ← en, ← et .same)) (sound-writtenAll want ys s g))
 
   pub takes-all : n ≤ room t → (b : List ℕ) → b ≡ overlay (t .bytes) (t .marks .write) ys
-      → (true ≡ not (lacksRoom (max want (length ys)) s)) × Leaves (buffer b (at (t .marks .read) (t .marks .write + length ys))) (writtenAll want ys s)
+      → (0 ≡ missing (max want (length ys)) s) × Leaves (buffer b (at (t .marks .read) (t .marks .write + length ys))) (writtenAll want ys s)
   unfolding writtenAll appended
-  takes-all h b e = (rw (has h), leaves (rw (has h, ← en, ← et .same, e)) (sound-writtenAll want ys s g))
+  takes-all h b e = (misses (omega arith), leaves (rw (has h, ← en, ← et .same, e)) (sound-writtenAll want ys s g))
 
 -- At most n bytes are read, k of them, into d, which becomes e.
 pub reads : (d : List ℕ) (n k : ℕ) (s : Buffer) → Sound s → k ≡ min (unread s) n → (e : List ℕ)
@@ -109,10 +115,10 @@ module _ (s : Buffer) {x : Bool} (e : x ≡ isSound (length (s .bytes)) (s .mark
 pub counts : {n k : ℕ} {t u : Buffer} → n ≡ k → t ≡ u → answering 0 n t ≡ answering 0 k u
 counts en et = rw (en, et)
 
--- All was taken, or nothing; d says which.
-module _ (s : Buffer) (n k : ℕ) {t u : Buffer} {d : Bool} (ed : d ≡ not (lacksRoom n s)) (et : t ≡ u) where
-  pub all-taken : d ≡ true → answering 0 k t ≡ cond (lacksRoom n s) (answering 1 0 u) (answering 0 k u)
-  all-taken h = rw (not-true (lacksRoom n s) (sym ed ∙ h), et)
+-- All was taken, or nothing; x is what is missing.
+module _ (s : Buffer) (n k : ℕ) {t u : Buffer} {x : ℕ} (ex : x ≡ missing n s) (et : t ≡ u) where
+  pub all-taken : x ≡ 0 → answering 0 k t ≡ cond (lacksRoom n s) (lacking (missing n s) u) (answering 0 k u)
+  all-taken h = rw (none-missing n s (sym ex ∙ h), et)
 
-  pub overflows : d ≡ false → answering 1 0 t ≡ cond (lacksRoom n s) (answering 1 0 u) (answering 0 k u)
-  overflows h = rw (not-false (lacksRoom n s) (sym ed ∙ h), et)
+  pub overflows : (x ≡ 0 → ⊥) → lacking x t ≡ cond (lacksRoom n s) (lacking (missing n s) u) (answering 0 k u)
+  overflows h = rw (some-missing n s (λ e. h (ex ∙ e)), ex, et)

@@ -38,6 +38,10 @@ unreadBytes s = take (unread s) (drop (s .marks .read) (s .bytes))
 abbrev pub room : Buffer → ℕ
 room s = length (s .bytes) - s .marks .write
 
+-- This is the room in `s` after the move, wherever its marks stand: all of its bytes but the unread ones.
+abbrev pub roomInAll : Buffer → ℕ
+roomInAll s = length (s .bytes) - unread s
+
 -- This is `s` after the move: "unread bytes move to the front (both marks go to 0 if none)".
 -- The new write mark is the number of unread bytes.
 unfoldable pub moved : Buffer → Buffer

@@ -22,13 +22,13 @@ use borrow.Table.Steps.{cases}
 use Rattle.fields.specs.Overlay.{overlay}
 use Rattle.fields.proofs.Bools.{and-left, of-picked, clash}
 use Rattle.buffer.specs.declared.Marks.{Marks}
-use Rattle.buffer.specs.Buffer.{Buffer, buffer, unread, unreadBytes, room, withRoom, appended, fitting, written, lacksRoom, writtenAll, ready, readyBytes, readOff}
+use Rattle.buffer.specs.Buffer.{Buffer, buffer, unread, unreadBytes, room, roomInAll, withRoom, appended, fitting, written, lacksRoom, missing, writtenAll, ready, readyBytes, readOff}
 use Rattle.buffer.specs.Inner.Buffer.{Sound}
 use Rattle.buffer.proofs.Kept.{length-written, sound-written, length-writtenAll, sound-writtenAll, sound-readOff}
-use Rattle.buffer.proofs.Room.{room-left, fitting-by-unread}
+use Rattle.buffer.proofs.Room.{fitting-by-unread}
 use Rattle.buffer.proofs.Unread.{unread-written, unread-writtenAll, unread-readOff}
 use Rattle.answers.specs.declared.Stalls.the-variants.{Kept}
-use Rattle.answers.specs.Answers.{Answering, answer}
+use Rattle.answers.specs.Answers.{Answering, answer, lacking}
 use Rattle.scsi.specs.Decoding.{decodeCall}
 use Rattle.ring.specs.declared.State.{State}
 use Rattle.ring.specs.declared.State.the-variants.{CommandTransfer, CommandTransferInvalid, DataTransferNoData, StatusTransfer, DataTransferToHost, DataTransferToHostStatusAwait, DataTransferToHostEnding, DataTransferFromHost, DataTransferFromHostEnding}
@@ -200,11 +200,11 @@ write-all-within d io src =
     most : (n : ℕ) → max 0 n ≡ n
     most n = max-eq-right zero-le
 
--- These are the answer and the count if all is written or nothing.
-all-answer : (b : Bool) (n : ℕ) (d : Device) (t : Buffer)
-    → (cond b (movingTo (answer 1) 0 d t) (movingTo (answer 0) n d t) .answer ≡ cond b (answer 1) (answer 0)) × (cond b (movingTo (answer 1) 0 d t) (movingTo (answer 0) n d t) .count ≡ cond b 0 n)
-all-answer true n d t = (refl, refl)
-all-answer false n d t = (refl, refl)
+-- These are the answer and the count if all is written or nothing; `a` is the answer of a refusal.
+all-answer : (b : Bool) (a : Answering) (n : ℕ) (d : Device) (t : Buffer)
+    → (cond b (movingTo a 0 d t) (movingTo (answer 0) n d t) .answer ≡ cond b a (answer 0)) × (cond b (movingTo a 0 d t) (movingTo (answer 0) n d t) .count ≡ cond b 0 n)
+all-answer true a n d t = (refl, refl)
+all-answer false a n d t = (refl, refl)
 
 -- The record is whole.
 module _ (d : Device) (io : List ℕ) (w : Whole (numbersOf d) (length io)) where
@@ -261,12 +261,12 @@ module _ (d : Device) (io : List ℕ) (w : Whole (numbersOf d) (length io)) wher
 
       -- It is no fewer than it can be: it is limited only by what is left, by the source, and by the part of the buffer that is not
       -- unread.
-      pub write-count : writeDataCall d io src .count ≡ min (room-left (bufferOf d io)) (min (d .left .0) (length src))
+      pub write-count : writeDataCall d io src .count ≡ min (roomInAll (bufferOf d io)) (min (d .left .0) (length src))
       unfolding writeIn limited
       write-count =
           ap (λ (o : Moving). o .count) (data-done 4 d io io _ w h)
           ∙ fitting-by-unread (length (limited (d .left) src)) (bufferOf d io) (sound d io w)
-          ∙ ap (min (room-left (bufferOf d io))) (length-take (d .left .0) src)
+          ∙ ap (min (roomInAll (bufferOf d io))) (length-take (d .left .0) src)
 
       -- These are the first bytes of the source.
       pub write-first : take (writeDataCall d io src .count) (limited (d .left) src) ≡ take (writeDataCall d io src .count) src
@@ -281,13 +281,13 @@ module _ (d : Device) (io : List ℕ) (w : Whole (numbersOf d) (length io)) wher
           subst (λ (o : Moving). unreadBytes (bufferOf (o .device) (o .bytes)) ≡ unreadBytes (bufferOf d io) ++ take (o .count) ys) (sym (data-done 4 d io io _ w h))
           (unread-written ys (bufferOf d io) (sound d io w))
 
-      -- All of the source is written or none: the answer is 0 and the count its length, or 1 and 0.
-      pub write-all-answer : (writeDataAllCall d io src .answer ≡ cond (lacksRoom (length src) (bufferOf d io)) (answer 1) (answer 0)) × (writeDataAllCall d io src .count ≡ cond (lacksRoom (length src) (bufferOf d io)) 0 (length src))
+      -- All of the source is written or none: the answer is 0 and the count its length, or 1, with what is missing, and 0.
+      pub write-all-answer : (writeDataAllCall d io src .answer ≡ cond (lacksRoom (length src) (bufferOf d io)) (lacking (missing (length src) (bufferOf d io))) (answer 0)) × (writeDataAllCall d io src .count ≡ cond (lacksRoom (length src) (bufferOf d io)) 0 (length src))
       unfolding writeAllIn
       write-all-answer =
-          let t : Buffer = writtenAll 0 src (bufferOf d io) in
-          subst (λ (o : Moving). (o .answer ≡ cond (lacksRoom (length src) (bufferOf d io)) (answer 1) (answer 0)) × (o .count ≡ cond (lacksRoom (length src) (bufferOf d io)) 0 (length src)))
-          (sym (data-done 4 d io io _ w h)) (all-answer (lacksRoom (length src) (bufferOf d io)) (length src) d t)
+          let s : Buffer = bufferOf d io in
+          subst (λ (o : Moving). (o .answer ≡ cond (lacksRoom (length src) s) (lacking (missing (length src) s)) (answer 0)) × (o .count ≡ cond (lacksRoom (length src) s) 0 (length src)))
+          (sym (data-done 4 d io io _ w h)) (all-answer (lacksRoom (length src) s) (lacking (missing (length src) s)) (length src) d (writtenAll 0 src s))
 
       pub write-all-unread : unreadBytes (bufferOf (writeDataAllCall d io src .device) (writeDataAllCall d io src .bytes))
           ≡ cond (lacksRoom (length src) (bufferOf d io)) (unreadBytes (bufferOf d io)) (unreadBytes (bufferOf d io) ++ src)

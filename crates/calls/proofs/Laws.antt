@@ -12,11 +12,12 @@ use borrow.Author.Tests.{eq-eqb, ne-eqb, le-leb, lt-leb}
 use Rattle.fields.specs.Overlay.{overlay}
 use Rattle.fields.proofs.Bools.{not-true, not-false}
 use Rattle.buffer.specs.declared.Marks.{Marks}
-use Rattle.buffer.specs.Buffer.{Buffer, buffer, fitting, written, lacksRoom, writtenAll, ready, readyBytes, readOff}
+use Rattle.buffer.specs.Buffer.{Buffer, buffer, fitting, written, missing, writtenAll, ready, readyBytes, readOff}
 use Rattle.buffer.specs.Inner.Buffer.{Sound, Leaves}
+use Rattle.buffer.proofs.Room.{none-missing, some-missing}
 use Rattle.answers.specs.declared.Answer.the-variants.{Done, IoBufferOverflow, InvalidState, BrokenRecord, StatusRefused, EmptyBlock}
 use Rattle.answers.specs.declared.Stalls.the-variants.{Unstalled}
-use Rattle.answers.specs.Answers.{Answering, answer}
+use Rattle.answers.specs.Answers.{Answering, answer, lacking}
 use Rattle.wrapper.specs.declared.counters.Left.{Left}
 use Rattle.wrapper.specs.declared.counters.Residue.{Residue}
 use Rattle.wrapper.specs.declared.status.CommandStatus.{CommandStatus}
@@ -171,23 +172,19 @@ writes d s src {n} {k} {m} {io} hn hk hm hr =
     let e : take n src ≡ limited (d .left) src = cut (d .left) src hn in
     rw (hr, hk, e) (left-by (answer 0) (fitting (length (limited (d .left) src)) s) d (rw e at hm))
 
-flipped : (a x : Bool) → x ≡ not a → not x ≡ a
-flipped true x h = rw h
-flipped false x h = rw h
-
--- `b` says whether the source was taken: it is all of it, or nothing.
-module _ (d : Device) (s : Buffer) (src : List ℕ) {b : Bool} (hb : b ≡ not (lacksRoom (max 0 (length src)) s)) where
-  lacks : {x : Bool} → b ≡ x → not x ≡ lacksRoom (length src) s
-  lacks {x} q = flipped (lacksRoom (length src) s) x (sym q ∙ rw (max-eq-right zero-le) at hb)
+-- `n` bytes are missing: the source is taken if that is none, and nothing of it otherwise.
+module _ (d : Device) (s : Buffer) (src : List ℕ) {n : ℕ} (hn : n ≡ missing (max 0 (length src)) s) where
+  lacked : n ≡ missing (length src) s
+  lacked = rw (max-eq-right zero-le) at hn
 
   module _ {m : Marks} {io : List ℕ} (hm : Leaves (buffer io m) (writtenAll 0 src s)) {r : Moved} where
-    pub writes-all : b ≡ true → r ≡ movesTo d m Done (length src) → movingOf r io ≡ writeAllIn d s src
+    pub writes-all : n ≡ 0 → r ≡ movesTo d m Done (length src) → movingOf r io ≡ writeAllIn d s src
     unfolding writeAllIn
-    writes-all q hr = rw (hr, ← lacks q) (left-by (answer 0) (length src) d hm)
+    writes-all q hr = rw (hr, none-missing (length src) s (sym lacked ∙ q)) (left-by (answer 0) (length src) d hm)
 
-    pub overflows : b ≡ false → r ≡ movesTo d m IoBufferOverflow 0 → movingOf r io ≡ writeAllIn d s src
+    pub overflows : (n ≡ 0 → ⊥) → r ≡ movesTo d m (IoBufferOverflow n) 0 → movingOf r io ≡ writeAllIn d s src
     unfolding writeAllIn
-    overflows q hr = rw (hr, ← lacks q) (left-by (answer 1) 0 d hm)
+    overflows q hr = rw (hr, some-missing (length src) s (λ e. q (lacked ∙ e)), lacked) (left-by (lacking (missing (length src) s)) 0 d hm)
 
 -- ---- the bus
 

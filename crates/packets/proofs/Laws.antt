@@ -1,28 +1,31 @@
 -- Laws of one packet: what has to be shown for each way through a function (`ways`). Assumes nothing.
 use mathlib.Core.Path.{_≡_, refl, sym, ap, _∙_}
-use mathlib.Core.Bool.{Bool, true, false, not, cond}
+use mathlib.Core.Bool.{Bool, true, false, cond}
 use mathlib.Core.List.{List, []}
 use Prim.Native.Nat.{ℕ, _-_, _≤_, min, max, zero-le}
 use native.Mathlib.Omega.{arith}
-use native.Mathlib.Nat.{add-zero, max-eq-left, min-zero, min-le-left, sub-zero, zero-add}
+use native.Mathlib.Nat.{add-zero, le-max-left, max-eq-left, min-zero, min-le-left, sub-zero, zero-add}
 use lib.Dec.{eqb, ltb}
 use lib.ListN.{length, take, length-take}
 use lib.Seq.{take-length, take-take}
-use borrow.Author.Tests.{eq-eqb, ne-eqb}
+use borrow.Author.Tests.{eq-eqb, ne-eqb, eqb-true, eqb-false, ltb-true}
+use borrow.Table.Steps.{cases}
 use Rattle.fields.specs.Overlay.{overlay}
 use Rattle.fields.proofs.Bools.{of-picked}
 use Rattle.fields.proofs.Overlay.{overlay-nothing}
 use Rattle.buffer.specs.declared.Marks.{Marks}
 use Rattle.buffer.specs.declared.marked.Put.{Put}
-use Rattle.buffer.specs.Buffer.{Buffer, buffer, at, unread, lacksRoom, withRoom, writtenAll, filled, emptied, ready, readyBytes, readOff}
+use Rattle.buffer.specs.Buffer.{Buffer, buffer, at, unread, roomInAll, lacksRoom, missing, withRoom, writtenAll, filled, emptied, ready, readyBytes, readOff}
 use Rattle.buffer.specs.Inner.Buffer.{Sound, Leaves}
 use Rattle.buffer.proofs.Unread.{moved-emptied, filled-none}
+use Rattle.buffer.proofs.Room.{missing-by-unread, lacks-missing, none-missing, some-missing, lacks-more, room-refused}
 use Rattle.buffer.proofs.Ways.{writes}
 use Rattle.answers.specs.declared.Answer.the-variants.{Done, IoBufferOverflow}
 use Rattle.answers.specs.declared.Endpoint.{Endpoint}
 use Rattle.answers.specs.declared.Endpoint.the-variants.{Served, Busy, Failed}
 use Rattle.answers.specs.declared.Answer.{Answer}
-use Rattle.answers.specs.Answers.{Answering, answerOf, answer, serves, answeredBy}
+use Rattle.answers.specs.Answers.{Answering, answerOf, answer, Lacks, serves, answeredBy}
+use Rattle.answers.proofs.Laws.{lacks-else, lacks-asked}
 use Rattle.wrapper.specs.declared.counters.Left.{Left}
 use Rattle.wrapper.specs.declared.counters.Residue.{Residue}
 use Rattle.wrapper.specs.Status.{statusBytes}
@@ -62,32 +65,51 @@ handed-most e packet p h = by (serves e)
 -- ---- a read
 
 module _ (t : Put) (e : Endpoint) (n : ℕ) where
-  pub reports-room : t .done ≡ true → {o : Answer} → answerOf o ≡ answeredBy e → {v : Bool} → v ≡ serves e
+  pub reports-room : t .missing ≡ 0 → {o : Answer} → answerOf o ≡ answeredBy e → {v : Bool} → v ≡ serves e
       → Reports t e n (record { answer = o; taken = v; count = n; marks = t .marks })
-  reports-room q ho hv = record { answer = rw q ho; taken = rw q hv; count = rw q; marks = refl }
+  reports-room q ho hv = let none = eq-eqb _ _ q in record { answer = rw none ho; taken = rw none hv; count = rw none; marks = refl }
 
-  pub reports-none : t .done ≡ false → Reports t e n (record { answer = IoBufferOverflow; taken = false; count = 0; marks = t .marks })
-  reports-none q = record { answer = rw q; taken = rw q; count = rw q; marks = refl }
+  pub reports-none : (t .missing ≡ 0 → ⊥) → Reports t e n (record { answer = IoBufferOverflow (t .missing); taken = false; count = 0; marks = t .marks })
+  reports-none q = let some = ne-eqb _ _ q in record { answer = rw some; taken = rw some; count = rw some; marks = refl }
 
--- This turns a test that the code makes the other way round.
-unless : {A : Type 0} (b : Bool) (x y : A) → cond (not b) x y ≡ cond b y x
-unless true x y = refl
-unless false x y = refl
+-- The code asks whether nothing is missing, and 01 whether room is too small.
+by-missing : {A : Type 0} (p : ℕ) (s : Buffer) (x y : A) → cond (eqb (missing p s) 0) x y ≡ cond (lacksRoom p s) y x
+by-missing p s x y =
+    cases (eqb (missing p s) 0)
+    (λ e. rw (e, none-missing p s (eqb-true (missing p s) 0 e)))
+    (λ e. rw (e, some-missing p s (eqb-false (missing p s) 0 e)))
 
-pub reads : (p : ℕ) (e : Endpoint) (packet : List ℕ) (s : Buffer) → length packet ≤ p → {ys : List ℕ} → ys ≡ handed e packet → {t : Put} {io : List ℕ} → t .done ≡ not (lacksRoom (max p (length ys)) s)
+pub reads : (p : ℕ) (e : Endpoint) (packet : List ℕ) (s : Buffer) → length packet ≤ p → {ys : List ℕ} → ys ≡ handed e packet → {t : Put} {io : List ℕ} → t .missing ≡ missing (max p (length ys)) s
     → Leaves (buffer io (t .marks)) (writtenAll p ys s) → {r : Received} → Reports t e (length ys) r → Reads p e packet s r io
 unfolding readAnswer takesOne brought received
 reads p e packet s fits hy {t} hd hl x =
     let most : max p (length (handed e packet)) ≡ p = max-eq-left (handed-most e packet p fits) in
-    let room : t .done ≡ not (lacksRoom p s) = rw (hy, most) at hd in
+    let lacked : t .missing ≡ missing p s = rw (hy, most) at hd in
     record {
-      answer = x .answer ∙ rw room (unless (lacksRoom p s) _ _);
-      taken = x .taken ∙ rw room (unless (lacksRoom p s) _ _);
-      count = x .count ∙ rw (room, hy) (unless (lacksRoom p s) _ _);
+      answer = x .answer ∙ rw lacked (by-missing p s _ _);
+      taken = x .taken ∙ rw lacked (by-missing p s _ _);
+      count = x .count ∙ rw (lacked, hy) (by-missing p s _ _);
       leaves = rw (x .marks, ← hy) hl;
     }
 
+-- What a read answers is true of the room that it leaves.
+pub read-lacks : (p : ℕ) (e : Endpoint) (packet : List ℕ) (s : Buffer) → Sound s → Lacks p (roomInAll (received p e packet s)) (readAnswer p e s)
+unfolding readAnswer received
+read-lacks p e packet s g =
+    of-picked (Lacks p (roomInAll (received p e packet s))) (lacksRoom p s)
+    (λ full. record {
+      less = λ _. missing-by-unread p s g ∙ ap (λ (r : ℕ). p - r) (sym (room-refused p (handed e packet) s g (lacks-more p (max p (length (handed e packet))) s g (le-max-left p (length (handed e packet))) full)));
+      some = λ _. ltb-true 0 (missing p s) (sym (lacks-missing p s) ∙ full);
+      none = λ not-1. absurd (not-1 refl);
+    })
+    (λ _. lacks-asked e)
+
 -- ---- a send
+
+-- It wants no room.
+pub send-lacks : {p room : ℕ} (e : Endpoint) (n : ℕ) → Lacks p room (sendAnswer e n)
+unfolding sendAnswer
+send-lacks {p} {room} e n = of-picked (Lacks p room) (eqb n 0) (λ _. lacks-else (answer 0) refl refl) (λ _. lacks-asked e)
 
 module _ (e : Endpoint) (n : ℕ) where
   pub sends-nothing : n ≡ 0 → answerOf Done ≡ sendAnswer e n

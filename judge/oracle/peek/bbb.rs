@@ -68,6 +68,10 @@ impl<Bus: UsbBus, Buf: BorrowMut<[u8]>> BulkOnly<'_, Bus, Buf> {
         self.buf.peek_bytes()
     }
 
+    pub fn peek_missing(&self, wanted: usize) -> usize {
+        self.buf.peek_missing(wanted)
+    }
+
     /// The status for a wrapper of this tag and length, which is put in place as if it had been read:
     /// over the wire a status comes only after `length` bytes of data.
     pub fn peek_csw(

@@ -16,4 +16,12 @@ impl<T: BorrowMut<[u8]>> Buffer<T> {
     pub fn peek_shift(&mut self) {
         self.shift();
     }
+
+    /// How many bytes of room were missing for a `write_all` of this many that was refused. The Rust does not say it; the
+    /// marks that it left after the move do.
+    pub fn peek_missing(&self, wanted: usize) -> usize {
+        let room = self.inner.borrow().len() - self.available_read();
+        assert!(wanted > room, "LOUD: an overflow with room enough");
+        wanted - room
+    }
 }

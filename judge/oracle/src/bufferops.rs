@@ -33,7 +33,6 @@ enum Operation {
     Shift,
 }
 
-#[derive(PartialEq, Eq)]
 enum NotWritten {
     Overflow,
     Busy,
@@ -43,6 +42,7 @@ enum NotWritten {
 #[derive(Default)]
 struct Shown {
     overflow: bool,
+    /// Bytes taken, read or filled; for an overflow the bytes of room that were missing.
     count: usize,
     destination: Option<Vec<u8>>,
 }
@@ -172,19 +172,12 @@ fn apply(buffer: &mut Buffer<Vec<u8>>, operation: &Operation) -> Shown {
                 lent[..source.len()].copy_from_slice(source);
                 Ok(source.len())
             });
-            Shown {
-                overflow: written.is_err(),
-                count: written.unwrap_or(0),
-                ..Shown::default()
-            }
+            all_or_none(buffer, *max_count, written)
         }
         Operation::WriteAllBusy { max_count } => {
             let written =
                 buffer.write_all(*max_count, NotWritten::Overflow, |_| Err(NotWritten::Busy));
-            Shown {
-                overflow: written == Err(NotWritten::Overflow),
-                ..Shown::default()
-            }
+            all_or_none(buffer, *max_count, written)
         }
         Operation::Read { room } => {
             let mut destination = vec![UNTOUCHED; *room];
@@ -217,6 +210,24 @@ fn apply(buffer: &mut Buffer<Vec<u8>>, operation: &Operation) -> Shown {
             buffer.peek_shift();
             Shown::default()
         }
+    }
+}
+
+/// What a `write_all` showed that wanted room for this many bytes.
+fn all_or_none(
+    buffer: &Buffer<Vec<u8>>,
+    wanted: usize,
+    written: Result<usize, NotWritten>,
+) -> Shown {
+    let (overflow, count) = match written {
+        Ok(count) => (false, count),
+        Err(NotWritten::Busy) => (false, 0),
+        Err(NotWritten::Overflow) => (true, buffer.peek_missing(wanted)),
+    };
+    Shown {
+        overflow,
+        count,
+        ..Shown::default()
     }
 }
 

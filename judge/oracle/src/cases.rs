@@ -1,6 +1,6 @@
 //! Bench files made by hand: every case of document 01 that a bench file can show, every chain,
-//! every answer, every known difference from BOT in its smallest form, and what demand 3 would be
-//! without each of its premises.
+//! every answer, every known difference from BOT in its smallest form, what demand 3 would be
+//! without each of its premises, and how much room is missing.
 
 use crate::benchfile::{InAnswer, LONGEST, OutAnswer};
 use crate::damage;
@@ -14,9 +14,10 @@ pub struct Case {
     pub rule: Option<&'static str>,
 }
 
+/// What these reach counts for the picking of random files (`vectors.rs`).
 pub fn all() -> Vec<Case> {
     // Its number makes it the first in the folder.
-    let mut cases = vec![("000-listing".to_string(), listing().file())];
+    let mut cases = vec![good(named("000-listing", listing()))];
     for group in [
         creations(),
         files(),
@@ -34,25 +35,27 @@ pub fn all() -> Vec<Case> {
         differences(),
         premises(),
     ] {
-        cases.extend(
-            group
-                .into_iter()
-                .map(|(name, script)| (name, script.file())),
-        );
+        cases.extend(group.into_iter().map(good));
     }
-    let mut cases: Vec<Case> = cases
-        .into_iter()
-        .map(|(name, file)| Case {
-            name,
-            file,
-            rule: None,
-        })
-        .collect();
     cases.extend(damaged());
     cases
 }
 
+/// These came after the random files had been picked. If they counted for the picking, others would be picked now, and old files
+/// would be gone.
+pub fn added() -> Vec<Case> {
+    missing().into_iter().map(good).collect()
+}
+
 type Named = (String, Script);
+
+fn good((name, script): Named) -> Case {
+    Case {
+        name,
+        file: script.file(),
+        rule: None,
+    }
+}
 
 fn named(name: &str, script: Script) -> Named {
     (name.to_string(), script)
@@ -1145,6 +1148,76 @@ fn premises() -> Vec<Named> {
                 .write(&counted(9)[5..])
                 .status(0, 5)
                 .polls(2),
+        ),
+    ]
+}
+
+/// How much room is missing with answer 1. Calls and polls that lack a single byte are in files above.
+fn missing() -> Vec<Named> {
+    let glued = OutAnswer::Packet([writing(100).bytes(), counted(33)].concat());
+    let one_byte = OutAnswer::Packet(vec![0x55]);
+    // At P 64: P is wanted whatever OUT would answer. 11 and 3 come before any room is wanted.
+    let whatever_out_answers = |script: Script| {
+        script
+            .packet(&counted(11))
+            .packet(&[])
+            .poll()
+            .out_answers(OutAnswer::Error(9))
+            .packet(&counted(64))
+            .packet(&counted(65))
+            .write_all(&counted(65))
+    };
+    let full = (0..4).fold(create(8, 0, 32).wrapper(writing(64)), |script, _| {
+        script.packet(&counted(8))
+    });
+    vec![
+        named(
+            "missing-33-behind-the-wrapper-in-0-7",
+            create(64, 0, 64).out_answers(glued.clone()),
+        ),
+        named(
+            "missing-33-behind-the-wrapper-in-3-0-7",
+            finished(64, 64).offers(InAnswer::Accepts, glued, one_byte),
+        ),
+        named(
+            "missing-20-in-state-0-whatever-out-answers",
+            whatever_out_answers(create(64, 0, 64).packet(&ready(1).bytes()[..20])),
+        ),
+        named(
+            "missing-40-in-state-7-whatever-out-answers",
+            whatever_out_answers(create(64, 0, 64).wrapper(writing(100)).packet(&counted(40))),
+        ),
+        named(
+            "missing-all-64-in-state-0-behind-a-reset",
+            create(64, 0, 64)
+                .wrapper(reading(64))
+                .write(&counted(64))
+                .reset()
+                .wrapper(ready(2)),
+        ),
+        named(
+            "missing-8-down-to-1-in-state-7-as-bytes-are-read",
+            (0..8).fold(full.packet(&counted(8)), |script, _| {
+                script.read(1).packet(&counted(8))
+            }),
+        ),
+        named(
+            "missing-8-in-write-all-until-8-are-sent",
+            create(8, 0, 32)
+                .wrapper(reading(100))
+                .write(&counted(24))
+                .write_all(&counted(16))
+                .poll()
+                .write_all(&counted(16)),
+        ),
+        named(
+            "missing-10000-in-write-all-above-the-buffer",
+            create(8, 0, 32)
+                .wrapper(reading(100))
+                .write_all(&[7; 10_032])
+                .write(&counted(32))
+                .write_all(&[7; 10_032])
+                .write_all(&[]),
         ),
     ]
 }

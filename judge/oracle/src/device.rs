@@ -31,6 +31,8 @@ pub struct Outcome {
     pub count: usize,
     pub stalls: &'static str,
     pub bytes: Vec<u8>,
+    /// Bytes of room that were missing; 0 with every answer but 1.
+    pub missing: usize,
     /// What a command step decoded, in this build: the Rust is not told.
     pub command: Option<ScsiCommand>,
 }
@@ -43,19 +45,8 @@ impl Outcome {
             count: 0,
             stalls: "-",
             bytes: Vec::new(),
+            missing: 0,
             command: None,
-        }
-    }
-
-    fn failed(error: TransportError<BulkOnlyError>) -> Outcome {
-        let (answer, carried) = match error {
-            TransportError::Usb(UsbError::WouldBlock) => (6, None),
-            TransportError::Usb(UsbError::Endpoint(number)) => (7, Some(number)),
-            TransportError::Error(error) => (number_of(error), None),
-        };
-        Outcome {
-            carried,
-            ..Outcome::answered(answer)
         }
     }
 }
@@ -136,6 +127,24 @@ impl<'a> Device<'a> {
         self.scsi.peek_transport_mut()
     }
 
+    /// A call has failed that wants room for this many bytes, all or none of them: 0 for a call that takes what there is.
+    fn failed(&self, wanted: usize, error: TransportError<BulkOnlyError>) -> Outcome {
+        let (answer, carried) = match error {
+            TransportError::Usb(UsbError::WouldBlock) => (6, None),
+            TransportError::Usb(UsbError::Endpoint(number)) => (7, Some(number)),
+            TransportError::Error(error) => (number_of(error), None),
+        };
+        let missing = match answer {
+            1 => self.scsi.peek_transport().peek_missing(wanted),
+            _ => 0,
+        };
+        Outcome {
+            carried,
+            missing,
+            ..Outcome::answered(answer)
+        }
+    }
+
     fn poll(&mut self, offers: &Offers) -> Outcome {
         // Rule 11: an offered packet above P, asked for or not (ruling 6).
         let too_long = |out: &OutAnswer| match out {
@@ -152,7 +161,11 @@ impl<'a> Device<'a> {
             count: seen.packets_taken,
             stalls: seen.stalls,
             bytes: seen.bytes_sent,
-            ..result.map_or_else(Outcome::failed, |()| Outcome::answered(0))
+            // A packet read wants P, however short the packet is: OUT has not been asked yet.
+            ..result.map_or_else(
+                |error| self.failed(self.packet_size, error),
+                |()| Outcome::answered(0),
+            )
         }
     }
 
@@ -177,20 +190,22 @@ impl<'a> Device<'a> {
         self.bus.begin_call();
         let result = self.transport().write_data(source);
         self.expect_no_stalls();
-        result.map_or_else(Outcome::failed, |count| Outcome {
+        let done = |count| Outcome {
             count,
             ..Outcome::answered(0)
-        })
+        };
+        result.map_or_else(|error| self.failed(0, error), done)
     }
 
     fn try_write_data_all(&mut self, source: &[u8]) -> Outcome {
         self.bus.begin_call();
         let result = self.transport().try_write_data_all(source);
         self.expect_no_stalls();
-        result.map_or_else(Outcome::failed, |()| Outcome {
+        let done = |()| Outcome {
             count: source.len(),
             ..Outcome::answered(0)
-        })
+        };
+        result.map_or_else(|error| self.failed(source.len(), error), done)
     }
 
     fn read_data(&mut self, room: usize) -> Outcome {
@@ -198,14 +213,15 @@ impl<'a> Device<'a> {
         self.bus.begin_call();
         let result = self.transport().read_data(&mut destination);
         self.expect_no_stalls();
-        result.map_or_else(Outcome::failed, |count| {
+        let done = |count| {
             destination.truncate(count);
             Outcome {
                 count,
                 bytes: destination,
                 ..Outcome::answered(0)
             }
-        })
+        };
+        result.map_or_else(|error| self.failed(0, error), done)
     }
 
     fn reset(&mut self) -> Outcome {

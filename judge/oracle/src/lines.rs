@@ -115,6 +115,7 @@ fn line(text: &mut String, index: usize, step: &Step) {
         count,
         stalls,
         bytes,
+        missing,
         ..
     } = step.outcome;
     let (state, left, unread) = step
@@ -126,7 +127,7 @@ fn line(text: &mut String, index: usize, step: &Step) {
     )
     .expect("a string");
     hex_or_dash(text, bytes);
-    text.push('\n');
+    writeln!(text, " {missing}").expect("a string");
 }
 
 pub fn hex_or_dash(text: &mut String, bytes: &[u8]) {

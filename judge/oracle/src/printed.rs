@@ -4,7 +4,7 @@ use crate::benchfile::{self, Event, OutAnswer};
 use crate::lines::hex_or_dash;
 use std::fmt;
 
-/// The fields of a line. The index is tested and the stalls are not kept.
+/// The fields of a line. The index and the bytes missing are tested; they and the stalls are not kept.
 #[derive(Clone, PartialEq, Eq, Debug)]
 pub struct Line {
     pub answer: u8,
@@ -118,14 +118,16 @@ fn lines(text: &str) -> Result<Vec<Line>, String> {
 
 fn line(index: usize, text: &str) -> Option<Line> {
     let words: Vec<&str> = text.split(' ').collect();
-    let [at, answer, state, left, unread, count, _, bytes] = words[..] else {
+    let [at, answer, state, left, unread, count, _, bytes, missing] = words[..] else {
         return None;
     };
-    if at.parse() != Ok(index) {
+    let (answer, missing): (u8, usize) = (answer.parse().ok()?, missing.parse().ok()?);
+    // Room is missing with answer 1, and with no other.
+    if at.parse() != Ok(index) || (missing > 0) != (answer == 1) {
         return None;
     }
     Some(Line {
-        answer: answer.parse().ok()?,
+        answer,
         state: state.parse().ok()?,
         left: left.parse().ok()?,
         unread: unread.parse().ok()?,

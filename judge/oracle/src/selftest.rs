@@ -9,6 +9,7 @@ use crate::panics;
 use crate::script::create;
 use usb_device::endpoint::{Endpoint, In, Out};
 use usbd_storage::subclass::scsi::peek::peek_parse_cb;
+use usbd_storage::transport::bbb::peek::Buffer;
 
 const PACKET_SIZE: u16 = 8;
 
@@ -44,6 +45,10 @@ const FAULTS: &[(&str, Fault)] = &[
     ("a damaged file was taken", |_| {
         let good = create(8, 0, 31).command_told(true);
         generator::refused("a step that carries 1", &good.file());
+    }),
+    // Eight bytes fit exactly.
+    ("an overflow with room enough", |_| {
+        Buffer::new(vec![0; 8]).peek_missing(8);
     }),
     // A panic that is an answer of another call, but not of this one.
     ("cb.is_empty()", |_| {

@@ -21,7 +21,7 @@ struct Vector {
 
 pub fn write(folder: &str) -> io::Result<()> {
     let mut coverage = Coverage::new();
-    let mut vectors = by_hand(&mut coverage);
+    let mut vectors = by_hand(cases::all(), &mut coverage);
     let hand_made = vectors.len();
     let (triples, _) = coverage.figures(Section::Triple);
     let mut report = format!("made by hand: {hand_made} files, {triples} triples\n");
@@ -31,6 +31,9 @@ pub fn write(folder: &str) -> io::Result<()> {
     );
     vectors.extend(picked(&mut coverage));
     report += &format!("picked: {} files\n", vectors.len() - hand_made);
+    let added = by_hand(cases::added(), &mut coverage);
+    report += &format!("made by hand and added later: {} files\n", added.len());
+    vectors.extend(added);
     for section in [
         Section::Triple,
         Section::Chain,
@@ -52,7 +55,7 @@ pub fn write(folder: &str) -> io::Result<()> {
     io::stdout().lock().write_all(report.as_bytes())
 }
 
-fn by_hand(coverage: &mut Coverage) -> Vec<Vector> {
+fn by_hand(cases: Vec<cases::Case>, coverage: &mut Coverage) -> Vec<Vector> {
     let vector = |case: cases::Case| {
         let text = lines::of_file(&case.file, Detail::Lines, &mut |step| {
             coverage.add(&reached::by_step(&step));
@@ -72,10 +75,10 @@ fn by_hand(coverage: &mut Coverage) -> Vec<Vector> {
             text,
         }
     };
-    cases::all().into_iter().map(vector).collect()
+    cases.into_iter().map(vector).collect()
 }
 
-/// Random files for what the files made by hand miss: always the file that reaches most of it, cut
+/// Random files for what the files of `cases::all` miss: always the file that reaches most of it, cut
 /// after the last event that helps. Three things are left out: the pairs of P and buffer, which need a
 /// file each, the opcodes with each block length, which are thousands of events, and what steps are
 /// told, for no line shows it. So the steps of these files are not told.

@@ -155,6 +155,7 @@ impl Guarded {
             count: usize::from(word.flag()),
             stalls: stalls(word)?,
             bytes: packet.all()[..sent].to_vec(),
+            missing: self.missing(word, self.packet_size())?,
             command: None,
         })
     }
@@ -175,7 +176,10 @@ impl Guarded {
         let word = call(self.record.all_mut(), self.io.all_mut(), lent.all());
         require(is_kept(&lent, source), "a source changed")?;
         self.require_owed(word.answer(), self.write_mark())?;
-        counted(word)
+        Ok(Outcome {
+            missing: self.missing(word, source.len())?,
+            ..counted(word)?
+        })
     }
 
     fn read_data(&mut self, room: usize) -> Checked<Outcome> {
@@ -356,6 +360,21 @@ impl Guarded {
 
     fn write_mark(&self) -> usize {
         number(self.record.all(), layout::WRITE) as usize
+    }
+
+    /// The room that a call lacks which wants it for so many bytes: what is wanted less what is free, with answer 1 alone.
+    fn missing(&self, word: Word, wanted: usize) -> Checked<usize> {
+        let unread = self.write_mark() - number(self.record.all(), layout::READ) as usize;
+        let due = match word.answer() {
+            1 => wanted.saturating_sub(self.io.all().len() - unread),
+            _ => 0,
+        };
+        let missing = word.missing() as usize;
+        require(
+            missing == due && (due > 0) == (word.answer() == 1),
+            &format!("{missing} bytes of room are missing, and {due} are due"),
+        )?;
+        Ok(missing)
     }
 }
 

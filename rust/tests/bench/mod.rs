@@ -9,6 +9,7 @@
 //!     the last status;
 //!   - a refusal with 3, 10, 11 or 12 leaves record, IO buffer, packet buffer and destination as they were;
 //!   - a part that a result does not give is 0;
+//!   - with answer 1 the bytes missing are those wanted less those free in the IO buffer, and with others none are missing;
 //!   - the plain command step and decoder say what those that are told say with extended addressing on; and what is told counts
 //!     for blocks of 88 and 8A with 14 bytes and for no others.
 //!

@@ -11,6 +11,8 @@ pub struct Outcome {
     pub count: usize,
     pub stalls: &'static str,
     pub bytes: Vec<u8>,
+    /// Bytes of room that are missing; 0 with every answer but 1.
+    pub missing: usize,
     /// What a command step decoded.
     pub command: Option<ScsiCommand>,
 }
@@ -23,6 +25,7 @@ impl Outcome {
             count: 0,
             stalls: "-",
             bytes: Vec::new(),
+            missing: 0,
             command: None,
         }
     }
@@ -42,7 +45,7 @@ impl Outcome {
         for byte in &self.bytes {
             write!(line, "{byte:02x}").expect("a string");
         }
-        line.push('\n');
+        writeln!(line, " {}", self.missing).expect("a string");
         line
     }
 }

@@ -33,12 +33,14 @@ pub fn apply(device: &mut Device, packet_size: usize, event: &Event) -> Checked<
 }
 
 pub fn failed(error: Error) -> Outcome {
-    Outcome {
-        carried: match error {
-            Error::Endpoint(error) => Some(error.number()),
-            _ => None,
+    let outcome = Outcome::answered(error.number());
+    match error {
+        Error::Endpoint(error) => Outcome {
+            carried: Some(error.number()),
+            ..outcome
         },
-        ..Outcome::answered(error.number())
+        Error::IoBufferOverflow { missing } => Outcome { missing, ..outcome },
+        _ => outcome,
     }
 }
 

@@ -11,14 +11,14 @@ write-all-requires c κs = tested _ (c .before .before .sound .ensures) (c .befo
 returns : tie.Need-returns
 unfolding writeAllCall
 returns c =
-    let call = c .before .before .before .before in
+    let call = c .before .before .before .before .before in
     let test = call .before .before in
     passes _ (test .before .sound .ensures) _ (test .if1 .taken) (all-taken _ _ _ (call .write-all .ensures .0) (call .write-all .ensures .1 .same) (c .if2 .taken))
 
 returns-2 : tie.Need-returns-2
 unfolding writeAllCall
 returns-2 c =
-    let call = c .before .before .before .before in
+    let call = c .before .before .before .before .before in
     let test = call .before .before in
     passes _ (test .before .sound .ensures) _ (test .if1 .taken) (overflows _ _ _ (call .write-all .ensures .0) (call .write-all .ensures .1 .same) (c .if2 .left))
 

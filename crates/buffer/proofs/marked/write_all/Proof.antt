@@ -1,4 +1,4 @@
--- `buffer::marked::write_all` meets its contract: its test is that of `lacksRoom`. Assumes nothing.
+-- `buffer::marked::write_all` meets its contract: what is wanted less the room is missing. Assumes nothing.
 use borrow.Author.Needs.{needs}
 use Rattle.buffer.proofs.Ways.{refuses, takes-all}
 use Rattle.buffer.proofs.marked.write_all.Statement.{statement}
@@ -23,5 +23,5 @@ returns-2 c =
 pub write-all-spec : {M : Type 1} → statement M
 write-all-spec =
     tie.close (tie.spec
-    (λ c. search needs) (λ c. search needs) (λ c. search needs) (λ c. search needs) returns
+    (λ c. search needs) (λ c. search needs) (λ c. search needs) (λ c. search needs) (λ c. search needs) returns
     (λ c. search needs) (λ c. search needs) (λ c. search needs) returns-2)

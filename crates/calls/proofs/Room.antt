@@ -1,0 +1,55 @@
+-- What `try_write_data_all` says to be missing, and what that number is good for (document 02, request 5). Assumes nothing.
+use mathlib.Core.Path.{_≡_, refl, sym, ap, _∙_}
+use mathlib.Core.Bool.{true}
+use mathlib.Core.List.{List}
+use Prim.Native.Nat.{ℕ, _+_, _-_, max, zero-le}
+use native.Mathlib.Nat.{max-eq-right}
+use lib.ListN.{length}
+use borrow.Author.Tests.{ltb-true}
+use Rattle.fields.proofs.Bools.{of-picked}
+use Rattle.buffer.specs.Buffer.{Buffer, roomInAll, lacksRoom, missing, writtenAll}
+use Rattle.buffer.specs.Inner.Buffer.{Sound}
+use Rattle.buffer.proofs.Room.{missing-by-unread, lacks-missing, room-refused, lacks-then, missing-then}
+use Rattle.answers.specs.Answers.{answer, Lacks, again}
+use Rattle.answers.proofs.Laws.{lacks-else}
+use Rattle.device.specs.declared.Device.{Device}
+use Rattle.device.specs.Device.{numbersOf}
+use Rattle.device.specs.Broken.{Whole}
+use Rattle.device.proofs.Wholly.{either, whole-sound}
+use Rattle.calls.specs.Checks.{isIn, bufferOf}
+use Rattle.calls.specs.Data.{Moving, worksIn, writeAllIn, writeDataAllCall}
+use Rattle.calls.proofs.After.{write-all-answer}
+
+-- With answer 1, what is missing is the source's length less the room that the call leaves; else nothing is.
+pub write-all-lacks : (d : Device) (io src : List ℕ)
+    → Lacks (length src) (roomInAll (bufferOf (writeDataAllCall d io src .device) (writeDataAllCall d io src .bytes))) (writeDataAllCall d io src .answer)
+unfolding worksIn writeAllIn
+write-all-lacks d io src =
+    either d io Told (lacks-else (answer 10) refl refl)
+    (λ w. of-picked Told (isIn 4 d)
+    (λ _. of-picked Told (lacksRoom (length src) s) (λ full. let g = whole-sound (numbersOf d) io w in record {
+      less = λ _. missing-by-unread (length src) s g ∙ ap (λ (r : ℕ). length src - r) (sym (room-refused 0 src s g (rw (max-eq-right zero-le) full)));
+      some = λ _. ltb-true 0 (missing (length src) s) (sym (lacks-missing (length src) s) ∙ full);
+      none = λ not-1. absurd (not-1 refl);
+    })
+    (λ _. lacks-else (answer 0) refl refl))
+    (λ _. lacks-else (answer 3) refl refl))
+  where
+    s : Buffer
+    s = bufferOf d io
+
+    Told : Moving → Type 0
+    Told o = Lacks (length src) (roomInAll (bufferOf (o .device) (o .bytes))) (o .answer)
+
+-- The call lacked room, and is made again in 4 with room for k bytes more: that many were sent, or the buffer is that much longer. While
+-- that is less than what was missing, it lacks the rest; then it takes all of the source.
+pub write-again : (d : Device) (io src : List ℕ) → writeDataAllCall d io src .answer .number ≡ 1
+    → (k : ℕ) (d′ : Device) (io′ : List ℕ) → Whole (numbersOf d′) (length io′) → isIn 4 d′ ≡ true
+    → roomInAll (bufferOf d′ io′) ≡ roomInAll (bufferOf (writeDataAllCall d io src .device) (writeDataAllCall d io src .bytes)) + k
+    → writeDataAllCall d′ io′ src .answer ≡ again (writeDataAllCall d io src .answer .missing) k (answer 0)
+unfolding again
+write-again d io src refused k d′ io′ w in4 more =
+    let less = write-all-lacks d io src .less refused in
+    let g : Sound (bufferOf d′ io′) = whole-sound (numbersOf d′) io′ w in
+    write-all-answer d′ io′ w src in4 .0
+    ∙ rw (lacks-then (length src) _ _ k (bufferOf d′ io′) g less more, missing-then (length src) _ _ k (bufferOf d′ io′) g less more)
