@@ -1,7 +1,6 @@
 //! What a call answers if it was not done. The numbers are those of the archive.
 
 use crate::endpoints::EndpointError;
-use crate::ffi::Word;
 use core::fmt;
 
 /// Why a call on a device was not done, or was only done in part.
@@ -60,23 +59,24 @@ impl Error {
         }
     }
 
-    pub(crate) fn from_word(word: Word) -> Result<(), Error> {
-        Err(match word.answer() {
+    /// With what goes with some numbers: an endpoint's error with 7, and the room that is missing with 1.
+    pub(crate) fn from_number(number: u32, carried: u8, missing: u32) -> Result<(), Error> {
+        Err(match number {
             0 => return Ok(()),
             1 => Error::IoBufferOverflow {
-                missing: word.missing() as usize,
+                missing: missing as usize,
             },
             3 => Error::InvalidState,
             4 => Error::FullPacketExpected,
             6 => Error::WouldBlock,
             7 => Error::Endpoint(
-                EndpointError::new(word.carried()).expect("only an endpoint's error is carried"),
+                EndpointError::new(carried).expect("only an endpoint's error is carried"),
             ),
             10 => Error::Broken,
             11 => Error::PacketSize,
             12 => Error::StatusRefused,
             13 => Error::EmptyBlock,
-            number => unreachable!("a device call has no answer {number}"),
+            _ => unreachable!("a device call has no answer {number}"),
         })
     }
 }

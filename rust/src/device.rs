@@ -139,7 +139,8 @@ impl<'a> Device<'a> {
     /// With [`Error::IoBufferOverflow`] the IO buffer has no room for a packet, whatever the packet's length, and the packet was
     /// not taken. The error says how many bytes of room are missing.
     ///
-    /// - While the host sends data, read at least as many bytes, then poll again.
+    /// - While the host sends data, read at least as many bytes, then poll again. [`Poll::taken`] is 1 if the poll took a
+    ///   wrapper first, with data behind it in the same packet.
     /// - While a wrapper is awaited, the buffer is too small by as many bytes for a wrapper in such pieces, and later polls say
     ///   the same. The packet size and 30 bytes are enough for all pieces. If it has these, bytes of a command that was broken
     ///   off are in the way: call [`Device::renew`].
@@ -181,7 +182,7 @@ impl<'a> Device<'a> {
     /// Ends the command: its status, and how many bytes the firmware dealt with. A later status replaces it.
     pub fn set_status(&mut self, status: CommandStatus, processed: u32) -> Result<(), Error> {
         let answer = ffi::set_status(&mut self.record, self.io, status.number(), processed);
-        Error::from_word(ffi::Word(answer.into()))
+        Error::from_number(answer, 0, 0)
     }
 
     /// Takes bytes that the host has sent, and returns how many.
@@ -246,7 +247,7 @@ impl<'a> Device<'a> {
     /// ```
     pub fn reset(&mut self) -> Result<Stalls, Error> {
         let word = ffi::reset(&mut self.record, self.io);
-        Error::from_word(word)?;
+        answered(word)?;
         Ok(Stalls::from_number(word.stalls()))
     }
 
@@ -263,7 +264,7 @@ impl<'a> Device<'a> {
     /// ```
     pub fn control(&mut self, request_type: u8, request: u8) -> Result<Control, Error> {
         let word = ffi::control(&mut self.record, self.io, request_type, request);
-        Error::from_word(word)?;
+        answered(word)?;
         Ok(Control {
             answer: (word.flag() != 0).then_some(word.count() as u8),
             stalls: Stalls::from_number(word.stalls()),
@@ -274,7 +275,7 @@ impl<'a> Device<'a> {
     pub fn command(&self) -> Result<Option<Command>, Error> {
         let mut bytes = [0; 16];
         let word = ffi::command(&self.record, self.io, &mut bytes);
-        Error::from_word(word)?;
+        answered(word)?;
         Ok((word.flag() != 0).then(|| Command::new(word.carried(), bytes, word.count() as u8)))
     }
 
@@ -335,9 +336,14 @@ fn new_record(
     Ok(record)
 }
 
+/// The answer of a call that no endpoint takes part in.
+fn answered(word: ffi::Word) -> Result<(), Error> {
+    Error::from_number(word.answer().into(), 0, word.missing())
+}
+
 /// What a command step offers.
 fn offered(word: ffi::Word, numbers: [u64; ffi::COMMAND_NUMBERS]) -> Result<Option<Offer>, Error> {
-    Error::from_word(word)?;
+    answered(word)?;
     Ok((word.flag() != 0).then(|| Offer {
         lun: word.carried(),
         command: ScsiCommand::from_numbers(numbers),
@@ -345,6 +351,6 @@ fn offered(word: ffi::Word, numbers: [u64; ffi::COMMAND_NUMBERS]) -> Result<Opti
 }
 
 fn counted(word: ffi::Word) -> Result<usize, Error> {
-    Error::from_word(word)?;
+    answered(word)?;
     Ok(word.count() as usize)
 }

@@ -131,7 +131,7 @@ pub struct Poll {
 impl Poll {
     pub(crate) fn from_word(word: ffi::Word) -> Poll {
         Poll {
-            result: Error::from_word(word),
+            result: Error::from_number(word.answer().into(), word.carried(), word.missing()),
             taken: word.flag(),
             sent: word.count() as usize,
             stalls: Stalls::from_number(word.stalls()),

@@ -20,7 +20,7 @@ use Rattle.calls.proofs.After.{Tells10, read-tells, read-keeps, read-whole, rea
 use Rattle.recordbytes.specs.Record.{isKnown, deviceAt, storeMarks, storeDevice}
 use Rattle.recordbytes.proofs.Stored.{Known, is-known}
 use Rattle.recordbytes.proofs.Parts.{device-kept, marks-alone}
-use Rattle.border.specs.Word.{word, answerWord}
+use Rattle.border.specs.Word.{word, upperHalf, answerWord}
 use Rattle.border.specs.Record.{onDevice}
 use Rattle.border.proofs.Lending.{known-then, long-then, unknown, made}
 use Rattle.databytes.specs.Data.{dataOutcome, dataOutcomeOf, readDataOn, writeDataOn, writeDataAllOn}
@@ -52,12 +52,12 @@ module _ (m : Moved) {n : ℕ} (en : n ≡ answerOf (m .report .answer) .number)
     count-small = f (done-is q) .count
 
   -- The result, and the record's bytes.
-  pub tells-10 : n ≡ 10 → 10 ≡ cond (is10 m) (answerWord 10) (word (answerOf (m .report .answer) .number) 0 0 0 (m .report .count))
+  pub tells-10 : n ≡ 10 → 10 ≡ cond (is10 m) (answerWord 10) (word (answerOf (m .report .answer) .number) 0 0 0 (upperHalf (answerOf (m .report .answer)) (m .report .count)))
   unfolding word
   tells-10 q = rw (refused-is q)
 
-  pub counts : (n ≡ 10 → ⊥) → {k x : ℕ} → k ≡ m .report .count → x ≡ word n 0 0 0 k → x ≡ cond (is10 m) (answerWord 10) (word (answerOf (m .report .answer) .number) 0 0 0 (m .report .count))
-  counts q ek ex = rw (done-is q, ← en, ← ek) ex
+  pub counts : (n ≡ 10 → ⊥) → {k u x : ℕ} → k ≡ m .report .count → u ≡ upperHalf (answerOf (m .report .answer)) k → x ≡ word n 0 0 0 u → x ≡ cond (is10 m) (answerWord 10) (word (answerOf (m .report .answer) .number) 0 0 0 (upperHalf (answerOf (m .report .answer)) (m .report .count)))
+  counts q ek eu ex = rw (done-is q, ← en, ← ek, ← eu) ex
 
   pub stays : (r : List ℕ) → n ≡ 10 → r ≡ cond (is10 m) r (storeMarks (m .device .marks) r)
   stays r q = rw (refused-is q)
@@ -74,8 +74,9 @@ same-10 m b to = sym (ap (λ (x : Moving). eqb (x .answer .number) 10) to)
 -- A record that the call refused stays; of any other only the marks changed.
 module _ (r bytes io : List ℕ) (known : Known r) (o : Moving) (tells : Tells10 (deviceAt r) io bytes o) (keeps : withMarks (deviceAt r .marks) (o .device) ≡ deviceAt r)
     (m : Moved) (b : List ℕ) (to : movingOf m b ≡ o) {x : ℕ} {l : List ℕ}
-    (ex : x ≡ cond (is10 m) (answerWord 10) (word (answerOf (m .report .answer) .number) 0 0 0 (m .report .count))) (el : l ≡ cond (is10 m) r (storeMarks (m .device .marks) r)) where
+    (ex : x ≡ cond (is10 m) (answerWord 10) (word (answerOf (m .report .answer) .number) 0 0 0 (upperHalf (answerOf (m .report .answer)) (m .report .count)))) (el : l ≡ cond (is10 m) r (storeMarks (m .device .marks) r)) where
   refused-comes : is10 m ≡ true → dataOutcome x l b ≡ dataOutcomeOf r o
+  unfolding upperHalf
   refused-comes ten =
       let is : o ≡ moving (answer 10) 0 (deviceAt r) bytes = tells .broken (same-10 m b to ∙ ten) in
       let stays : b ≡ bytes = ap (λ (y : Moving). y .bytes) (to ∙ is) in
@@ -100,7 +101,7 @@ module _ (r io dst : List ℕ) {k : Bool} (ek : k ≡ isKnown r) where
     read-is : movingOf m dst′ ≡ readDataCall (deviceAt r) io dst
     read-is = rw ed at em
 
-    pub read-made : {x : ℕ} {l : List ℕ} → (x ≡ cond (is10 m) (answerWord 10) (word (answerOf (m .report .answer) .number) 0 0 0 (m .report .count))) × (l ≡ cond (is10 m) r (storeMarks (m .device .marks) r)) → dataOutcome x l dst′ ≡ readDataOn r io dst
+    pub read-made : {x : ℕ} {l : List ℕ} → (x ≡ cond (is10 m) (answerWord 10) (word (answerOf (m .report .answer) .number) 0 0 0 (upperHalf (answerOf (m .report .answer)) (m .report .count)))) × (l ≡ cond (is10 m) r (storeMarks (m .device .marks) r)) → dataOutcome x l dst′ ≡ readDataOn r io dst
     unfolding readDataOn
     read-made e =
         let test = known-then r ek q in
@@ -123,7 +124,7 @@ module _ (r io src : List ℕ) {k : Bool} (ek : k ≡ isKnown r) where
     write-is : movingOf m io′ ≡ writeDataCall (deviceAt r) io src
     write-is = rw ed at em
 
-    pub write-made : {x : ℕ} {l : List ℕ} → (x ≡ cond (is10 m) (answerWord 10) (word (answerOf (m .report .answer) .number) 0 0 0 (m .report .count))) × (l ≡ cond (is10 m) r (storeMarks (m .device .marks) r)) → dataOutcome x l io′ ≡ writeDataOn r io src
+    pub write-made : {x : ℕ} {l : List ℕ} → (x ≡ cond (is10 m) (answerWord 10) (word (answerOf (m .report .answer) .number) 0 0 0 (upperHalf (answerOf (m .report .answer)) (m .report .count)))) × (l ≡ cond (is10 m) r (storeMarks (m .device .marks) r)) → dataOutcome x l io′ ≡ writeDataOn r io src
     unfolding writeDataOn
     write-made e =
         let test = known-then r ek q in
@@ -146,7 +147,7 @@ module _ (r io src : List ℕ) {k : Bool} (ek : k ≡ isKnown r) where
     write-all-is : movingOf m io′ ≡ writeDataAllCall (deviceAt r) io src
     write-all-is = rw ed at em
 
-    pub write-all-made : {x : ℕ} {l : List ℕ} → (x ≡ cond (is10 m) (answerWord 10) (word (answerOf (m .report .answer) .number) 0 0 0 (m .report .count))) × (l ≡ cond (is10 m) r (storeMarks (m .device .marks) r)) → dataOutcome x l io′ ≡ writeDataAllOn r io src
+    pub write-all-made : {x : ℕ} {l : List ℕ} → (x ≡ cond (is10 m) (answerWord 10) (word (answerOf (m .report .answer) .number) 0 0 0 (upperHalf (answerOf (m .report .answer)) (m .report .count)))) × (l ≡ cond (is10 m) r (storeMarks (m .device .marks) r)) → dataOutcome x l io′ ≡ writeDataAllOn r io src
     unfolding writeDataAllOn
     write-all-made e =
         let test = known-then r ek q in

@@ -5,6 +5,7 @@ use mathlib.Core.Bool.{Bool, true, false, not, cond}
 use mathlib.Core.List.{List}
 use Prim.Native.Nat.{ℕ, _-_, _≤_}
 use native.Mathlib.Omega.{arith}
+use lib.Dec.{eqb}
 use lib.ListN.{length, take, drop}
 use borrow.Author.Tests.{le-leb}
 use Rattle.fields.specs.Field.{bytesAt}
@@ -15,7 +16,7 @@ use Rattle.ring.specs.declared.State.{State}
 use Rattle.wrapper.specs.declared.counters.Left.{Left}
 use Rattle.answers.specs.declared.Answer.{Answer}
 use Rattle.answers.specs.declared.Stalls.{Stalls}
-use Rattle.answers.specs.Answers.{answerOf, endpointOf}
+use Rattle.answers.specs.Answers.{answer, answerOf, endpointOf}
 use Rattle.wrapper.specs.declared.Head.{Head}
 use Rattle.wrapper.specs.declared.Wrapper.{Wrapper}
 use Rattle.wrapper.specs.Wrapper.{wrapperOf}
@@ -36,18 +37,19 @@ use Rattle.recordbytes.specs.Record.{isKnown, deviceAt, storeState, storeMarks,
 use Rattle.recordbytes.specs.Inner.Record.{wrapperOfHead}
 use Rattle.recordbytes.proofs.Stored.{Known, is-known}
 use Rattle.recordbytes.proofs.Parts.{device-kept, polled, moved-to, parsed}
-use Rattle.border.specs.Word.{word, answerWord, stallsNumber}
+use Rattle.border.specs.Word.{word, upperHalf, answerWord, stallsNumber}
 use Rattle.border.specs.Record.{onDevice}
 use Rattle.ringbytes.specs.Poll.{pollOutcome, pollOn}
 use Rattle.ringbytes.specs.Inner.Poll.{StorableChange, storeChange}
 use Rattle.ringbytes.specs.Poll as spec
 use Rattle.border.proofs.Lending.{known-then, made}
+use Rattle.border.proofs.Upper.{upper-other}
 
 -- ---- the functions of a round
 
-pub tells : (o : Answer) (stalls : Stalls) (taken sent : ℕ) {a n s k x : ℕ} → a ≡ answerOf o .number → n ≡ answerOf o .carried → s ≡ stallsNumber stalls → k ≡ sent → x ≡ word a n s taken k
-    → x ≡ word (answerOf o .number) (answerOf o .carried) (stallsNumber stalls) taken sent
-tells o stalls taken sent ea en es ek ex = rw (← ea, ← en, ← es, ← ek, ex)
+pub tells : (o : Answer) (stalls : Stalls) (taken sent : ℕ) {a n s k u x : ℕ} → a ≡ answerOf o .number → n ≡ answerOf o .carried → s ≡ stallsNumber stalls → k ≡ sent → u ≡ upperHalf (answerOf o) k → x ≡ word a n s taken u
+    → x ≡ word (answerOf o .number) (answerOf o .carried) (stallsNumber stalls) taken (upperHalf (answerOf o) sent)
+tells o stalls taken sent ea en es ek eu ex = rw (← ea, ← en, ← es, ← ek, ← eu, ex)
 
 module _ (r : List ℕ) (b : Bool) where
   pub clears : b ≡ true → {l : List ℕ} → l ≡ storeStatus Absent r → l ≡ cond b (storeStatus Absent r) r
@@ -128,7 +130,7 @@ module _ (r io : List ℕ) (g : Given) (known : isKnown r ≡ true) {n : Numbers
         length-part 15 16 (take 31 (drop (o .marks .read - 31) io′)) (omega arith)
 
     pub rounds : {r₁ r₂ : List ℕ} {result : ℕ} → r₁ ≡ cond (isValidFound (o .found)) (storeWrapper (wrapperOf (justRead io′ (o .marks))) r) r → r₂ ≡ storeChange c r₁
-        → result ≡ word (answerOf (c .report .answer) .number) (answerOf (c .report .answer) .carried) (stallsNumber (c .report .stalls)) (c .report .taken) (c .report .sent)
+        → result ≡ word (answerOf (c .report .answer) .number) (answerOf (c .report .answer) .carried) (stallsNumber (c .report .stalls)) (c .report .taken) (upperHalf (answerOf (c .report .answer)) (c .report .sent))
         → pollOutcome result r₂ io″ packet′ ≡ pollOn r io g
     unfolding pollOn storeChange wrapperThen
     rounds {r₁} {r₂} e₁ e₂ e =
@@ -148,8 +150,8 @@ module _ (r io : List ℕ) (g : Given) (is : isKnown r ≡ true) where
   unfolding pollOn
   on o e = ap (spec.pollOutcomeOf r) (sym e) ∙ made r (pollOutcome (answerWord 10) r io (g .packet)) (λ (d : Device). spec.pollOutcomeOf r (pollCall d io g)) is
 
-  same : (answer : ℕ) → spec.pollOutcomeOf r (refusing (deviceAt r) io g answer) ≡ pollOutcome (answerWord answer) r io (g .packet)
-  same answer = ap (λ (l : List ℕ). pollOutcome (answerWord answer) l io (g .packet)) (device-kept r (is-known r is))
+  same : (n : ℕ) → eqb n 1 ≡ false → spec.pollOutcomeOf r (refusing (deviceAt r) io g n) ≡ pollOutcome (answerWord n) r io (g .packet)
+  same n other = rw (upper-other (answer n) 0 other, device-kept r (is-known r is))
 
 module _ (r io : List ℕ) (g : Given) {b : Bool} (eb : b ≡ isKnown r) where
   pub poll-unknown : not b ≡ true → pollOutcome 10 r io (g .packet) ≡ pollOn r io g
@@ -159,13 +161,13 @@ module _ (r io : List ℕ) (g : Given) {b : Bool} (eb : b ≡ isKnown r) where
   module _ (qb : not b ≡ false) {n : Numbers} (en : n ≡ numbersOf (deviceAt r)) {v : Bool} (ev : v ≡ isWhole n (length io)) where
     pub poll-broken : not v ≡ true → pollOutcome 10 r io (g .packet) ≡ pollOn r io g
     unfolding pollCall unlessBroken word
-    poll-broken q = let is = known-then r eb qb in sym (same r io g is 10) ∙ on r io g is (refusing (deviceAt r) io g 10) (rw (← en, ← ev, not-true v q))
+    poll-broken q = let is = known-then r eb qb in sym (same r io g is 10 refl) ∙ on r io g is (refusing (deviceAt r) io g 10) (rw (← en, ← ev, not-true v q))
 
     pub poll-refused : not v ≡ false → {u : Bool} → u ≡ isFitting (n .fixed .packetsize) (length (g .packet)) (length (g .one)) (length (g .two)) → not u ≡ true → pollOutcome 11 r io (g .packet) ≡ pollOn r io g
     unfolding pollCall unlessBroken word
     poll-refused qv {u} eu q =
         let is = known-then r eb qb in
         let unfit : isFitting (deviceAt r .fixed .packetsize) (length (g .packet)) (length (g .one)) (length (g .two)) ≡ false = sym (rw en at eu) ∙ not-true u q in
-        sym (same r io g is 11) ∙ on r io g is (refusing (deviceAt r) io g 11) (rw (← en, ← ev, not-false v qv, unfit))
+        sym (same r io g is 11 refl) ∙ on r io g is (refusing (deviceAt r) io g 11) (rw (← en, ← ev, not-false v qv, unfit))
 
 pub ruleset ways = (tells, clears, clears-not, keeps, keeps-found, keeps-none)

@@ -17,7 +17,7 @@ pub struct Case {
 /// What these reach counts for the picking of random files (`vectors.rs`).
 pub fn all() -> Vec<Case> {
     // Its number makes it the first in the folder.
-    let mut cases = vec![good(named("000-listing", listing()))];
+    let mut cases = vec![good_file(named("000-listing", listing()))];
     for group in [
         creations(),
         files(),
@@ -35,7 +35,7 @@ pub fn all() -> Vec<Case> {
         differences(),
         premises(),
     ] {
-        cases.extend(group.into_iter().map(good));
+        cases.extend(group.into_iter().map(good_file));
     }
     cases.extend(damaged());
     cases
@@ -44,12 +44,12 @@ pub fn all() -> Vec<Case> {
 /// These came after the random files had been picked. If they counted for the picking, others would be picked now, and old files
 /// would be gone.
 pub fn added() -> Vec<Case> {
-    missing().into_iter().map(good).collect()
+    missing().into_iter().map(good_file).collect()
 }
 
 type Named = (String, Script);
 
-fn good((name, script): Named) -> Case {
+fn good_file((name, script): Named) -> Case {
     Case {
         name,
         file: script.file(),

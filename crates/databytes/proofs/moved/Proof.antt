@@ -8,5 +8,5 @@ pub moved-spec : {M : Type 1} → statement M
 moved-spec =
     tie.close (tie.spec
     (λ c. search needs) (λ c. (search (ways, needs), search (ways, needs)))
-    (λ c. search (ways, needs)) (λ c. search (ways, needs)) (λ c. search needs) (λ c. search needs)
+    (λ c. search (ways, needs)) (λ c. search (ways, needs)) (λ c. search needs) (λ c. search needs) (λ c. search needs)
     (λ c. (search (ways, needs), search (ways, needs))))

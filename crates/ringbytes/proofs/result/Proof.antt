@@ -5,4 +5,4 @@ use Rattle.ringbytes.proofs.result.Statement.{statement}
 use Rattle.ringbytes.proofs.result.Tie as tie
 
 pub result-spec : {M : Type 1} → statement M
-result-spec = tie.close (tie.spec (λ c. search needs) (λ c. search needs) (λ c. search needs) (λ c. search needs) (λ c. search needs) (λ c. search (ways, needs)))
+result-spec = tie.close (tie.spec (λ c. search needs) (λ c. search needs) (λ c. search needs) (λ c. search needs) (λ c. search needs) (λ c. search needs) (λ c. search (ways, needs)))
