@@ -16,7 +16,7 @@ use Rattle.fields.proofs.Overlay.{length-overlay, take-overlay, drop-overlay, o
 use Rattle.answers.specs.declared.Stalls.{Stalls}
 use Rattle.answers.specs.declared.Stalls.the-variants.{Kept, Stalled, Unstalled, UnstalledStalled}
 use Rattle.benchline.specs.declared.Line.{Line}
-use Rattle.benchline.specs.Line.{space, decimal, numberText, numbersText, stallsText, fieldsText, hex, bytesText, lineOf}
+use Rattle.benchline.specs.Line.{space, newline, decimal, numberText, numbersText, stallsText, fieldsText, hex, bytesText, endText, lineOf}
 use Rattle.benchline.specs.Inner.Line.{numbersLength, roomFor, Puts}
 use Rattle.benchline.proofs.Decimal.{more-digits, few-digits}
 
@@ -77,7 +77,11 @@ pub length-fields : (l : Line) → length (fieldsText l) ≡ length (numbersText
 unfolding fieldsText
 length-fields l = simp length-append
 
-pub length-line : (l : Line) (bs : List ℕ) → length (lineOf l bs) ≡ length (fieldsText l) + length (bytesText bs) + 1
+pub length-end : (n : ℕ) → length (endText n) ≡ length (decimal n) + 2
+unfolding endText
+length-end n = omega (arith, length-append (decimal n) (newline ∷ []))
+
+pub length-line : (l : Line) (bs : List ℕ) → length (lineOf l bs) ≡ length (fieldsText l) + length (bytesText bs) + length (endText (l .missing))
 unfolding lineOf
 length-line l bs = simp length-append
 
@@ -118,4 +122,6 @@ line-fits l bs =
       short-number (l .count),
       short-stalls (l .stalls),
       short-bytes bs,
+      length-end (l .missing),
+      few-digits (l .missing),
     )

@@ -6,14 +6,14 @@ use Prim.Native.Nat.{ℕ, zero, suc, _+_, _*_, _^_, _/_, _%_, _≤_, _<_, zero-l
 use native.Mathlib.Omega.{arith}
 use borrow.Author.Tests.{lt-ltb, le-ltb}
 use lib.ListN.{length, getD, set, length-append, length-set}
-use Rattle.fields.proofs.Overlay.{Laid, laid-turn, laid-end}
+use Rattle.fields.proofs.Overlay.{length-overlay, Laid, laid-turn, laid-end}
 use Rattle.answers.specs.declared.Stalls.{Stalls}
 use Rattle.answers.specs.declared.Stalls.the-variants.{Kept, Stalled, Unstalled, UnstalledStalled}
 use Rattle.benchline.specs.declared.Line.{Line}
-use Rattle.benchline.specs.Line.{digit, decimal, numberText, numbersText, stallsText, fieldsText, hex, bytesText, lineOf}
+use Rattle.benchline.specs.Line.{digit, decimal, numberText, numbersText, stallsText, fieldsText, hex, bytesText, endText, lineOf}
 use Rattle.benchline.specs.Inner.Line.{numbersLength, roomFor, Puts}
 use Rattle.benchline.proofs.Decimal.{one-digit, more-digits, some-digit}
-use Rattle.benchline.proofs.Text.{then-put, fits-behind, then-store, store, length-more, length-number, length-numbers, length-fields, length-hex, length-line, some-stalls, line-fits}
+use Rattle.benchline.proofs.Text.{then-put, fits-behind, then-store, store, length-more, length-number, length-numbers, length-fields, length-hex, length-end, length-line, some-stalls, line-fits}
 
 -- ---- numbers
 
@@ -47,6 +47,12 @@ module _ (d : List ℕ) (at n : ℕ) (h : at + length (numberText n) ≤ length 
   pub number-ends : {m : List ℕ} {e : ℕ} → Puts at (decimal n) d m e → Puts at (numberText n) d (set m e 0x20) (e + 1)
   unfolding numberText
   number-ends p = then-store 0x20 (omega (arith, length-number n)) p
+
+-- Where there is room for six numbers and five are put, there is room for the last.
+pub last-number-fits : (l : Line) (d : List ℕ) {m₁ m₂ m₃ m₄ m₅ : List ℕ} {e₁ e₂ e₃ e₄ e₅ : ℕ} → numbersLength l ≤ length d
+    → Puts 0 (numberText (l .index)) d m₁ e₁ → Puts e₁ (numberText (l .answer)) m₁ m₂ e₂ → Puts e₂ (numberText (l .state)) m₂ m₃ e₃
+    → Puts e₃ (numberText (l .left)) m₃ m₄ e₄ → Puts e₄ (numberText (l .unread)) m₄ m₅ e₅ → e₅ + length (numberText (l .count)) ≤ length m₅
+last-number-fits l d h p q r s t = fits-behind _ t (fits-behind _ s (fits-behind _ r (fits-behind _ q (fits-behind _ p (omega arith)))))
 
 -- Six numbers are put one after the other.
 pub numbers-end : (l : Line) (d : List ℕ) {m₁ m₂ m₃ m₄ m₅ m : List ℕ} {e₁ e₂ e₃ e₄ e₅ e : ℕ}
@@ -149,6 +155,27 @@ module _ (d : List ℕ) (at : ℕ) where
 
 -- ---- the line
 
+module _ (d : List ℕ) (at n : ℕ) (h : at + length (endText n) ≤ length d) where
+  pub end-first : at < length d
+  end-first = omega (arith, length-end n)
+
+  spaced : length (set d at 0x20) ≡ length d
+  spaced = length-set d at 0x20
+
+  pub missing-fits : at + 1 + length (decimal n) ≤ length (set d at 0x20)
+  missing-fits = omega (arith, length-end n, spaced)
+
+  module _ {m : List ℕ} {e : ℕ} (p : Puts (at + 1) (decimal n) (set d at 0x20) m e) where
+    pub end-last : e < length m
+    end-last = omega (arith, fits-behind 1 p (omega (arith, length-end n, spaced)))
+
+    pub end-length : length (set m e 0x0A) ≡ length d
+    end-length = length-set m e 0x0A ∙ ap length (p .text) ∙ length-overlay (set d at 0x20) (at + 1) (decimal n) missing-fits ∙ spaced
+
+    pub end-put : Puts at (endText n) d (set m e 0x0A) (e + 1)
+    unfolding endText
+    end-put = then-store 0x0A (omega (arith, length-end n)) (then-put (omega (arith, end-first)) (store d at 0x20 end-first) p)
+
 module _ (l : Line) (d : List ℕ) (h : length (fieldsText l) ≤ length d) where
   pub numbers-fit : numbersLength l ≤ length d
   numbers-fit = omega (arith, length-fields l, length-numbers l)
@@ -173,18 +200,18 @@ module _ (l : Line) (bs d : List ℕ) (h : roomFor (length bs) ≤ length d) whe
   fields-fit = omega (arith, line-fits l bs, length-line l bs)
 
   module _ {m₁ : List ℕ} {e₁ : ℕ} (p : Puts 0 (fieldsText l) d m₁ e₁) where
-    after-fields : e₁ + (length (bytesText bs) + 1) ≤ length m₁
+    after-fields : e₁ + (length (bytesText bs) + length (endText (l .missing))) ≤ length m₁
     after-fields = fits-behind _ p (omega (arith, line-fits l bs, length-line l bs))
 
     pub shown-fits : e₁ + length (bytesText bs) ≤ length m₁
     shown-fits = omega (arith, after-fields)
 
     module _ {m₂ : List ℕ} {e₂ : ℕ} (q : Puts e₁ (bytesText bs) m₁ m₂ e₂) where
-      pub end-fits : e₂ < length m₂
-      end-fits = omega (arith, fits-behind _ q after-fields)
+      pub end-fits : e₂ + length (endText (l .missing)) ≤ length m₂
+      end-fits = fits-behind _ q after-fields
 
-      pub line-ends : Puts 0 (lineOf l bs) d (set m₂ e₂ 0x0A) (e₂ + 1)
+      pub line-ends : {m : List ℕ} {e : ℕ} → Puts e₂ (endText (l .missing)) m₂ m e → Puts 0 (lineOf l bs) d m e
       unfolding lineOf
-      line-ends = then-store 0x0A (omega (arith, line-fits l bs, length-line l bs, length-append (fieldsText l) (bytesText bs))) (then-put zero-le p q)
+      line-ends r = then-put zero-le (then-put zero-le p q) r
 
-pub ruleset ways = (decimal-first, decimal-ends, decimal-fits, decimal-last, decimal-goes-on, number-fits, number-last, number-ends, numbers-end, stalls-kept, stalls-stalled, stalls-unstalled, stalls-both, stalls-first, stalls-second, low-digit, high-digit, hex-turn, hex-ends, bytes-first, bytes-fit, none-shown, bytes-shown, numbers-fit, stalls-fit, space-fits, fields-end, fields-fit, shown-fits, end-fits, line-ends)
+pub ruleset ways = (decimal-first, decimal-ends, decimal-fits, decimal-last, decimal-goes-on, number-fits, number-last, number-ends, numbers-end, stalls-kept, stalls-stalled, stalls-unstalled, stalls-both, stalls-first, stalls-second, low-digit, high-digit, hex-turn, hex-ends, bytes-first, bytes-fit, none-shown, bytes-shown, numbers-fit, stalls-fit, space-fits, fields-end, end-first, missing-fits, end-last, end-length, end-put, fields-fit, shown-fits, end-fits, line-ends)

@@ -10,6 +10,7 @@ use lib.ListN.{length, take, drop, length-take}
 use borrow.Author.Tests.{eqb-true, ltb-false}
 use Rattle.fields.proofs.Bools.{of-picked}
 use Rattle.answers.specs.declared.Stalls.{Stalls}
+use Rattle.answers.specs.Answers.{Answering}
 use Rattle.answers.specs.declared.Stalls.the-variants.{Kept}
 use Rattle.device.specs.declared.Fixed.{Fixed}
 use Rattle.device.specs.declared.Device.{Device}
@@ -28,14 +29,14 @@ room-less : (n m : ℕ) → n ≤ m → roomFor n ≤ roomFor m
 unfolding roomFor
 room-less n m h = omega (arith, h)
 
-line-room : (index : ℕ) (d : Device) (answer count : ℕ) (stalls : Stalls) (n : ℕ) (bytes : List ℕ) → length (lineText index d answer count stalls (take n bytes)) ≤ roomFor (length bytes)
+line-room : (index : ℕ) (d : Device) (a : Answering) (count : ℕ) (stalls : Stalls) (n : ℕ) (bytes : List ℕ) → length (lineText index d a count stalls (take n bytes)) ≤ roomFor (length bytes)
 unfolding lineText
-line-room index d answer count stalls n bytes =
-    le-trans (line-fits (fieldsOf index d answer count stalls) (take n bytes)) (room-less _ _ (rw (length-take n bytes) (min-le-right n (length bytes))))
+line-room index d a count stalls n bytes =
+    le-trans (line-fits (fieldsOf index d a count stalls) (take n bytes)) (room-less _ _ (rw (length-take n bytes) (min-le-right n (length bytes))))
 
 told-room : (index : ℕ) (a : Acting) → length (lineOfActing index a) ≤ roomFor (length (a .lent))
 unfolding lineOfActing
-told-room index a = line-room index (a .device) (a .answer .number) (a .count) (a .stalls) (a .shown) (a .lent)
+told-room index a = line-room index (a .device) (a .answer) (a .count) (a .stalls) (a .shown) (a .lent)
 
 -- ---- a later event
 
@@ -131,6 +132,6 @@ module _ (file text : List ℕ) {r : Run} {after : List ℕ} (h : OpensFile file
 pub none-roomy : (lent text : List ℕ) → Roomy lent text → roomFor 0 ≤ length text
 none-roomy lent text room = le-trans (room-less 0 (length lent) zero-le) (room .tells)
 
-pub both-roomy : (lent text : List ℕ) → 65535 ≡ length lent → 131201 ≡ length text → Roomy lent text
+pub both-roomy : (lent text : List ℕ) → 65535 ≡ length lent → 131222 ≡ length text → Roomy lent text
 unfolding roomFor
 both-roomy lent text e f = record { shows = omega (arith, e); tells = omega (arith, e, f) }

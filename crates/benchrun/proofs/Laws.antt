@@ -12,7 +12,7 @@ use Rattle.fields.specs.Field.{get}
 use Rattle.fields.proofs.Bools.{not-true, not-false}
 use Rattle.answers.specs.declared.Stalls.{Stalls}
 use Rattle.answers.specs.declared.Stalls.the-variants.{Kept}
-use Rattle.answers.specs.Answers.{answerOf}
+use Rattle.answers.specs.Answers.{Answering, answerOf}
 use Rattle.ring.specs.States.{stateNumber}
 use Rattle.device.specs.declared.Device.{Device}
 use Rattle.device.specs.declared.create.Created.{Created}
@@ -34,10 +34,10 @@ use Rattle.benchrun.specs.Inner.Run.{Roomy}
 
 -- ---- the line
 
-pub told-fields : (index : ℕ) (a : Acted) {n s u : ℕ} → n ≡ answerOf (a .answer) .number → s ≡ stateNumber (a .device .state) → u ≡ a .device .marks .write - a .device .marks .read
-    → record { index = index; answer = n; state = s; left = a .device .left .0; unread = u; count = a .count; stalls = a .stalls } ≡ fieldsOf index (a .device) (answerOf (a .answer) .number) (a .count) (a .stalls)
+pub told-fields : (index : ℕ) (a : Acted) {n s u m : ℕ} → n ≡ answerOf (a .answer) .number → s ≡ stateNumber (a .device .state) → u ≡ a .device .marks .write - a .device .marks .read → m ≡ answerOf (a .answer) .missing
+    → record { index = index; answer = n; state = s; left = a .device .left .0; unread = u; count = a .count; stalls = a .stalls; missing = m } ≡ fieldsOf index (a .device) (answerOf (a .answer)) (a .count) (a .stalls)
 unfolding fieldsOf
-told-fields index a hn hs hu = rw (hn, hs, hu)
+told-fields index a hn hs hu hm = rw (hn, hs, hu, hm)
 
 -- To take more bytes than there are is to take all of them.
 take-least : (n : ℕ) (xs : List ℕ) → take (min n (length xs)) xs ≡ take n xs
@@ -55,10 +55,10 @@ module _ (n : ℕ) (xs : List ℕ) {k : ℕ} (h : k ≡ min n (length xs)) where
   unfolding roomFor
   least-roomy text r = omega (arith, r, least-cut, least-fits)
 
-  pub told-line : (index : ℕ) (d : Device) (answer count : ℕ) (stalls : Stalls) {l : Line} {before after : List ℕ} {end : ℕ}
-      → l ≡ fieldsOf index d answer count stalls → Puts 0 (lineOf l (take k xs)) before after end → Puts 0 (lineText index d answer count stalls (take n xs)) before after end
+  pub told-line : (index : ℕ) (d : Device) (a : Answering) (count : ℕ) (stalls : Stalls) {l : Line} {before after : List ℕ} {end : ℕ}
+      → l ≡ fieldsOf index d a count stalls → Puts 0 (lineOf l (take k xs)) before after end → Puts 0 (lineText index d a count stalls (take n xs)) before after end
   unfolding lineText
-  told-line index d answer count stalls {before = before} {after} {end} hl p =
+  told-line index d a count stalls {before = before} {after} {end} hl p =
       subst (λ (ys : List ℕ). Puts 0 ys before after end) (rw (hl, h, take-least n xs)) p
 
 ended : {ys before after : List ℕ} {n : ℕ} → Puts 0 ys before after n → n ≡ length ys
@@ -80,7 +80,7 @@ module _ (events text : List ℕ) {e : EventHead} (he : e ≡ eventAt events 0) 
     begins-fits = first-long events (sym (ap (λ (x : EventHead). x .whole) he) ∙ not-false (e .whole) q)
 
     pub begins-made : (c : Created) → creationOf c ≡ creationOfBody (take 7 (drop 3 events)) → {k : ℕ} → k ≡ answerOf (c .answer) .number
-        → {after : List ℕ} {n : ℕ} → Puts 0 (lineText 0 (c .device) (answerOf (c .answer) .number) 0 Kept []) text after n
+        → {after : List ℕ} {n : ℕ} → Puts 0 (lineText 0 (c .device) (answerOf (c .answer)) 0 Kept []) text after n
         → beginningOf (record { device = c .device; at = 10; index = 1; line = n; going = eqb k 0 }) after ≡ beginBy events text
     unfolding beginBy beginningOfCreation
     begins-made c hc hk t = rw (← he, not-false (e .whole) q, ← hc, hk, ended t, t .text)
@@ -145,7 +145,7 @@ module _ (run : Run) (events io lent text : List ℕ) {e : EventHead} (he : e �
 
   pub steps-on : not (e .whole) ≡ false → (a : Acted) {io′ lent′ : List ℕ}
       → actingOf a io′ lent′ ≡ actBy (e .kind) (take (run .at + 3 + e .length - (run .at + 3)) (drop (run .at + 3) events)) (run .device) io lent
-      → {after : List ℕ} {n : ℕ} → Puts 0 (lineText (run .index) (a .device) (answerOf (a .answer) .number) (a .count) (a .stalls) (take (a .shown) lent′)) text after n
+      → {after : List ℕ} {n : ℕ} → Puts 0 (lineText (run .index) (a .device) (answerOf (a .answer)) (a .count) (a .stalls) (take (a .shown) lent′)) text after n
       → runningOf (record { device = a .device; at = run .at + 3 + e .length; index = run .index + 1; line = n; going = true }) io′ lent′ after ≡ stepBy run events io lent text
   unfolding stepBy eventBy wentOn lineOfActing
   steps-on q a ha t =

@@ -114,7 +114,7 @@ created-printed : (c : Creation) (e : List ℕ) (es : List (List ℕ)) (space le
     → Turns (joined (e ∷ es)) (startOf (beginningOfCreation c text) space lent) to out → out ≡ creationLines c es space lent
 unfolding beginningOfCreation creationLines joined areEvents
 created-printed c e es space lent text to out are w =
-    behind (eqb (c .answer .number) 0) refl ∙ ap (λ (x : List ℕ). x ++ rest (eqb (c .answer .number) 0)) (front-put text (lineText 0 (c .device) (c .answer .number) 0 Kept []))
+    behind (eqb (c .answer .number) 0) refl ∙ ap (λ (x : List ℕ). x ++ rest (eqb (c .answer .number) 0)) (front-put text (lineText 0 (c .device) (c .answer) 0 Kept []))
   where
     start : Running
     start = startOf (beginningOfCreation c text) space lent

@@ -21,7 +21,7 @@ three-stored l a b c e = all-stored l (a ∷ b ∷ c ∷ []) e
 shown-answer : (m : Marks) (a : Answer) (b was : List ℕ) → bufferOutcomeOf was (answerOf m a b) ≡ bufferOutcome (answerNumber a) b (marksOf a was)
 unfolding bufferOutcomeOf
 shown-answer m (Done n t) b was = refl
-shown-answer m (Overflow t) b was = refl
+shown-answer m (Overflow n t) b was = refl
 shown-answer m Broken b was = refl
 
 -- The caller has three numbers: m are its marks, a is the buffer's answer, and b are its bytes after the call.

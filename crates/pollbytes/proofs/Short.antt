@@ -29,7 +29,7 @@ use Rattle.recordbytes.specs.Layout as field
 use Rattle.recordbytes.specs.Record.{isKnown, statusBy, statusAt, fixedAt, wrapperAt, deviceAt, storeState, storeMarks, storeLeft, storeDevice}
 use Rattle.recordbytes.proofs.Stored.{Known, is-known}
 use Rattle.recordbytes.proofs.Parts.{moved-to, moved-within, reached}
-use Rattle.border.specs.Word.{word}
+use Rattle.border.specs.Word.{word, upperHalf}
 use Rattle.border.specs.Record.{onDevice}
 use Rattle.onward.specs.Inner.Onward.{Ready, Sending, CanSend, MaySend, SendsOn, SendsOrStays, Taking, CanTake, MayTake, TakesOn, TakesOrStays, MayEnd, statusIn, EndsOn}
 use Rattle.onward.proofs.Going.{sentOn, send-rule, takenOn, take-rule}
@@ -80,6 +80,7 @@ takes-one e = omega (arith, e)
 module _ (r io : List ℕ) (g : Given) where
   sends : (y : Ready r (length io) (length (g .packet)) (length (g .one)) (length (g .two))) → Sending (numbersOf (deviceAt r)) (g .turn .write)
       → {x : ℕ} {r′ packet′ : List ℕ} → SendsOn (numbersOf (deviceAt r)) io r (g .packet) x r′ packet′ → pollOutcome x r′ io packet′ ≡ pollOn r io g
+  unfolding upperHalf
   sends y s {r′ = r′} it =
       let fits = offers-fit r io (g .packet) (g .one) (g .two) y in
       let kept : r′ ≡ storeDevice (sentOn (deviceAt r) io g (y .whole) fits .device) r = it .bytes ∙ sym (sent-bytes r (is-known r (y .known)) (isPresent (deviceAt r .status)) _ _) in
@@ -104,6 +105,7 @@ module _ (r io : List ℕ) (g : Given) where
 
   takes : (y : Ready r (length io) (length (g .packet)) (length (g .one)) (length (g .two))) → Taking (numbersOf (deviceAt r)) (length io) (length (g .one)) (g .turn .first)
       → {x : ℕ} {r′ io′ : List ℕ} → TakesOn (numbersOf (deviceAt r)) io r (g .one) x r′ io′ → pollOutcome x r′ io′ (g .packet) ≡ pollOn r io g
+  unfolding upperHalf
   takes y s {r′ = r′} it =
       let fits = offers-fit r io (g .packet) (g .one) (g .two) y in
       let kept : r′ ≡ storeDevice (takenOn (deviceAt r) io g (y .whole) fits .device) r = it .bytes ∙ sym (moved-within r (is-known r (y .known)) _ _) in
@@ -133,7 +135,7 @@ module _ (r io : List ℕ) (g : Given) where
 
   pub ends : {t : Bool} → (t ≡ true → MayEnd r (length io) (length (g .packet)) (length (g .one)) (length (g .two)) (g .turn .write)) → t ≡ true
       → {x : ℕ} {r′ io′ packet′ : List ℕ} → EndsOn r io (g .packet) x r′ io′ packet′ → pollOutcome x r′ io′ packet′ ≡ pollOn r io g
-  unfolding fixedAt deviceAt
+  unfolding fixedAt deviceAt upperHalf
   ends tells q {r′ = r′} it =
       let y = tells q in
       let fits = offers-fit r io (g .packet) (g .one) (g .two) (y .ready) in

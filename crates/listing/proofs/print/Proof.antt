@@ -14,7 +14,7 @@ use Rattle.listing.proofs.print.Statement.{statement}
 use Rattle.listing.proofs.print.Tie as tie
 
 -- What was put in ends before the text does.
-fits-text : (l : Line) (bytes : List ℕ) {before after : List ℕ} {end : ℕ} → Puts 0 (lineOf l bytes) before after end → roomFor (length bytes) ≤ 259 → length after ≡ 259
+fits-text : (l : Line) (bytes : List ℕ) {before after : List ℕ} {end : ℕ} → Puts 0 (lineOf l bytes) before after end → roomFor (length bytes) ≤ 280 → length after ≡ 280
     → end ≤ length after
 fits-text l bytes p h e = omega (arith, p .ends, line-fits l bytes, h, e)
 

@@ -5,4 +5,4 @@ use Rattle.benchrun.proofs.step.fields_of.Statement.{statement}
 use Rattle.benchrun.proofs.step.fields_of.Tie as tie
 
 pub fields-of-spec : {M : Type 1} → statement M
-fields-of-spec = tie.close (tie.spec (λ c. search needs) (λ c. search needs) (λ c. search needs) (λ c. search (ways, needs)))
+fields-of-spec = tie.close (tie.spec (λ c. search needs) (λ c. search needs) (λ c. search needs) (λ c. search needs) (λ c. search (ways, needs)))
