@@ -1,5 +1,5 @@
--- Bits 32 to 63 of a result: with every other answer than 1 they are the count (`upper-other`), and what each way through `upper_half` owes
--- (`ways`). Assumes nothing.
+-- Bits 32 to 63 of a result: with every other answer than 1 they are the count (`upper-other`); what each way through `upper_half` owes.
+-- Assumes nothing.
 use mathlib.Core.Path.{_≡_, sym, _∙_}
 use mathlib.Core.Bool.{false}
 use Prim.Native.Nat.{ℕ, _^_, _<_, min}
@@ -24,5 +24,3 @@ module _ (a : Answering) (count : ℕ) {n : ℕ} (en : n ≡ a .number) where
 
   pub upper-count : (n ≡ 1 → ⊥) → count ≡ upperHalf a count
   upper-count q = sym (upper-other a count (ne-eqb _ _ (λ e. q (en ∙ e))))
-
-pub ruleset ways = (upper-fits, upper-missing, upper-count)

@@ -20,10 +20,10 @@ fn report(marks: &mut [usize], a: Answer) -> u32
             marks[2] = n;
             0
         }
-        Answer::Overflow(n, t) => {
+        Answer::Overflow(missing, t) => {
             marks[0] = t.read;
             marks[1] = t.write;
-            marks[2] = n;
+            marks[2] = missing;
             1
         }
         Answer::Broken => 10,
