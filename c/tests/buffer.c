@@ -1,6 +1,7 @@
 /* Replays buffer operations on the proved buffer and prints what each left.
    Standard input: the operations that judge/oracle/buffer-ops writes. Standard output: a line for each,
        op answer count read write CONTENT [DESTINATION]
+   with the bytes missing in the place of the count where the answer is 1,
    as judge/oracle/buffer-ops writes it for buffer.rs. Before that, every call is given broken marks, which buffer.rs cannot be
    given: each call has to answer 10 and to leave everything as it was.
    The kit has no C headers, so the few names used are declared here. */
@@ -14,7 +15,7 @@ void *memset(void *, int, size_t);
 int memcmp(const void *, const void *, size_t);
 _Noreturn void exit(int);
 
-/* crates/leafhost: a slice is a pointer and then a length; marks are read mark, write mark and count */
+/* crates/leafhost: a slice is a pointer and then a length; marks are read mark, write mark, and count or, with answer 1, bytes missing */
 uint32_t buffer_available(const uint8_t *io, size_t io_len, size_t *marks, size_t marks_len);
 uint32_t buffer_clean(const uint8_t *io, size_t io_len, size_t *marks, size_t marks_len);
 uint32_t buffer_shift(uint8_t *io, size_t io_len, size_t *marks, size_t marks_len);

@@ -343,8 +343,9 @@ module _ (d : Device) (io : List ℕ) (g : Given) where
       let same : (n : ℕ) → Sizes d (length io) (length (g .packet)) (refusing d io g n) = λ _. record { fixed = refl; io = refl; packet = refl; taken = zero-le; sent = zero-le } in
       by-call (Sizes d (length io) (length (g .packet))) (same 10) (same 11) (λ w f. poll-sizes w (f .into))
 
-  -- What the call says to be missing is true of the room that it leaves.
-  pub call-lacks : Lacks (d .fixed .packetsize) (roomInAll (buffer (pollCall d io g .io) (pollCall d io g .device .marks))) (pollCall d io g .answer)
-  call-lacks =
-      by-call (λ (o : Polling). Lacks (d .fixed .packetsize) (roomInAll (buffer (o .io) (o .device .marks))) (o .answer))
-      (lacks-else (answer 10) refl refl) (lacks-else (answer 11) refl refl) (λ w _. kept w .lacks)
+-- What the call says to be missing is true of the room that it leaves.
+pub call-lacks : (d : Device) (io : List ℕ) (g : Given)
+    → Lacks (d .fixed .packetsize) (roomInAll (buffer (pollCall d io g .io) (pollCall d io g .device .marks))) (pollCall d io g .answer)
+call-lacks d io g =
+    by-call d io g (λ (o : Polling). Lacks (d .fixed .packetsize) (roomInAll (buffer (o .io) (o .device .marks))) (o .answer))
+    (lacks-else (answer 10) refl refl) (lacks-else (answer 11) refl refl) (λ w _. kept d io g w .lacks)

@@ -3,17 +3,15 @@
 use mathlib.Core.Path.{_≡_}
 use mathlib.Core.Bool.{true, false}
 use mathlib.Core.List.{List}
-use Prim.Native.Nat.{ℕ, _+_, _-_, _≤_}
-use lib.Dec.{ltb}
+use Prim.Native.Nat.{ℕ, _+_, _-_, _≤_, _<_}
 use lib.ListN.{length}
 use Rattle.buffer.specs.Buffer.{buffer, roomInAll}
-use Rattle.answers.specs.declared.Endpoint.{Endpoint}
-use Rattle.answers.specs.Answers.{lacking, serves}
-use Rattle.ring.specs.declared.State.the-variants.{DataTransferFromHost}
+use Rattle.answers.specs.Answers.{lacking, again, endpointOf, serves, answeredBy}
+use Rattle.ring.specs.declared.State.the-variants.{CommandTransfer, DataTransferFromHost}
 use Rattle.device.specs.declared.Device.{Device}
 use Rattle.device.specs.Device.{numbersOf, isPresent}
 use Rattle.device.specs.Broken.{Whole}
-use Rattle.bbb.specs.Poll.{Given, Polling, Fits}
+use Rattle.bbb.specs.Poll.{Given, Polling, Fits, pollCall}
 
 -- Some time after the poll `o` a poll is made of the device `d` over the IO buffer `io`, given `g`. It is not refused with 10 or 11, P is
 -- the same, and there is room for `k` bytes more than `o` left: that many were read out, or the buffer is that much longer.
@@ -29,8 +27,10 @@ pub record AwaitsData (d : Device) : Type 0 where
   pub some : d .left .0 ≡ 0 → ⊥
   pub absent : isPresent (d .status) ≡ false
 
--- In 0 a poll that takes its packet may go on, and then lack room for a second one. So this is said of the poll `o` made again with room
--- for `k` bytes more, where `m` were missing for the first packet, and where OUT does `e`: it lacks the rest, or takes the packet.
-pub record ReadsAgain (m k : ℕ) (e : Endpoint) (o : Polling) : Type 0 where
-  pub lacks : ltb k m ≡ true → o .answer ≡ lacking (m - k)
-  pub takes : ltb k m ≡ false → serves e ≡ true → 1 ≤ o .taken
+-- A poll of the device `d` over the IO buffer `io`, given `g`, is made again, where `m` bytes were missing for a packet, and there is room
+-- for `k` bytes more. In 7, with enough room, it answers what OUT says. In 0 a poll that takes its packet may go on, and then lack room for a
+-- second one; so there it is only said that the packet is taken.
+pub record PollsAgain (m k : ℕ) (d : Device) (io : List ℕ) (g : Given) : Type 0 where
+  pub answers : AwaitsData d → pollCall d io g .answer ≡ again m k (answeredBy (endpointOf (g .turn .first)))
+  pub short : d .state ≡ CommandTransfer → k < m → pollCall d io g .answer ≡ lacking (m - k)
+  pub taken : d .state ≡ CommandTransfer → m ≤ k → serves (endpointOf (g .turn .first)) ≡ true → 1 ≤ pollCall d io g .taken
