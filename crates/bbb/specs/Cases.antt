@@ -122,6 +122,9 @@ ours =
     ∷ case (nextPoll (nextPoll (nextPoll (firstPoll 8 31 (replicate 8 0)) (replicate 8 0)) (replicate 8 0)) [] .answer) (lacking 1)
     ∷ case (firstPoll 64 64 (wrapperFromHost 100 ++ replicate 33 0) .answer) (lacking 33)
     ∷ case (pollLineOf (firstPoll 64 64 (wrapperFromHost 100 ++ replicate 33 0))) (pollLine 1 7 100 33 1 0)
+    -- In 7, once four bytes are read there is room for a packet; after three a byte is still missing.
+    ∷ case (pollAnswered (deviceIn DataTransferFromHost Absent 4 36 20) 0 0 0 .answer) (answer 0)
+    ∷ case (pollAnswered (deviceIn DataTransferFromHost Absent 3 36 20) 0 0 0 .answer) (lacking 1)
     -- 11: the packet buffer is below P, or an offer is above P. 10 is checked before.
     ∷ case (pollCall (deviceIn DataTransferToHost Absent 0 8 8) io (given (replicate 7 7) [] [] (record { first = 0; second = 0; write = 0 })) .answer) (answer 11)
     ∷ case (pollCall (deviceIn DataTransferToHost Absent 0 8 8) io (given (replicate 8 7) [] (replicate 9 1) (record { first = 0; second = 0; write = 0 })) .answer) (answer 11)
