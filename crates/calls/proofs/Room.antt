@@ -2,14 +2,15 @@
 use mathlib.Core.Path.{_≡_, refl, sym, ap, _∙_}
 use mathlib.Core.Bool.{true}
 use mathlib.Core.List.{List}
-use Prim.Native.Nat.{ℕ, _+_, _-_, max, zero-le}
+use Prim.Native.Nat.{ℕ, _+_, _-_, _≤_, max, zero-le}
 use native.Mathlib.Nat.{max-eq-right}
+use native.Mathlib.Omega.{arith}
 use lib.ListN.{length}
-use borrow.Author.Tests.{ltb-true}
+use borrow.Author.Tests.{ltb-true, le-ltb}
 use Rattle.fields.proofs.Bools.{of-picked}
 use Rattle.buffer.specs.Buffer.{Buffer, roomInAll, lacksRoom, missing, writtenAll}
 use Rattle.buffer.specs.Inner.Buffer.{Sound}
-use Rattle.buffer.proofs.Room.{missing-by-unread, lacks-missing, room-refused, lacks-then, missing-then}
+use Rattle.buffer.proofs.Room.{lacks-by-unread, missing-by-unread, lacks-missing, room-refused, lacks-then, missing-then}
 use Rattle.answers.specs.Answers.{answer, Lacks, again}
 use Rattle.answers.proofs.Laws.{lacks-else}
 use Rattle.device.specs.declared.Device.{Device}
@@ -18,7 +19,7 @@ use Rattle.device.specs.Broken.{Whole}
 use Rattle.device.proofs.Wholly.{either, whole-sound}
 use Rattle.calls.specs.Checks.{isIn, bufferOf}
 use Rattle.calls.specs.Data.{Moving, worksIn, writeAllIn, writeDataAllCall}
-use Rattle.calls.proofs.After.{write-all-answer}
+use Rattle.calls.proofs.After.{write-all-keeps, write-all-whole, write-all-answer}
 
 -- With answer 1, what is missing is the source's length less the room that the call leaves; else nothing is.
 pub write-all-lacks : (d : Device) (io src : List ℕ)
@@ -53,3 +54,29 @@ write-again d io src refused k d′ io′ w in4 more =
     let g : Sound (bufferOf d′ io′) = whole-sound (numbersOf d′) io′ w in
     write-all-answer d′ io′ w src in4 .0
     ∙ rw (lacks-then (length src) _ _ k (bufferOf d′ io′) g less more, missing-then (length src) _ _ k (bufferOf d′ io′) g less more)
+
+-- Only a whole record in 4 lacks room.
+lacked-in-4 : (d : Device) (io src : List ℕ) → writeDataAllCall d io src .answer .number ≡ 1 → Whole (numbersOf d) (length io) × (isIn 4 d ≡ true)
+unfolding worksIn
+lacked-in-4 d io src =
+    either d io In4 (λ e. absurd (omega (arith, e)))
+    (λ w. of-picked In4 (isIn 4 d) (λ yes _. (w, yes)) (λ _ e. absurd (omega (arith, e))))
+  where
+    In4 : Moving → Type 0
+    In4 o = o .answer .number ≡ 1 → Whole (numbersOf d) (length io) × (isIn 4 d ≡ true)
+
+-- The call lacked room. A source that is shorter by what was missing fits at once.
+pub write-shorter : (d : Device) (io src : List ℕ) → writeDataAllCall d io src .answer .number ≡ 1
+    → (shorter : List ℕ) → length shorter + writeDataAllCall d io src .answer .missing ≤ length src
+    → writeDataAllCall (writeDataAllCall d io src .device) (writeDataAllCall d io src .bytes) shorter .answer ≡ answer 0
+unfolding isIn
+write-shorter d io src refused shorter h =
+    let was = lacked-in-4 d io src refused in
+    let o : Moving = writeDataAllCall d io src in
+    let s : Buffer = bufferOf (o .device) (o .bytes) in
+    let w : Whole (numbersOf (o .device)) (length (o .bytes)) = write-all-whole d io (was .0) src in
+    let in4 : isIn 4 (o .device) ≡ true = ap (isIn 4) (write-all-keeps d io src) ∙ was .1 in
+    let lacks = write-all-lacks d io src in
+    let fits : length shorter ≤ roomInAll s = omega (arith, lacks .less refused, lacks .some refused, h) in
+    write-all-answer (o .device) (o .bytes) w shorter in4 .0
+    ∙ rw (lacks-by-unread (length shorter) s (whole-sound (numbersOf (o .device)) (o .bytes) w), le-ltb _ _ fits)
