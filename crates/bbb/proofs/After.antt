@@ -45,7 +45,7 @@ use Rattle.packets.specs.Packets.{handed, readAnswer, takesOne, brought, receiv
 use Rattle.packets.proofs.Laws.{handed-most, answers-0, answer-served, sent-unserved, off-nothing, into-nothing}
 use Rattle.device.specs.declared.Status.the-variants.{Present}
 use Rattle.device.specs.Device.{isPresent, inState, withMarks, withLeft}
-use Rattle.bbb.specs.Poll.{Given, Polling, Point, bufferOfPoint, reaching, leaving, leftThen, counting, ending, ends, sendBy, send, sendStatus, sendData, offeredPacket, offeredBy, takeBy, takeData, statusPut, enterStatus, statusAwaitRule, noDataRule, toHostEndingRule, fallsShort, toHostRule, fromHostEndingRule, fromHostRule, starting, startRule, messageAt, past31, parseRule, readBy, readOneBy, readCbwRule}
+use Rattle.bbb.specs.Poll.{Given, Polling, Point, bufferOfPoint, reaching, leaving, leftThen, counting, ending, ends, sendBy, send, sendStatus, sendData, offeredPacket, offeredBy, takeBy, takeData, statusPut, enterStatus, statusAwaitRule, noDataRule, toHostEndingRule, fallsShort, toHostRule, fromHostEndingRule, fromHostRule, starting, startRule, messageAt, past31, parsing, parseRule, readBy, readOneBy, readCbwRule}
 use Rattle.bbb.proofs.Keeping.{follows-received, follows-filled, follows-status, by-direction}
 
 -- This is the buffer that a poll leaves.
@@ -379,12 +379,12 @@ module _ (s : Buffer) (ripe : 31 ≤ unread s) where
 
 module _ (g : Given) (x : Point) where
   -- A valid wrapper starts its data phase.
-  pub parse-valid : isValid (messageAt (bufferOfPoint x)) ≡ true → parseRule g x ≡ startRule (wrapperOf (messageAt (bufferOfPoint x))) g (leaving (past31 (bufferOfPoint x)) x)
+  pub parse-valid : isValid (messageAt (bufferOfPoint x)) ≡ true → parseRule g x ≡ startRule (wrapperOf (messageAt (bufferOfPoint x))) g (parsing x)
   unfolding parseRule
   parse-valid v = rw v
 
   -- An invalid wrapper ends the poll in 1, with both endpoints stalled; of the record only marks and state change.
-  pub parse-invalid : isValid (messageAt (bufferOfPoint x)) ≡ false → parseRule g x ≡ ending (reaching CommandTransferInvalid (leaving (past31 (bufferOfPoint x)) x)) (answer 0) 0 true (g .packet)
+  pub parse-invalid : isValid (messageAt (bufferOfPoint x)) ≡ false → parseRule g x ≡ ending (reaching CommandTransferInvalid (parsing x)) (answer 0) 0 true (g .packet)
   unfolding parseRule
   parse-invalid v = rw v
 
@@ -457,7 +457,7 @@ module _ (g : Given) (n : ℕ) where
   unfolding parseRule startRule noDataRule
   parse-taken x h =
       let w : Wrapper = wrapperOf (messageAt (bufferOfPoint x)) in
-      let y : Point = starting w (leaving (past31 (bufferOfPoint x)) x) in
+      let y : Point = starting w (parsing x) in
       of-picked Counts (isValid (messageAt (bufferOfPoint x)))
       (λ _. by-direction Counts (w .direction) (from-counts y h) (to-counts y h) (await-counts y h))
       (λ _. h)

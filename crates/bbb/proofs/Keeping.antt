@@ -46,7 +46,7 @@ use Rattle.device.specs.Device.{isPresent, numbersOf, withMarks, withLeft, with
 use Rattle.device.specs.Create.{creationChecks}
 use Rattle.device.specs.Broken.{statusFits, Whole}
 use Rattle.device.proofs.Wholly.{passes, either, whole-sound}
-use Rattle.bbb.specs.Poll.{Given, Polling, Point, point, bufferOfPoint, reaching, leaving, leftThen, lowered, counting, ending, sendBy, send, offeredPacket, offeredBy, takeBy, takeData, statusPut, enterStatus, statusAwaitRule, noDataRule, toHostEndingRule, fallsShort, toHostRule, fromHostEndingRule, fromHostRule, startRule, messageAt, past31, parseRule, readBy, readOneBy, readCbwRule, statusTransferRule, invalidRule, ruleIn, pollRule, Fits, isFitting, refusing, pollCall}
+use Rattle.bbb.specs.Poll.{Given, Polling, Point, point, bufferOfPoint, reaching, leaving, leftThen, lowered, counting, ending, sendBy, send, offeredPacket, offeredBy, takeBy, takeData, statusPut, enterStatus, statusAwaitRule, noDataRule, toHostEndingRule, fallsShort, toHostRule, fromHostEndingRule, fromHostRule, startRule, messageAt, past31, parsing, parseRule, readBy, readOneBy, readCbwRule, statusTransferRule, invalidRule, ruleIn, pollRule, Fits, isFitting, refusing, pollCall}
 use Rattle.bbb.proofs.Polling.{fits-all, is-fitting}
 
 -- ---- the buffer that a step leaves: its marks are sound, and it is as long as before
@@ -260,10 +260,10 @@ module _ (d : Device) (len : ℕ) (w : Whole (numbersOf d) len) (g : Given) wher
     kept-parse once ripe =
         let m : List ℕ = messageAt (bufferOfPoint x) in
         let t : Buffer = past31 (bufferOfPoint x) in
-        let k : Stands d len (leaving t x) = stands-left x t h (follows-31 (bufferOfPoint x) (h .sound) ripe) in
+        let k : Stands d len (parsing x) = stands-left x t h (follows-31 (bufferOfPoint x) (h .sound) ripe) in
         of-picked Keeps (isValid m)
-        (λ v. kept-start (wrapperOf m) (lun-most m) (block-most m v) (leaving t x) k once)
-        (λ _. kept-rest (reaching CommandTransferInvalid (leaving t x)) k (rw absent) (omega arith) (answer 0) (lacks-else (answer 0) refl refl) true)
+        (λ v. kept-start (wrapperOf m) (lun-most m) (block-most m v) (parsing x) k once)
+        (λ _. kept-rest (reaching CommandTransferInvalid (parsing x)) k (rw absent) (omega arith) (answer 0) (lacks-else (answer 0) refl refl) true)
 
     kept-by : Fitting x → x .taken ≤ 1 → (took : Bool) (t : Answering) → Lacks (d .fixed .packetsize) (roomInAll (bufferOfPoint x)) t → Keeps (readBy took t g x)
     unfolding readBy

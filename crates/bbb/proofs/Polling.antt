@@ -20,12 +20,13 @@ use Rattle.ring.specs.declared.Act.{Act}
 use Rattle.ring.specs.declared.Row.{Row}
 use Rattle.ring.specs.Inner.Ring.{rowOf, settled}
 use Rattle.wrapper.specs.declared.Wrapper.{Wrapper}
+use Rattle.wrapper.specs.declared.counters.PutIn.{PutIn}
 use Rattle.wrapper.specs.Wrapper.{wrapperOf}
 use Rattle.device.specs.declared.Device.{Device}
 use Rattle.device.specs.declared.Numbers.{Numbers}
 use Rattle.device.specs.declared.Status.{Status}
 use Rattle.device.specs.declared.Status.the-variants.{Absent}
-use Rattle.device.specs.Device.{isPresent, numbersOf, rebuilt}
+use Rattle.device.specs.Device.{isPresent, numbersOf, rebuilt, withPutIn}
 use Rattle.device.specs.Broken.{isWhole, unlessBroken}
 use Rattle.device.proofs.Wholly.{tested, absent-in-0}
 use Rattle.bbb.specs.declared.Change.{Change}
@@ -33,7 +34,7 @@ use Rattle.bbb.specs.declared.Polled.{Polled}
 use Rattle.bbb.specs.declared.open.Opened.{Opened}
 use Rattle.bbb.specs.declared.act.Did.{Did}
 use Rattle.bbb.specs.Poll.{Given, Fits, isFitting, pollingOf, pollRule, pollCall}
-use Rattle.bbb.specs.Inner.Phases.{refusedBy, openingOf, isValidFound, InFront, Opens, opened, openedIo, justRead, wrapperThen, Acts, acted, actedPacket, endedOf, endsWith, goneOn, changedBy}
+use Rattle.bbb.specs.Inner.Phases.{refusedBy, openingOf, isValidFound, InFront, Opens, opened, openedIo, justRead, wrapperThen, isCountedAnew, putInThen, Acts, acted, actedPacket, endedOf, endsWith, goneOn, changedBy}
 use Rattle.bbb.proofs.Same.{finish, follows, same}
 
 -- ---- small picks
@@ -44,8 +45,14 @@ clears-status b s q = rw q
 pub keeps-status : (b : Bool) (s : Status) → b ≡ false → s ≡ cond b Absent s
 keeps-status b s q = rw q
 
-pub changes : (d : Device) (c : Change) (w : Wrapper) {s : Status} → s ≡ cond (c .cleared) Absent (d .status) → {r : Device} → r ≡ rebuilt d (c .state) (c .marks) w s (c .left) → r ≡ changedBy d c w
-changes d c w hs hr = rw (hr, hs)
+pub counts-anew : (o : Opened) (c : PutIn) {b : Bool} → b ≡ isCountedAnew (o .found) (o .cleared) → b ≡ true → record { 0 = 0 } ≡ putInThen (openingOf o) c
+counts-anew o c hb q = rw (← hb, q)
+
+pub keeps-count : (o : Opened) (c : PutIn) {b : Bool} → b ≡ isCountedAnew (o .found) (o .cleared) → b ≡ false → c ≡ putInThen (openingOf o) c
+keeps-count o c hb q = rw (← hb, q)
+
+pub changes : (d : Device) (c : Change) (w : Wrapper) (n : PutIn) {s : Status} → s ≡ cond (c .cleared) Absent (d .status) → {r : Device} → r ≡ rebuilt d (c .state) (c .marks) w s (c .left) → withPutIn n r ≡ changedBy d c w n
+changes d c w n hs hr = rw (hr, hs)
 
 -- ---- the wrapper that opening found
 
@@ -129,15 +136,15 @@ module _ (d : Device) (io : List ℕ) (g : Given) {n : Numbers} (hn : n ≡ numb
     unfolding pollCall unlessBroken
     refused-11 p h = rw (← hn, ← hv, q, ← fit, p, h)
 
-    -- What `open` and `go_on` promise, with the wrapper that is taken between them, makes 01's poll.
-    pub polls : w ≡ true → {o : Opened} {io′ io″ packet′ : List ℕ} (c : Change) {w′ : Wrapper} {d′ : Device}
+    -- What `open` and `go_on` promise, with the wrapper and the count that are taken between them, makes 01's poll.
+    pub polls : w ≡ true → {o : Opened} {io′ io″ packet′ : List ℕ} (c : Change) {w′ : Wrapper} {n′ : PutIn} {d′ : Device}
         → Opens (opened n io (g .one) (endpointOf (g .turn .first))) (openedIo n io (g .one) (endpointOf (g .turn .first))) o io′
-        → endedOf c io″ packet′ ≡ goneOn n (openingOf o) io′ g → w′ ≡ wrapperThen (openingOf o) io′ (d .wrapper) → d′ ≡ changedBy d c w′
+        → endedOf c io″ packet′ ≡ goneOn n (openingOf o) io′ g → w′ ≡ wrapperThen (openingOf o) io′ (d .wrapper) → n′ ≡ putInThen (openingOf o) (d .putin) → d′ ≡ changedBy d c w′ n′
         → pollingOf (record { device = d′; report = c .report }) io″ packet′ ≡ pollCall d io g
     unfolding pollCall unlessBroken pollRule
-    polls p {o} {io′} {io″} {packet′} c x y z h =
-        let k : finish d (endedOf c io″ packet′) (wrapperThen (openingOf o) io′ (d .wrapper)) ≡ follows d (opened (numbersOf d) io (g .one) (endpointOf (g .turn .first))) (openedIo (numbersOf d) io (g .one) (endpointOf (g .turn .first))) g =
+    polls p {o} {io′} {io″} {packet′} c x y z m h =
+        let k : finish d (endedOf c io″ packet′) (wrapperThen (openingOf o) io′ (d .wrapper)) (putInThen (openingOf o) (d .putin)) ≡ follows d (opened (numbersOf d) io (g .one) (endpointOf (g .turn .first))) (openedIo (numbersOf d) io (g .one) (endpointOf (g .turn .first))) g =
         rw (← hn, ← x .leaves, ← x .bytes, ← y) in
-        rw (← hn, ← hv, q, ← fit, p, h, z) (k ∙ same (d .state) d io g (absent-in-0 (numbersOf d) (length io) (rw hn at (tested n (length io) hv q))))
+        rw (← hn, ← hv, q, ← fit, p, h, z, m) (k ∙ same (d .state) d io g (absent-in-0 (numbersOf d) (length io) (rw hn at (tested n (length io) hv q))))
 
-pub ruleset ways = (clears-status, keeps-status, changes, found-31, found-part, found-wrapper, kept-wrapper, fits-all, fits-not-two, fits-not-one, first-fits, is-fitting, goes-on, tested)
+pub ruleset ways = (clears-status, keeps-status, counts-anew, keeps-count, changes, found-31, found-part, found-wrapper, kept-wrapper, fits-all, fits-not-two, fits-not-one, first-fits, is-fitting, goes-on, tested)

@@ -22,18 +22,19 @@ use Rattle.wrapper.specs.declared.DataDirection.{DataDirection}
 use Rattle.wrapper.specs.declared.DataDirection.the-variants.{Out, In, NotExpected}
 use Rattle.wrapper.specs.declared.Wrapper.{Wrapper}
 use Rattle.wrapper.specs.declared.counters.Left.{Left}
+use Rattle.wrapper.specs.declared.counters.PutIn.{PutIn}
 use Rattle.wrapper.specs.Wrapper.{isValid, wrapperOf}
 use Rattle.packets.specs.Packets.{readAnswer, takesOne, received, filledUp}
 use Rattle.device.specs.declared.Status.the-variants.{Absent}
 use Rattle.device.specs.declared.Device.{Device}
-use Rattle.device.specs.Device.{isPresent, numbersOf, inState, rebuilt}
-use Rattle.bbb.specs.Poll.{Given, Polling, Point, point, reaching, leaving, ending, ends, sendBy, send, sendStatus, sendData, takeBy, takeData, enterStatus, statusAwaitRule, noDataRule, toHostEndingRule, fallsShort, toHostRule, fromHostEndingRule, fromHostRule, startRule, messageAt, past31, parseRule, readBy, readOneBy, readCbwRule, statusTransferRule, invalidRule, ruleIn}
-use Rattle.bbb.specs.Inner.Phases.{Opening, opening, marksPast31, parsedOpen, openAfter, readOpen, opensIn, isOpening, opened, openedIo, justRead, wrapperThen, Doing, tookFrom, took, sentFrom, sentBy, sentPacket, acted, actedPacket, Ended, endedBy, endsWith, goneOn}
+use Rattle.device.specs.Device.{isPresent, numbersOf, inState, rebuilt, withPutIn}
+use Rattle.bbb.specs.Poll.{Given, Polling, Point, point, reaching, leaving, ending, ends, sendBy, send, sendStatus, sendData, takeBy, takeData, enterStatus, statusAwaitRule, noDataRule, toHostEndingRule, fallsShort, toHostRule, fromHostEndingRule, fromHostRule, startRule, messageAt, parsing, parseRule, readBy, readOneBy, readCbwRule, statusTransferRule, invalidRule, ruleIn}
+use Rattle.bbb.specs.Inner.Phases.{Opening, opening, marksPast31, parsedOpen, openAfter, readOpen, opensIn, isOpening, opened, openedIo, justRead, wrapperThen, putInThen, Doing, tookFrom, took, sentFrom, sentBy, sentPacket, acted, actedPacket, Ended, endedBy, endsWith, goneOn}
 
--- This is the record with what changed and the wrapper `w`, and what is reported.
-abbrev pub finish : Device → Ended → Wrapper → Polling
-finish d x w = record {
-  device = rebuilt d (x .state) (x .marks) w (cond (x .cleared) Absent (d .status)) (x .left);
+-- This is the record with what changed, the wrapper `w` and the count `putin`, and what is reported.
+abbrev pub finish : Device → Ended → Wrapper → PutIn → Polling
+finish d x w putin = record {
+  device = withPutIn putin (rebuilt d (x .state) (x .marks) w (cond (x .cleared) Absent (d .status)) (x .left));
   answer = x .answer;
   taken = x .taken;
   sent = x .sent;
@@ -44,11 +45,11 @@ finish d x w = record {
 
 -- The poll comes to the act `a` after opening gave `o`, and this is its end.
 abbrev goes : Device → Opening → List ℕ → Given → Wrapper → Act → Polling
-goes d o io g w a = finish d (endsWith (rowOf a) (numbersOf d) o io g) w
+goes d o io g w a = finish d (endsWith (rowOf a) (numbersOf d) o io g) w (putInThen o (d .putin))
 
 -- The act begins at this point: the record has what opening gave, any state `z`, and the wrapper `w`.
 abbrev start : Device → State → Opening → List ℕ → Wrapper → Point
-start d z o io w = point (rebuilt d z (o .marks) w (cond (o .cleared) Absent (d .status)) (o .left)) io (o .taken) (o .cleared)
+start d z o io w = point (withPutIn (putInThen o (d .putin)) (rebuilt d z (o .marks) w (cond (o .cleared) Absent (d .status)) (o .left))) io (o .taken) (o .cleared)
 
 -- ---- the acts
 
@@ -77,17 +78,17 @@ module _ (d : Device) (z : State) (io : List ℕ) (g : Given) (w : Wrapper) (f :
   fills = refl
 
   -- A packet of data is sent, or 4 is answered.
-  short : (b : Bool) (x y : Doing) (p q : List ℕ) → finish d (endedBy DataTransferToHost (o (answer 0)) (cond b x y) (cond b p q)) w
-      ≡ cond b (finish d (endedBy DataTransferToHost (o (answer 0)) x p) w) (finish d (endedBy DataTransferToHost (o (answer 0)) y q) w)
-  short true x y p q = refl
-  short false x y p q = refl
+  short : (b : Bool) (x y : Doing) (p q : List ℕ) (n : PutIn) → finish d (endedBy DataTransferToHost (o (answer 0)) (cond b x y) (cond b p q)) w n
+      ≡ cond b (finish d (endedBy DataTransferToHost (o (answer 0)) x p) w n) (finish d (endedBy DataTransferToHost (o (answer 0)) y q) w n)
+  short true x y p q n = refl
+  short false x y p q n = refl
 
   sends : goes d (o (answer 0)) io g w Send
       ≡ cond (fallsShort (d .fixed .packetsize) l (m .write - m .read))
       (ends g (reaching DataTransferToHost (start d z (o (answer 0)) io w)) (answer 4))
       (sendData g (reaching DataTransferToHost (start d z (o (answer 0)) io w)))
   unfolding endsWith acted actedPacket sentBy sentFrom sentPacket send sendBy
-  sends = short (fallsShort (d .fixed .packetsize) l (m .write - m .read)) _ _ _ _
+  sends = short (fallsShort (d .fixed .packetsize) l (m .write - m .read)) _ _ _ _ _
 
   takes : goes d (o (answer 0)) io g w Take ≡ takeData g (reaching DataTransferFromHost (start d z (o (answer 0)) io w))
   unfolding endsWith acted actedPacket took tookFrom takeData takeBy
@@ -188,20 +189,20 @@ abbrev decides : Device → Opening → List ℕ → Given → Act → Polling
 decides d x io g a = goes d x io g (wrapperThen x io (d .wrapper)) a
 
 module _ (d : Device) (c : Bool) (absent : isPresent (cond c Absent (d .status)) ≡ false) (g : Given) where
-  abbrev parsing : Opening → List ℕ → Polling
-  parsing x io = decides d x io g (readCbwAct (x .found) (x .direction) (x .left .0))
+  abbrev reading : Opening → List ℕ → Polling
+  reading x io = decides d x io g (readCbwAct (x .found) (x .direction) (x .left .0))
 
-  -- The poll is in 0 with the buffer `t`, and `k` packets are taken.
+  -- The poll is in 0 with the buffer `t`, and `k` packets are taken. If it entered 0, what is put in is counted from 0 on.
   abbrev waiting : Buffer → Left → ℕ → Point
-  waiting t l k = point (rebuilt d CommandTransfer (t .marks) (d .wrapper) (cond c Absent (d .status)) l) (t .bytes) k c
+  waiting t l k = point (withPutIn (cond c (record { 0 = 0 }) (d .putin)) (rebuilt d CommandTransfer (t .marks) (d .wrapper) (cond c Absent (d .status)) l)) (t .bytes) k c
 
   -- This is the wrapper that a valid message holds.
   abbrev said : Buffer → Wrapper
   said t = wrapperOf (messageAt t)
 
   judges : (v : Bool) (t : Buffer) (l : Left)
-      → parsing (cond v (opening Valid (marksPast31 (t .marks)) (record { 0 = said t .length }) (said t .direction) (answer 0) 1 c) (opening Invalid (marksPast31 (t .marks)) l NotExpected (answer 0) 1 c)) (t .bytes)
-      ≡ cond v (startRule (said t) g (leaving (past31 t) (waiting t l 1))) (ending (reaching CommandTransferInvalid (leaving (past31 t) (waiting t l 1))) (answer 0) 0 true (g .packet))
+      → reading (cond v (opening Valid (marksPast31 (t .marks)) (record { 0 = said t .length }) (said t .direction) (answer 0) 1 c) (opening Invalid (marksPast31 (t .marks)) l NotExpected (answer 0) 1 c)) (t .bytes)
+      ≡ cond v (startRule (said t) g (parsing (waiting t l 1))) (ending (reaching CommandTransferInvalid (parsing (waiting t l 1))) (answer 0) 0 true (g .packet))
   unfolding wrapperThen readCbwAct startAct startRule
   judges true t l =
       rw (just-read t)
@@ -211,19 +212,19 @@ module _ (d : Device) (c : Bool) (absent : isPresent (cond c Absent (d .status))
       (none-0 d c absent (t .bytes) g (said t) (marksPast31 (t .marks)) (record { 0 = said t .length }) (said t .direction)))
   judges false t l = stalls d CommandTransfer (t .bytes) g (d .wrapper) Invalid (marksPast31 (t .marks)) l NotExpected 1 c
 
-  parses : (t : Buffer) (l : Left) → parsing (parsedOpen t l c) (t .bytes) ≡ parseRule g (waiting t l 1)
+  parses : (t : Buffer) (l : Left) → reading (parsedOpen t l c) (t .bytes) ≡ parseRule g (waiting t l 1)
   unfolding parsedOpen parseRule
   parses t l = judges (isValid (messageAt t)) t l
 
   reads : (took r : Bool) (t : Buffer) (says : Answering) (l : Left)
-      → parsing (cond (took && r) (parsedOpen t l c) (opening Nothing (t .marks) l NotExpected says (cond took 1 0) c)) (t .bytes)
+      → reading (cond (took && r) (parsedOpen t l c) (opening Nothing (t .marks) l NotExpected says (cond took 1 0) c)) (t .bytes)
       ≡ cond (took && r) (parseRule g (waiting t l (cond took 1 0))) (ends g (waiting t l (cond took 1 0)) says)
   unfolding wrapperThen readCbwAct
   reads true true t says l = parses t l
   reads true false t says l = stays d CommandTransfer (t .bytes) g (d .wrapper) Nothing (t .marks) l NotExpected 1 c says
   reads false r t says l = stays d CommandTransfer (t .bytes) g (d .wrapper) Nothing (t .marks) l NotExpected 0 c says
 
-  wrapper : (e : Endpoint) (s : Buffer) (l : Left) → parsing (readOpen (d .fixed .packetsize) e (g .one) l c s) (received (d .fixed .packetsize) e (g .one) s .bytes) ≡ readOneBy (d .fixed .packetsize) e s g (waiting s l 0)
+  wrapper : (e : Endpoint) (s : Buffer) (l : Left) → reading (readOpen (d .fixed .packetsize) e (g .one) l c s) (received (d .fixed .packetsize) e (g .one) s .bytes) ≡ readOneBy (d .fixed .packetsize) e s g (waiting s l 0)
   unfolding readOpen openAfter readOneBy readBy
   wrapper e s l = reads (takesOne (d .fixed .packetsize) e s) (leb 31 (unread (received (d .fixed .packetsize) e (g .one) s))) (received (d .fixed .packetsize) e (g .one) s) (readAnswer (d .fixed .packetsize) e s) l
 
@@ -239,7 +240,7 @@ status d g false x y io io′ h i = i
 
 -- This is a poll from what opening gave.
 abbrev pub follows : Device → Opening → List ℕ → Given → Polling
-follows d o io g = finish d (goneOn (numbersOf d) o io g) (wrapperThen o io (d .wrapper))
+follows d o io g = finish d (goneOn (numbersOf d) o io g) (wrapperThen o io (d .wrapper)) (putInThen o (d .putin))
 
 pub same : (s : State) (d : Device) (io : List ℕ) (g : Given) → (s ≡ CommandTransfer → isPresent (d .status) ≡ false)
     → follows (inState s d) (opened (numbersOf (inState s d)) io (g .one) (endpointOf (g .turn .first))) (openedIo (numbersOf (inState s d)) io (g .one) (endpointOf (g .turn .first))) g

@@ -41,7 +41,7 @@ use Rattle.packets.specs.Packets.{readAnswer, takesOne, brought, received, send
 use Rattle.device.specs.declared.Status.{Status}
 use Rattle.device.specs.declared.Status.the-variants.{Absent, Present}
 use Rattle.device.specs.declared.Device.{Device}
-use Rattle.device.specs.Device.{isPresent, inState, withMarks, withWrapper, withLeft, entering0}
+use Rattle.device.specs.Device.{isPresent, inState, withMarks, withWrapper, withLeft, countedAnew, entering0}
 use Rattle.device.specs.Broken.{unlessBroken}
 use Rattle.bbb.specs.declared.Turn.{Turn}
 use Rattle.bbb.specs.declared.Polled.{Polled}
@@ -232,13 +232,16 @@ messageAt s = take 31 (drop (s .marks .read) (s .bytes))
 abbrev pub past31 : Buffer → Buffer
 past31 s = buffer (s .bytes) (at (s .marks .read + 31) (s .marks .write))
 
--- At least 31 bytes are unread, and the first 31 are parsed. "Invalid goes to 1, both endpoints stalled." The 31 bytes count as read,
--- whether they are valid or not.
+-- At the point `x`, 31 bytes are parsed: they count as read, and what the firmware puts in is counted anew, whether they are valid or not.
+abbrev pub parsing : Point → Point
+parsing x = point (countedAnew (withMarks (past31 (bufferOfPoint x) .marks) (x .device))) (x .io) (x .taken) (x .unstalled)
+
+-- At least 31 bytes are unread, and the first 31 are parsed. "Invalid goes to 1, both endpoints stalled."
 unfoldable pub parseRule : Given → Point → Polling
 parseRule g x =
     cond (isValid (messageAt (bufferOfPoint x)))
-    (startRule (wrapperOf (messageAt (bufferOfPoint x))) g (leaving (past31 (bufferOfPoint x)) x))
-    (ending (reaching CommandTransferInvalid (leaving (past31 (bufferOfPoint x)) x)) (answer 0) 0 true (g .packet))
+    (startRule (wrapperOf (messageAt (bufferOfPoint x))) g (parsing x))
+    (ending (reaching CommandTransferInvalid (parsing x)) (answer 0) 0 true (g .packet))
 
 -- A read was tried: `took` says whether it took a packet, and `t` is its answer. If it took one, "with 31 or more unread parse";
 -- otherwise the poll ends with the answer `t`.
@@ -253,7 +256,8 @@ readOneBy p e s g x = readBy (takesOne p e s) (readAnswer p e s) g (counting (ta
 unfoldable pub readCbwRule : Given → Point → Polling
 readCbwRule g x = readOneBy (x .device .fixed .packetsize) (endpointOf (g .turn .first)) (bufferOfPoint x) g x
 
--- At the point `x`, 0 is entered. "Entering 0 clears status and left and unstalls both; it does not empty the buffer."
+-- At the point `x`, 0 is entered. "Entering 0 clears status and left and unstalls both; it does not empty the buffer." What was put in is
+-- counted anew.
 abbrev pub entering : Point → Point
 entering x = point (entering0 (x .device)) (x .io) (x .taken) true
 

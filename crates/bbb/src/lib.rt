@@ -28,6 +28,7 @@ use ring::row_of;
 use ring::settle;
 use wrapper::Wrapper;
 use wrapper::counters::Left;
+use wrapper::counters::PutIn;
 use wrapper::in_wrapper;
 ghost use mathlib.Core.Path.{_≡_};
 ghost use mathlib.Core.Bool.{cond};
@@ -36,7 +37,7 @@ ghost use Rattle.buffer.specs.Buffer.{buffer};
 ghost use Rattle.buffer.specs.Inner.Buffer.{Sound};
 ghost use Rattle.device.specs.declared.Status.the-variants.{Absent};
 ghost use Rattle.bbb.specs.Poll.{given, Fits, isFitting, pollingOf, pollCall};
-ghost use Rattle.bbb.specs.Inner.Phases.{refusedBy, isValidFound, openingOf, InFront, wrapperThen, endedOf, goneOn, changedBy};
+ghost use Rattle.bbb.specs.Inner.Phases.{refusedBy, isValidFound, openingOf, InFront, wrapperThen, isCountedAnew, putInThen, endedOf, goneOn, changedBy};
 
 // These are the endpoints' answers for this poll, for two OUT reads and one IN write: 0 does its part, 1 is busy, and others are errors.
 pub struct Turn {
@@ -75,6 +76,17 @@ pub fn is_valid(found: Found) -> bool
     match found {
         Found::Nothing => false,
         Found::Invalid => false,
+        Found::Valid => true,
+    }
+}
+
+// What the firmware puts in is counted anew if 31 bytes were parsed, or if 0 was entered (`cleared`).
+pub fn counted_anew(found: Found, cleared: bool) -> bool
+    ensures { λ r. ⌜ r ≡ isCountedAnew found cleared ⌝ }
+{
+    match found {
+        Found::Nothing => cleared,
+        Found::Invalid => true,
         Found::Valid => true,
     }
 }
@@ -166,16 +178,29 @@ fn wrapper_then(o: Opened, old: Wrapper, io: &[u8]) -> Wrapper
     old
 }
 
-// The record `d` gets the changes `c` and the wrapper `w`.
-fn changed(d: Device, c: Change, w: Wrapper) -> Device
-    ensures { λ r. ⌜ r ≡ changedBy d c w ⌝ }
+// What was put in is counted from 0 on, or the count stays `old`, as opening has it.
+fn put_in_then(o: Opened, old: PutIn) -> PutIn
+    ensures { λ r. ⌜ r ≡ putInThen (openingOf o) old ⌝ }
+{
+    let found = o.found;
+    if counted_anew(found, o.cleared) {
+        return PutIn(0);
+    }
+    old
+}
+
+// The record `d` gets the changes `c`, the wrapper `w` and the count `putin`.
+fn changed(d: Device, c: Change, w: Wrapper, putin: PutIn) -> Device
+    ensures { λ r. ⌜ r ≡ changedBy d c w putin ⌝ }
 {
     let state = c.state;
     let marks = c.marks;
     let left = c.left;
     let was = d.status;
     let status = status_then(c.cleared, was);
-    rebuilt(d, state, marks, w, status, left)
+    let mut after = rebuilt(d, state, marks, w, status, left);
+    after.putin = putin;
+    after
 }
 
 // A poll is refused, and the record stays.
@@ -208,11 +233,13 @@ pub fn poll(
     if whole(n, io.len()) {
         if fits(n.fixed.packetsize, packet.len(), one.len(), two.len()) {
             let old = device.wrapper;
+            let counted = device.putin;
             let o = open(n, io, one, turn.first);
             let w = wrapper_then(o, old, io);
+            let putin = put_in_then(o, counted);
             let c = go_on(n, o, io, packet, one, two, turn);
             let report = c.report;
-            let d = changed(device, c, w);
+            let d = changed(device, c, w, putin);
             return Polled {
                 device: d,
                 report: report,

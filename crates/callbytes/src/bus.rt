@@ -13,7 +13,7 @@ ghost use lib.ListN.{length, getD};
 ghost use Rattle.answers.specs.Answers as answers;
 ghost use Rattle.calls.specs.Bus as bus;
 ghost use Rattle.recordbytes.specs.Layout.{recordSize};
-ghost use Rattle.recordbytes.specs.Record.{storeState, storeLeft, storeStatus};
+ghost use Rattle.recordbytes.specs.Record.{storeState, storeLeft, storePutIn, storeStatus};
 ghost use Rattle.border.specs.Word as spec;
 ghost use Rattle.callbytes.specs.Calls.{callOutcome, resetOn, controlOn};
 
@@ -27,20 +27,22 @@ fn replied(number: u8, stalls: u8, reply: Reply) -> u64
     }
 }
 
-// Stores status, state and left in the record; everything else goes into the result.
+// Stores the count of what was put in, status, state and left in the record; everything else goes into the result.
 fn handled(record: &mut [u8], h: Handled) -> u64
     requires { ⌜ length (now «record») ≡ recordSize ⌝ }
     ensures { λ x. ⌜ (x ≡ spec.word (answers.answerOf (h .report .answer) .number) 0 (spec.stallsNumber (h .report .stalls)) (length (bus.replied (h .report .reply))) (getD (bus.replied (h .report .reply)) 0 0))
-        × (now («record» .exit) ≡ storeLeft (h .device .left) (storeState (h .device .state) (storeStatus (h .device .status) (now («record» .entry))))) ⌝ }
+        × (now («record» .exit) ≡ storeLeft (h .device .left) (storeState (h .device .state) (storeStatus (h .device .status) (storePutIn (h .device .putin) (now («record» .entry)))))) ⌝ }
 {
     let d = h.device;
     let status = d.status;
     let state = d.state;
     let left = d.left;
+    let putin = d.putin;
     let report = h.report;
     let answer = report.answer;
     let stalls = report.stalls;
     let reply = report.reply;
+    store::put_in(record, putin);
     store::status(record, status);
     store::state(record, state);
     store::left(record, left);

@@ -1,6 +1,7 @@
 // A new record.
 use answers::answer_number;
 use device::Fixed;
+use recordbytes::in_record;
 use recordbytes::store;
 ghost use mathlib.Core.Path.{_≡_};
 ghost use Rattle.device.specs.Create.{fixed};
@@ -22,7 +23,7 @@ pub fn create(record: &mut [u8], packet_size: u32, max_lun: u8, size: u32) -> u3
     if number != 0 {
         return number as u32;
     }
-    if record.len() != 52 {
+    if record.len() != in_record::SIZE {
         return 10;
     }
     store::new(record, fixed);

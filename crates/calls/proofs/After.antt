@@ -4,6 +4,7 @@
 --     ..-done       what a call gives on a whole record, if it is accepted
 --     ..-unread     the unread bytes after it
 --     ..-count      how many bytes a read or a write moves
+--     ..-counts     the record counts what a write moved
 --     ..-within     the count is not above the write mark
 --     ..-tells      if the answer is 10, nothing has moved; if it is any other, the record is whole
 --     ..-whole      a whole record stays whole, over the IO buffer that the call leaves
@@ -34,14 +35,15 @@ use Rattle.ring.specs.declared.State.{State}
 use Rattle.ring.specs.declared.State.the-variants.{CommandTransfer, CommandTransferInvalid, DataTransferNoData, StatusTransfer, DataTransferToHost, DataTransferToHostStatusAwait, DataTransferToHostEnding, DataTransferFromHost, DataTransferFromHostEnding}
 use Rattle.ring.specs.States.{stateNumber}
 use Rattle.device.specs.declared.Device.{Device}
-use Rattle.device.specs.Device.{numbersOf, isPresent, withMarks, withStatus, entering0}
+use Rattle.wrapper.specs.Counters.{risen}
+use Rattle.device.specs.Device.{numbersOf, isPresent, withMarks, withStatus, withPutIn, puttingIn, entering0}
 use Rattle.device.specs.Broken.{statusFits, Whole}
 use Rattle.device.proofs.Wholly.{passes, either, whole-sound}
 use Rattle.calls.specs.declared.FirmwareStatus.{FirmwareStatus}
 use Rattle.calls.specs.declared.Request.{Request}
 use Rattle.calls.specs.Checks.{isIn, bufferOf}
 use Rattle.calls.specs.Status.{Stating, stating, takesStatus, withFigure, acceptedStatus, setStatusCall}
-use Rattle.calls.specs.Data.{Moving, moving, worksIn, movingTo, readFrom, readDataCall, limited, writeIn, writeDataCall, writeAllIn, writeDataAllCall}
+use Rattle.calls.specs.Data.{Moving, moving, worksIn, movingTo, movingIn, readFrom, readDataCall, limited, writeIn, writeDataCall, writeAllIn, writeDataAllCall}
 use Rattle.calls.specs.Bus.{Handling, handling, handlingOfReset, resetCall, handlingOfRequest, controlCall}
 use Rattle.calls.specs.Command.{showing, isShown, commandCall, stepping, isOffered, steppingOfDecoding, blockOf, commandStepToldCall}
 
@@ -160,20 +162,41 @@ pub write-all-tells : (d : Device) (io src : List ℕ) → Tells10 d io io (writ
 unfolding writeAllIn
 write-all-tells d io src = data-tells 4 d io io _ (of-picked (λ (o : Moving). eqb (o .answer .number) 10 ≡ false) (lacksRoom (length src) (bufferOf d io)) (λ _. refl) (λ _. refl))
 
--- Whatever the answer, everything of the record but the marks stays: with the old ones put back, it is the old record.
+-- Whatever the answer, everything of the record but the marks stays, and with a write the count of what was put in: with the old ones put
+-- back, it is the old record.
 pub read-keeps : (d : Device) (io dst : List ℕ) → withMarks (d .marks) (readDataCall d io dst .device) ≡ d
 unfolding readFrom
 read-keeps d io dst = by-data (λ (o : Moving). withMarks (d .marks) (o .device) ≡ d) 7 d io dst _ (λ _. refl) refl
 
-pub write-keeps : (d : Device) (io src : List ℕ) → withMarks (d .marks) (writeDataCall d io src .device) ≡ d
+pub write-keeps : (d : Device) (io src : List ℕ) → withPutIn (d .putin) (withMarks (d .marks) (writeDataCall d io src .device)) ≡ d
 unfolding writeIn
-write-keeps d io src = by-data (λ (o : Moving). withMarks (d .marks) (o .device) ≡ d) 4 d io io _ (λ _. refl) refl
+write-keeps d io src = by-data (λ (o : Moving). withPutIn (d .putin) (withMarks (d .marks) (o .device)) ≡ d) 4 d io io _ (λ _. refl) refl
 
-pub write-all-keeps : (d : Device) (io src : List ℕ) → withMarks (d .marks) (writeDataAllCall d io src .device) ≡ d
+pub write-all-keeps : (d : Device) (io src : List ℕ) → withPutIn (d .putin) (withMarks (d .marks) (writeDataAllCall d io src .device)) ≡ d
 unfolding writeAllIn
 write-all-keeps d io src =
-    let P : Moving → Type 0 = λ (o : Moving). withMarks (d .marks) (o .device) ≡ d in
+    let P : Moving → Type 0 = λ (o : Moving). withPutIn (d .putin) (withMarks (d .marks) (o .device)) ≡ d in
     by-data P 4 d io io _ (λ _. refl) (of-picked P (lacksRoom (length src) (bufferOf d io)) (λ _. refl) (λ _. refl))
+
+-- Whatever the answer, the record counts the bytes that a write moved: a refused call moved none. Its count has 32 bits.
+Counts : Device → Moving → Type 0
+Counts d o = o .device .putin ≡ risen (d .putin) (o .count)
+
+module _ (d : Device) (io src : List ℕ) (stored : d .putin .0 ≤ 4294967295) where
+  refused-counts : (a : Answering) (bytes : List ℕ) (m : Marks) → Counts d (moving a 0 (withMarks m d) bytes)
+  unfolding risen Counts
+  refused-counts a bytes m = ap (λ (n : ℕ). record { 0 = n }) (omega arith)
+
+  pub write-counts : writeDataCall d io src .device .putin ≡ risen (d .putin) (writeDataCall d io src .count)
+  unfolding writeIn Counts
+  write-counts = by-data (Counts d) 4 d io io _ (λ a. refused-counts a io (d .marks)) refl
+
+  pub write-all-counts : writeDataAllCall d io src .device .putin ≡ risen (d .putin) (writeDataAllCall d io src .count)
+  unfolding writeAllIn Counts
+  write-all-counts =
+      let t : Buffer = writtenAll 0 src (bufferOf d io) in
+      by-data (Counts d) 4 d io io _ (λ a. refused-counts a io (d .marks))
+      (of-picked (Counts d) (lacksRoom (length src) (bufferOf d io)) (λ _. refused-counts (lacking (missing (length src) (bufferOf d io))) (t .bytes) (t .marks)) (λ _. refl))
 
 -- The count is never above the write mark that the call leaves.
 pub read-within : (d : Device) (io dst : List ℕ) → Whole (numbersOf d) (length io) → readDataCall d io dst .count ≤ readDataCall d io dst .device .marks .write
@@ -202,7 +225,7 @@ write-all-within d io src =
 
 -- These are the answer and the count if all is written or nothing; `a` is the answer of a refusal.
 all-answer : (b : Bool) (a : Answering) (n : ℕ) (d : Device) (t : Buffer)
-    → (cond b (movingTo a 0 d t) (movingTo (answer 0) n d t) .answer ≡ cond b a (answer 0)) × (cond b (movingTo a 0 d t) (movingTo (answer 0) n d t) .count ≡ cond b 0 n)
+    → (cond b (movingTo a 0 d t) (movingIn n d t) .answer ≡ cond b a (answer 0)) × (cond b (movingTo a 0 d t) (movingIn n d t) .count ≡ cond b 0 n)
 all-answer true a n d t = (refl, refl)
 all-answer false a n d t = (refl, refl)
 

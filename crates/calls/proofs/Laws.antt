@@ -19,11 +19,12 @@ use Rattle.answers.specs.declared.Answer.the-variants.{Done, IoBufferOverflow, 
 use Rattle.answers.specs.declared.Stalls.the-variants.{Unstalled}
 use Rattle.answers.specs.Answers.{Answering, answer, lacking}
 use Rattle.wrapper.specs.declared.counters.Left.{Left}
+use Rattle.wrapper.specs.declared.counters.PutIn.{PutIn}
 use Rattle.wrapper.specs.declared.counters.Residue.{Residue}
 use Rattle.wrapper.specs.declared.status.CommandStatus.{CommandStatus}
 use Rattle.wrapper.specs.declared.status.StatusByte.{StatusByte}
 use Rattle.wrapper.specs.declared.status.StatusByte.the-variants.{Known, Refused}
-use Rattle.wrapper.specs.Counters.{residueOf}
+use Rattle.wrapper.specs.Counters.{residueOf, risen}
 use Rattle.wrapper.specs.Status as csw
 use Rattle.wrapper.proofs.Csw.{status-accepted, status-above}
 use Rattle.wrapper.proofs.Numbers.{status-back}
@@ -31,11 +32,12 @@ use Rattle.scsi.specs.declared.Decoded.{Decoded}
 use Rattle.scsi.specs.declared.Decoded.the-variants as scsi
 use Rattle.scsi.specs.declared.ScsiCommand.{ScsiCommand}
 use Rattle.scsi.specs.Decoding.{answerOf, decodeCall, plainIsExtended}
+use Rattle.ring.specs.declared.State.the-variants.{CommandTransfer}
 use Rattle.ring.specs.States.{stateNumber}
 use Rattle.device.specs.declared.Device.{Device}
 use Rattle.device.specs.declared.Numbers.{Numbers}
-use Rattle.device.specs.declared.Status.the-variants.{Present}
-use Rattle.device.specs.Device.{numbersOf, isPresent, withStatus, entering0}
+use Rattle.device.specs.declared.Status.the-variants.{Absent, Present}
+use Rattle.device.specs.Device.{numbersOf, isPresent, inState, withStatus, withLeft, withPutIn, countedAnew, puttingIn}
 use Rattle.device.specs.Broken.{Whole, isWhole, unlessBroken}
 use Rattle.device.proofs.Wholly.{is-whole, whole-sound, passes, stops}
 use Rattle.calls.specs.declared.FirmwareStatus.{FirmwareStatus}
@@ -48,7 +50,7 @@ use Rattle.calls.specs.declared.command.Shown.{Shown}
 use Rattle.calls.specs.declared.command.Step.{Step}
 use Rattle.calls.specs.Checks.{isIn, bufferOf}
 use Rattle.calls.specs.Status.{stating, statingOf, takesStatus, withFigure, acceptedStatus, setStatusCall}
-use Rattle.calls.specs.Inner.Returned.{refuses, unmoved, movesTo, keeps, enters0, hides, offersNone}
+use Rattle.calls.specs.Inner.Returned.{refuses, unmoved, movesTo, putsIn, keeps, enters0, hides, offersNone}
 use Rattle.calls.specs.Data.{Moving, movingOf, worksIn, movingTo, readFrom, limited, writeIn, writeAllIn}
 use Rattle.calls.specs.Bus.{handlingOf, handlingOfReset, resetCall, handlingOfRequest, controlCall}
 use Rattle.calls.specs.Command.{showingOf, showing, isShown, commandCall, offered, steppingOf, Stepping, stepping, isOffered, steppingOfDecoding, blockOf, commandStepToldCall, commandStepCall}
@@ -161,16 +163,19 @@ module _ (left : Left) (src : List ℕ) {n : ℕ} (h : n ≡ min (left .0) (leng
       ∙ ap (λ (k : ℕ). take k (take a src)) (sym (length-take a src))
       ∙ take-length (take a src)
 
+pub puts : (d : Device) (m : Marks) (count : ℕ) {c : PutIn} → c ≡ risen (d .putin) count → {r : Moved} → r ≡ movesTo (withPutIn c d) m Done count → r ≡ putsIn d m count
+puts d m count hc hr = rw hc at hr
+
 -- Equal buffers give the same result of a write.
 left-by : (a : Answering) (count : ℕ) (d : Device) {io : List ℕ} {m : Marks} {t : Buffer} → Leaves (buffer io m) t → movingTo a count d (buffer io m) ≡ movingTo a count d t
 left-by a count d h = ap (movingTo a count d) (h .same)
 
 pub writes : (d : Device) (s : Buffer) (src : List ℕ) {n k : ℕ} {m : Marks} {io : List ℕ} {r : Moved} → n ≡ min (d .left .0) (length src)
-    → k ≡ fitting (length (take n src)) s → Leaves (buffer io m) (written (take n src) s) → r ≡ movesTo d m Done k → movingOf r io ≡ writeIn d s (limited (d .left) src)
+    → k ≡ fitting (length (take n src)) s → Leaves (buffer io m) (written (take n src) s) → r ≡ putsIn d m k → movingOf r io ≡ writeIn d s (limited (d .left) src)
 unfolding writeIn
 writes d s src {n} {k} {m} {io} hn hk hm hr =
     let e : take n src ≡ limited (d .left) src = cut (d .left) src hn in
-    rw (hr, hk, e) (left-by (answer 0) (fitting (length (limited (d .left) src)) s) d (rw e at hm))
+    rw (hr, hk, e) (left-by (answer 0) (fitting (length (limited (d .left) src)) s) (puttingIn (fitting (length (limited (d .left) src)) s) d) (rw e at hm))
 
 -- `n` bytes are missing: the source is taken if that is none, and nothing of it otherwise.
 module _ (d : Device) (s : Buffer) (src : List ℕ) {n : ℕ} (hn : n ≡ missing (max 0 (length src)) s) where
@@ -178,9 +183,9 @@ module _ (d : Device) (s : Buffer) (src : List ℕ) {n : ℕ} (hn : n ≡ missin
   lacked = rw (max-eq-right zero-le) at hn
 
   module _ {m : Marks} {io : List ℕ} (hm : Leaves (buffer io m) (writtenAll 0 src s)) {r : Moved} where
-    pub writes-all : n ≡ 0 → r ≡ movesTo d m Done (length src) → movingOf r io ≡ writeAllIn d s src
+    pub writes-all : n ≡ 0 → r ≡ putsIn d m (length src) → movingOf r io ≡ writeAllIn d s src
     unfolding writeAllIn
-    writes-all q hr = rw (hr, none-missing (length src) s (sym lacked ∙ q)) (left-by (answer 0) (length src) d hm)
+    writes-all q hr = rw (hr, none-missing (length src) s (sym lacked ∙ q)) (left-by (answer 0) (length src) (puttingIn (length src) d) hm)
 
     pub overflows : (n ≡ 0 → ⊥) → r ≡ movesTo d m (IoBufferOverflow n) 0 → movingOf r io ≡ writeAllIn d s src
     unfolding writeAllIn
@@ -209,7 +214,7 @@ module _ (d : Device) (io : List ℕ) {b : Bool} (h : b ≡ not (isWhole (number
   unfolding controlCall
   control-else q p a e = rw e (goes-on d io h _ p (rw (ne-eqb _ _ a)))
 
-pub enters : (d : Device) {e : Device} → e ≡ entering0 d → _≡_ {A = Handled} (record { device = e; report = record { answer = Done; stalls = Unstalled; reply = Nothing } }) (enters0 d)
+pub enters : (d : Device) {e : Device} → e ≡ inState CommandTransfer (withStatus Absent (withLeft (record { 0 = 0 }) d)) → _≡_ {A = Handled} (record { device = countedAnew e; report = record { answer = Done; stalls = Unstalled; reply = Nothing } }) (enters0 d)
 enters d h = rw h
 
 module _ (q : ℕ) (d : Device) {r : Handled} where
@@ -278,4 +283,4 @@ module _ (lun : ℕ) (extended : Bool) (block : List ℕ) {c : Decoded} (h : ans
   unfolding steppingOfDecoding
   decodes k = rw (← h, k)
 
-pub ruleset ways = (judges, stands, block-fits, sound-then, takes-in-2, takes-in-4, takes-in-5, takes-in-7, figure-refused, figure-taken, status-broken, status-taken, status-elsewhere, data-broken, data-elsewhere, data-done, reads, writes, writes-all, overflows, enters, reset-broken, resets, control-broken, control-counts, control-else, serves-FF, serves-FE, serves-else, command-broken, command-hidden, command-shown, step-broken, step-offers, step-offers-not, step-plain, offers-not, offers-by, decodes-none, decodes)
+pub ruleset ways = (judges, stands, block-fits, sound-then, takes-in-2, takes-in-4, takes-in-5, takes-in-7, figure-refused, figure-taken, status-broken, status-taken, status-elsewhere, data-broken, data-elsewhere, data-done, reads, puts, writes, writes-all, overflows, enters, reset-broken, resets, control-broken, control-counts, control-else, serves-FF, serves-FE, serves-else, command-broken, command-hidden, command-shown, step-broken, step-offers, step-offers-not, step-plain, offers-not, offers-by, decodes-none, decodes)

@@ -8,7 +8,7 @@ use Rattle.buffer.specs.Buffer.{Buffer, fitting, written, lacksRoom, missing, w
 use Rattle.answers.specs.Answers.{Answering, answer, lacking, answerOf}
 use Rattle.wrapper.specs.declared.counters.Left.{Left}
 use Rattle.device.specs.declared.Device.{Device}
-use Rattle.device.specs.Device.{withMarks}
+use Rattle.device.specs.Device.{withMarks, puttingIn}
 use Rattle.device.specs.Broken.{unlessBroken}
 use Rattle.calls.specs.declared.Moved.{Moved}
 use Rattle.calls.specs.Checks.{isIn, bufferOf}
@@ -51,9 +51,13 @@ readDataCall d io dst = worksIn 7 d io dst (readFrom d (bufferOf d io) dst)
 unfoldable pub limited : Left → List ℕ → List ℕ
 limited left src = take (left .0) src
 
+-- `accepted` bytes were put in, which left the buffer `t`: they are the count of the call, and the record `d` counts them too.
+abbrev pub movingIn : ℕ → Device → Buffer → Moving
+movingIn accepted d t = movingTo (answer 0) accepted (puttingIn accepted d) t
+
 -- As many of the bytes `ys` as fit are written into the buffer `s`.
 unfoldable pub writeIn : Device → Buffer → List ℕ → Moving
-writeIn d s ys = movingTo (answer 0) (fitting (length ys) s) d (written ys s)
+writeIn d s ys = movingIn (fitting (length ys) s) d (written ys s)
 
 -- This is `write_data` from `src`, for any record `d` over any IO buffer `io`.
 abbrev pub writeDataCall : Device → List ℕ → List ℕ → Moving
@@ -62,7 +66,7 @@ writeDataCall d io src = worksIn 4 d io io (writeIn d (bufferOf d io) (limited (
 -- All of `src` is written into the buffer `s`. If it does not fit, nothing is written, and the answer is 1: "room, after moving, is below
 -- .. the source (`try_write_data_all`)"; "state and move reached stay". The answer says how much is missing for the source.
 unfoldable pub writeAllIn : Device → Buffer → List ℕ → Moving
-writeAllIn d s src = cond (lacksRoom (length src) s) (movingTo (lacking (missing (length src) s)) 0 d (writtenAll 0 src s)) (movingTo (answer 0) (length src) d (writtenAll 0 src s))
+writeAllIn d s src = cond (lacksRoom (length src) s) (movingTo (lacking (missing (length src) s)) 0 d (writtenAll 0 src s)) (movingIn (length src) d (writtenAll 0 src s))
 
 -- This is `try_write_data_all` from `src`, for any record `d` over any IO buffer `io`. "`try_write_data_all` in 4, not limited by `left`"
 abbrev pub writeDataAllCall : Device → List ℕ → List ℕ → Moving

@@ -16,6 +16,8 @@ use fields::least;
 use ring::State;
 use ring::state_number;
 use wrapper::counters::Left;
+use wrapper::counters::PutIn;
+use wrapper::counters::put_in_after;
 use wrapper::counters::residue_of;
 use wrapper::status::StatusByte;
 use wrapper::status::status_of;
@@ -26,7 +28,7 @@ ghost use Rattle.device.specs.Device.{numbersOf, withStatus};
 ghost use Rattle.device.specs.Broken.{isWhole};
 ghost use Rattle.calls.specs.Checks.{isIn};
 ghost use Rattle.calls.specs.Status.{statingOf, takesStatus, acceptedStatus, setStatusCall};
-ghost use Rattle.calls.specs.Inner.Returned.{refuses, unmoved, movesTo, keeps, enters0};
+ghost use Rattle.calls.specs.Inner.Returned.{refuses, unmoved, movesTo, putsIn, keeps, enters0};
 ghost use Rattle.calls.specs.Data.{movingOf, readDataCall, writeDataCall, writeDataAllCall};
 ghost use Rattle.calls.specs.Bus.{handlingOf, handlingOfRequest, resetCall, controlCall};
 
@@ -198,6 +200,16 @@ fn left_at(device: Device, marks: Marks, answer: Answer, count: usize) -> Moved
     }
 }
 
+// `count` bytes were put in: the record counts them and gets these `marks`.
+fn put_in(device: Device, marks: Marks, count: usize) -> Moved
+    ensures { λ r. ⌜ r ≡ putsIn device marks count ⌝ }
+{
+    let counted = device.putin;
+    let mut d = device;
+    d.putin = put_in_after(counted, count);
+    left_at(d, marks, Answer::Done, count)
+}
+
 // The first unread bytes go to `dst`, as many as it holds.
 pub fn read_data(device: Device, dst: &mut [u8], io: &[u8]) -> Moved
     ensures { λ r. ⌜ movingOf r (now (dst .exit)) ≡ readDataCall device (now (io .entry)) (now (dst .entry)) ⌝ }
@@ -227,7 +239,7 @@ pub fn write_data(device: Device, io: &mut [u8], src: &[u8]) -> Moved
         let n = least(left.0 as usize, src.len());
         let put = marked::write(io, marks, &src[..n]);
         let after = put.marks;
-        return left_at(device, after, Answer::Done, put.count);
+        return put_in(device, after, put.count);
     }
     refused(device, Answer::InvalidState)
 }
@@ -244,7 +256,7 @@ pub fn try_write_data_all(device: Device, io: &mut [u8], src: &[u8]) -> Moved
         let all = marked::write_all(io, marks, 0, src);
         let after = all.marks;
         if all.missing == 0 {
-            return left_at(device, after, Answer::Done, src.len());
+            return put_in(device, after, src.len());
         }
         // A refusal keeps the move.
         return left_at(device, after, Answer::IoBufferOverflow(all.missing), 0);
@@ -268,13 +280,14 @@ fn kept(device: Device, answer: Answer, reply: Reply) -> Handled
     }
 }
 
-// 0 is entered: status and left are cleared and both endpoints unstalled; the buffer and its marks stay.
+// 0 is entered: status and left are cleared, what is put in is counted anew, and both endpoints are unstalled; the buffer and its marks
+// stay.
 fn enter(device: Device) -> Handled
     ensures { λ r. ⌜ r ≡ enters0 device ⌝ }
 {
     let unread = device.marks;
     let wrapper = device.wrapper;
-    let d = rebuilt(
+    let mut d = rebuilt(
         device,
         State::CommandTransfer,
         unread,
@@ -282,6 +295,8 @@ fn enter(device: Device) -> Handled
         Status::Absent,
         Left(0),
     );
+    let none = PutIn(0);
+    d.putin = none;
     Handled {
         device: d,
         report: Controlled {

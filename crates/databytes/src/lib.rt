@@ -12,7 +12,7 @@ ghost use mathlib.Core.Bool.{false, cond};
 ghost use lib.ListN.{length};
 ghost use Rattle.answers.specs.Answers.{answerOf};
 ghost use Rattle.recordbytes.specs.Layout.{recordSize};
-ghost use Rattle.recordbytes.specs.Record.{storeMarks};
+ghost use Rattle.recordbytes.specs.Record.{storeMarks, storePutIn};
 ghost use Rattle.border.specs.Word.{word, upperHalf, answerWord};
 ghost use Rattle.databytes.specs.Data.{dataOutcome, readDataOn, writeDataOn, writeDataAllOn};
 ghost use Rattle.databytes.specs.Inner.Data.{StorableMove, is10};
@@ -41,6 +41,17 @@ fn moved(record: &mut [u8], m: Moved) -> u64
     )
 }
 
+// Stores what a write leaves: the count of what was put in, which every record has room for, and then the marks.
+fn written(record: &mut [u8], m: Moved) -> u64
+    requires { ⌜ (length (now «record») ≡ recordSize) × (is10 m ≡ false → StorableMove m) ⌝ }
+    ensures { λ x. ⌜ (x ≡ cond (is10 m) (answerWord 10) (word (answerOf (m .report .answer) .number) 0 0 0 (upperHalf (answerOf (m .report .answer)) (m .report .count)))) × (now («record» .exit) ≡ cond (is10 m) (storePutIn (m .device .putin) (now («record» .entry))) (storeMarks (m .device .marks) (storePutIn (m .device .putin) (now («record» .entry))))) ⌝ }
+{
+    let d = m.device;
+    let putin = d.putin;
+    store::put_in(record, putin);
+    moved(record, m)
+}
+
 // Reads unread bytes of `io` into `dst`.
 pub fn read_data(record: &mut [u8], io: &[u8], dst: &mut [u8]) -> u64
     ensures { λ x. ⌜ dataOutcome x (now («record» .exit)) (now (dst .exit)) ≡ readDataOn (now («record» .entry)) (now (io .entry)) (now (dst .entry)) ⌝ }
@@ -60,7 +71,7 @@ pub fn write_data(record: &mut [u8], io: &mut [u8], src: &[u8]) -> u64
         return 10;
     }
     let m = calls::write_data(device_at(record), io, src);
-    moved(record, m)
+    written(record, m)
 }
 
 // Writes all of `src` into `io`, or none of it.
@@ -71,5 +82,5 @@ pub fn try_write_data_all(record: &mut [u8], io: &mut [u8], src: &[u8]) -> u64
         return 10;
     }
     let m = calls::try_write_data_all(device_at(record), io, src);
-    moved(record, m)
+    written(record, m)
 }

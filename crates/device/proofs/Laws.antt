@@ -87,7 +87,7 @@ module _ (f : Fixed) where
       makes-none q e = rw (h, e, ne-eqb (creationChecks f) 0 (λ z. q (numbered ∙ z)))
 
 pub news : (f : Fixed) {w : Wrapper} → w ≡ noWrapper
-    → _≡_ {A = Device} (record { fixed = f; state = CommandTransfer; marks = at 0 0; wrapper = w; status = Absent; left = record { 0 = 0 } }) (newDevice f)
+    → _≡_ {A = Device} (record { fixed = f; state = CommandTransfer; marks = at 0 0; wrapper = w; status = Absent; left = record { 0 = 0 }; putin = record { 0 = 0 } }) (newDevice f)
 news f h = rw h
 
 -- ---- the rules

@@ -27,9 +27,9 @@ creationChecks f =
     (cond (ltb (f .size) 31 || ltb (f .size) (f .packetsize)) 5
     (cond (isPacketSize (f .packetsize)) (cond (ltb 65536 (f .size)) 9 0) 8))
 
--- A new device with the numbers `f` waits for a wrapper. Until the first one comes, tag, L, LUN and block are 0.
+-- A new device with the numbers `f` waits for a wrapper. Until the first one comes, tag, L, LUN and block are 0, and nothing is put in.
 abbrev pub newDevice : Fixed → Device
-newDevice f = record { fixed = f; state = CommandTransfer; marks = at 0 0; wrapper = noWrapper; status = Absent; left = record { 0 = 0 } }
+newDevice f = record { fixed = f; state = CommandTransfer; marks = at 0 0; wrapper = noWrapper; status = Absent; left = record { 0 = 0 }; putin = record { 0 = 0 } }
 
 -- "no device" is a record in which every number is 0.
 abbrev pub noDevice : Device

@@ -7,6 +7,7 @@ use answers::answer_number;
 use buffer::Marks;
 use ring::State;
 use wrapper::counters::Left;
+use wrapper::counters::PutIn;
 ghost use mathlib.Core.Path.{_≡_};
 ghost use lib.Dec.{eqb};
 ghost use Rattle.answers.specs.Answers.{answer, answerOf};
@@ -75,6 +76,7 @@ fn blank(fixed: Fixed) -> Device
         wrapper: wrapper,
         status: Status::Absent,
         left: Left(0),
+        putin: PutIn(0),
     }
 }
 

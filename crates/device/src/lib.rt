@@ -7,6 +7,7 @@ use buffer::sound;
 use ring::State;
 use wrapper::Wrapper;
 use wrapper::counters::Left;
+use wrapper::counters::PutIn;
 use wrapper::counters::Residue;
 use wrapper::status::CommandStatus;
 ghost use mathlib.Core.Path.{_≡_};
@@ -35,10 +36,11 @@ pub struct Device {
     pub wrapper: Wrapper,
     pub status: Status,
     pub left: Left,
+    pub putin: PutIn,
 }
 
-// These numbers of the record decide whether it is broken and what a poll does. They are numbers and small enums; the command block is
-// not among them.
+// These numbers of the record decide whether it is broken and what a poll does. They are numbers and small enums; the command block and
+// the count of what was put in are not among them.
 pub struct Numbers {
     pub fixed: Fixed,
     pub state: State,
@@ -82,8 +84,8 @@ pub fn numbers_of(d: Device) -> Numbers
     }
 }
 
-// The record `d` gets these parts, and what creation fixed stays. Every change of a record goes through here, except a change of the
-// marks alone.
+// The record `d` gets these parts. What creation fixed and the count of what was put in stay. Every change of a record goes through here,
+// except a change of the marks alone or of that count.
 pub fn rebuilt(
     d: Device,
     state: State,
@@ -95,6 +97,7 @@ pub fn rebuilt(
     ensures { λ r. ⌜ r ≡ rebuilt d state marks wrapper status left ⌝ }
 {
     let fixed = d.fixed;
+    let putin = d.putin;
     Device {
         fixed: fixed,
         state: state,
@@ -102,6 +105,7 @@ pub fn rebuilt(
         wrapper: wrapper,
         status: status,
         left: left,
+        putin: putin,
     }
 }
 

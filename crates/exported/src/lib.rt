@@ -1,4 +1,4 @@
-// The socket for firmware in C and for Rust programs. Calls take numbers and byte slices; the record is 52 bytes. In C a slice is two
+// The socket for firmware in C and for Rust programs. Calls take numbers and byte slices; the record is 56 bytes. In C a slice is two
 // arguments, its pointer and its length; c/include/souklavanh.h says what each call does. Every call takes any bytes of any length and
 // any numbers, and ends with an answer. Every call that is lent a record to work on tests it first; a refusal with 10 leaves everything
 // as it was.

@@ -22,7 +22,7 @@ use Rattle.wrapper.proofs.Cbw.{valid-is, no-data-only}
 use Rattle.device.specs.declared.Status.{Status}
 use Rattle.device.specs.Device.{numbersOf, isPresent}
 use Rattle.device.specs.Broken.{statusFits, Whole}
-use Rattle.bbb.specs.Poll.{Given, Polling, Point, bufferOfPoint, leaving, noDataRule, toHostRule, fromHostRule, starting, startRule, messageAt, past31, parseRule, refusing, pollRule, pollCall}
+use Rattle.bbb.specs.Poll.{Given, Polling, Point, bufferOfPoint, leaving, noDataRule, toHostRule, fromHostRule, starting, startRule, messageAt, parsing, parseRule, refusing, pollRule, pollCall}
 use Rattle.bbb.proofs.Keeping.{Follows, follows-received, follows-31, by-call, call-whole, call-sizes, packet-is}
 use Rattle.bbb.proofs.After.{P, firstFor, arrived, read-unread, parse-message, parse-rest, parse-valid}
 use Rattle.calls.specs.Status.{takesStatus}
@@ -84,7 +84,7 @@ module _ (m : List ℕ) (g : Given) where
   module _ (x : Point) (f : From m g x) (few : length m < 31) where
     module _ (room : lacksRoom (P x) (bufferOfPoint x) ≡ false) (serving : serves (firstFor g) ≡ true) (valid : Valid (m ++ g .one)) where
       abbrev y : Point
-      y = leaving (past31 (bufferOfPoint (arrived g x))) (arrived g x)
+      y = parsing (arrived g x)
 
       came : unreadBytes (bufferOfPoint (arrived g x)) ≡ m ++ g .one
       came = read-unread g x (f .sound) (f .small) room serving ∙ ap (λ (l : List ℕ). l ++ g .one) (f .unread)

@@ -16,7 +16,7 @@ use Rattle.packets.specs.Packets.{readAnswer, takesOne, received}
 use Rattle.packets.proofs.Laws.{answers-0}
 use Rattle.device.specs.Device.{numbersOf, isPresent}
 use Rattle.device.specs.Broken.{Whole}
-use Rattle.bbb.specs.Poll.{Given, Polling, Point, point, bufferOfPoint, reaching, leaving, counting, sendStatus, sendData, offeredBy, takeBy, takeData, enterStatus, statusAwaitRule, noDataRule, toHostEndingRule, fallsShort, toHostRule, fromHostEndingRule, fromHostRule, starting, startRule, messageAt, past31, parseRule, readBy, readOneBy, readCbwRule, entering, statusTransferRule, invalidRule, ruleIn, pollRule, pollCall}
+use Rattle.bbb.specs.Poll.{Given, Polling, Point, point, bufferOfPoint, reaching, leaving, counting, sendStatus, sendData, offeredBy, takeBy, takeData, enterStatus, statusAwaitRule, noDataRule, toHostEndingRule, fallsShort, toHostRule, fromHostEndingRule, fromHostRule, starting, startRule, messageAt, parsing, parseRule, readBy, readOneBy, readCbwRule, entering, statusTransferRule, invalidRule, ruleIn, pollRule, pollCall}
 use Rattle.bbb.proofs.Keeping.{by-direction, call-done}
 use Rattle.bbb.proofs.After.{P, firstFor, outFor, topped, stated, send-answer}
 use Rattle.readout.specs.History.{Socket, poll, shows, isServed, isPoll, served}
@@ -83,7 +83,7 @@ module _ (g : Given) (first : serves (endpointOf (g .turn .first)) ≡ true) (se
   unfolding parseRule startRule noDataRule isServed
   parse-does x =
       let w = wrapperOf (messageAt (bufferOfPoint x)) in
-      let y : Point = starting w (leaving (past31 (bufferOfPoint x)) x) in
+      let y : Point = starting w (parsing x) in
       of-picked Does (isValid (messageAt (bufferOfPoint x))) (λ _. by-direction Does (w .direction) (from-does y) (to-does y) (await-does y)) (λ _. refl)
 
   wrapper-does : (x : Point) → Does (readCbwRule g x)

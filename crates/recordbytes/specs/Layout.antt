@@ -1,4 +1,4 @@
--- "the record as bytes": there are 52, and each field has a fixed place. Numbers of four bytes are little-endian. Assumes nothing: these
+-- "the record as bytes": there are 56, and each field has a fixed place. Numbers of four bytes are little-endian. Assumes nothing: these
 -- are definitions.
 use Prim.Native.Nat.{ℕ}
 use mathlib.Core.List.{List, [], _∷_}
@@ -68,12 +68,16 @@ declared = littleEndian 32 4
 abbrev pub block : Field
 block = littleEndian 36 16
 
+-- This is how many bytes the firmware put in since the wrapper.
+abbrev pub putIn : Field
+putIn = littleEndian 52 4
+
 -- A record has this many bytes.
 abbrev pub recordSize : ℕ
-recordSize = 52
+recordSize = 56
 
 -- The table has all fields, in the order of their places.
 abbrev pub recordTable : List Field
 recordTable =
     packetSize ∷ maxLun ∷ state ∷ present ∷ size ∷ readMark ∷ writeMark ∷ left ∷ residue ∷ status
-    ∷ direction ∷ lun ∷ blockLength ∷ tag ∷ declared ∷ block ∷ []
+    ∷ direction ∷ lun ∷ blockLength ∷ tag ∷ declared ∷ block ∷ putIn ∷ []

@@ -13,6 +13,7 @@ use Rattle.ring.specs.declared.State.{State}
 use Rattle.ring.specs.States.{stateNumber, stateOfNumber}
 use Rattle.wrapper.specs.declared.Wrapper.{Wrapper}
 use Rattle.wrapper.specs.declared.counters.Left.{Left}
+use Rattle.wrapper.specs.declared.counters.PutIn.{PutIn}
 use Rattle.wrapper.specs.Status.{statusNumber, statusOfNumber}
 use Rattle.wrapper.specs.Wrapper.{directionNumber, directionOfNumber}
 use Rattle.device.specs.declared.Fixed.{Fixed}
@@ -23,7 +24,7 @@ use Rattle.recordbytes.specs.Layout as field
 
 -- ---- reading
 
--- The bytes are a record: there are 52, and none of them is "a number for no state, status or flag". The direction, a number of our own,
+-- The bytes are a record: there are 56, and none of them is "a number for no state, status or flag". The direction, a number of our own,
 -- must be known too. 01's other rules on broken records are tested on what the bytes hold.
 unfoldable pub isKnown : List ℕ → Bool
 isKnown r =
@@ -69,6 +70,7 @@ deviceAt r = record {
   wrapper = wrapperAt r;
   status = statusAt r;
   left = record { 0 = get field.left r };
+  putin = record { 0 = get field.putIn r };
 }
 
 -- ---- storing
@@ -89,6 +91,10 @@ storeMarks m r = store field.writeMark (m .write) (store field.readMark (m .read
 unfoldable pub storeLeft : Left → List ℕ → List ℕ
 storeLeft l r = store field.left (l .0) r
 
+-- The count of what was put in, `c`, is stored.
+unfoldable pub storePutIn : PutIn → List ℕ → List ℕ
+storePutIn c r = store field.putIn (c .0) r
+
 -- A status is stored. If there is none, only the flag is written: residue and status byte keep what they had.
 abbrev pub storeStatus : Status → List ℕ → List ℕ
 storeStatus Absent r = store field.present 0 r
@@ -107,7 +113,7 @@ storeWrapper w r =
 
 -- A call that leaves the device `d` leaves these bytes of the record. What creation fixed is never written again.
 unfoldable pub storeDevice : Device → List ℕ → List ℕ
-storeDevice d r = storeLeft (d .left) (storeMarks (d .marks) (storeState (d .state) (storeStatus (d .status) (storeWrapper (d .wrapper) r))))
+storeDevice d r = storeLeft (d .left) (storeMarks (d .marks) (storeState (d .state) (storeStatus (d .status) (storeWrapper (d .wrapper) (storePutIn (d .putin) r)))))
 
 -- These are the bytes of a new device: all are 0 except those of what creation fixed, `f`.
 unfoldable pub newRecord : Fixed → List ℕ

@@ -35,10 +35,12 @@ pub const DECLARED: usize = 32;
 
 pub const BLOCK: usize = 36;
 
-pub const SIZE: usize = 52;
+pub const PUT_IN: usize = 52;
+
+pub const SIZE: usize = 56;
 
 // Nothing calls this function. Its contract ties each constant to its row of the table, in the table's order.
-fn places() -> [usize; 17]
+fn places() -> [usize; 18]
     ensures { λ r. ⌜ r ≡ places recordTable ⌝ }
 {
     [
@@ -58,6 +60,7 @@ fn places() -> [usize; 17]
         TAG,
         DECLARED,
         BLOCK,
+        PUT_IN,
         SIZE,
     ]
 }

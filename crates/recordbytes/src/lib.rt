@@ -1,4 +1,4 @@
-// The device record as C and Rust keep it: 52 bytes, with each field at a fixed place. specs/Layout.antt has the table.
+// The device record as C and Rust keep it: 56 bytes, with each field at a fixed place. specs/Layout.antt has the table.
 //     in_record                where each field stands
 //     known                    whether bytes are a record at all
 //     numbers_at, device_at    what they hold
@@ -18,6 +18,7 @@ use fields::le32;
 use ring::state_of_number;
 use wrapper::Wrapper;
 use wrapper::counters::Left;
+use wrapper::counters::PutIn;
 use wrapper::counters::Residue;
 use wrapper::direction_of_number;
 use wrapper::status::status_of_number;
@@ -28,7 +29,7 @@ ghost use Rattle.device.specs.Device.{numbersOf};
 ghost use Rattle.recordbytes.specs.Layout as field;
 ghost use Rattle.recordbytes.specs.Record.{isKnown, statusBy, statusAt, marksAt, wrapperAt, fixedAt, deviceAt};
 
-// Bytes are a record if there are 52 and the numbers of state, flag, status and direction are among those that exist.
+// Bytes are a record if there are 56 and the numbers of state, flag, status and direction are among those that exist.
 pub fn known(r: &[u8]) -> bool
     ensures { λ x. ⌜ x ≡ isKnown (now (r .entry)) ⌝ }
 {
@@ -152,6 +153,7 @@ pub fn device_at(r: &[u8]) -> Device
         wrapper: wrapper,
         status: status,
         left: Left(le32(r, in_record::LEFT)),
+        putin: PutIn(le32(r, in_record::PUT_IN)),
     }
 }
 

@@ -10,6 +10,7 @@ use ring::State;
 use ring::state_number;
 use wrapper::Head;
 use wrapper::counters::Left;
+use wrapper::counters::PutIn;
 use wrapper::direction_number;
 use wrapper::status::status_number;
 ghost use mathlib.Core.Path.{_≡_};
@@ -18,7 +19,7 @@ ghost use lib.ListN.{length};
 ghost use Rattle.fields.specs.Field.{littleEndian, oneByte};
 ghost use Rattle.buffer.specs.Buffer.{at};
 ghost use Rattle.recordbytes.specs.Layout as field;
-ghost use Rattle.recordbytes.specs.Record.{marksAt, store, storeState, storeMarks, storeLeft, storeStatus, storeWrapper, newRecord};
+ghost use Rattle.recordbytes.specs.Record.{marksAt, store, storeState, storeMarks, storeLeft, storePutIn, storeStatus, storeWrapper, newRecord};
 ghost use Rattle.recordbytes.specs.Inner.Record.{wrapperOfHead};
 ghost use Rattle.recordbytes.specs.Inner.Storable.{StorableFixed};
 
@@ -97,6 +98,14 @@ pub fn left(r: &mut [u8], left: Left)
     ensures { λ _. ⌜ now (r .exit) ≡ storeLeft left (now (r .entry)) ⌝ }
 {
     store32(r, in_record::LEFT, left.0);
+}
+
+// The count of what was put in is stored.
+pub fn put_in(r: &mut [u8], putin: PutIn)
+    requires { ⌜ length (now r) ≡ field.recordSize ⌝ }
+    ensures { λ _. ⌜ now (r .exit) ≡ storePutIn putin (now (r .entry)) ⌝ }
+{
+    store32(r, in_record::PUT_IN, putin.0);
 }
 
 // If there is no status, only the flag is written.

@@ -4,6 +4,7 @@ use answers::carried;
 use bbb::Change;
 use bbb::Report;
 use bbb::Turn;
+use bbb::counted_anew;
 use bbb::fits;
 use bbb::go_on;
 use bbb::is_valid;
@@ -18,6 +19,7 @@ use device::whole;
 use recordbytes::known;
 use recordbytes::numbers_at;
 use recordbytes::store;
+use wrapper::counters::PutIn;
 use wrapper::head_of;
 use wrapper::in_wrapper;
 ghost use mathlib.Core.Path.{_≡_};
@@ -31,13 +33,24 @@ ghost use Rattle.device.specs.declared.Status.the-variants.{Absent};
 ghost use Rattle.device.specs.Device.{numbersOf};
 ghost use Rattle.device.specs.Broken.{Whole};
 ghost use Rattle.bbb.specs.Poll.{given, Fits};
-ghost use Rattle.bbb.specs.Inner.Phases.{isValidFound, InFront, justRead};
+ghost use Rattle.bbb.specs.Inner.Phases.{isValidFound, InFront, justRead, isCountedAnew};
 ghost use Rattle.wrapper.specs.Wrapper.{wrapperOf};
 ghost use Rattle.recordbytes.specs.Layout.{recordSize};
-ghost use Rattle.recordbytes.specs.Record.{isKnown, deviceAt, storeStatus, storeWrapper};
+ghost use Rattle.recordbytes.specs.Record.{isKnown, deviceAt, storePutIn, storeStatus, storeWrapper};
 ghost use Rattle.border.specs.Word as spec;
 ghost use Rattle.ringbytes.specs.Poll.{pollOutcome, pollOn};
 ghost use Rattle.ringbytes.specs.Inner.Poll.{StorableChange, storeChange};
+
+// Stores 0 as the count of what was put in, where it starts anew.
+fn count_anew(record: &mut [u8], o: Opened)
+    requires { ⌜ length (now «record») ≡ recordSize ⌝ }
+    ensures { λ _. ⌜ now («record» .exit) ≡ cond (isCountedAnew (o .found) (o .cleared)) (storePutIn (record { 0 = 0 }) (now («record» .entry))) (now («record» .entry)) ⌝ }
+{
+    let found = o.found;
+    if counted_anew(found, o.cleared) {
+        store::put_in(record, PutIn(0));
+    }
+}
 
 // Stores the wrapper that opening found, if it found a valid one. Its bytes stand in the IO buffer, right before the read mark.
 fn keep_wrapper(record: &mut [u8], o: Opened, io: &[u8])
@@ -108,6 +121,7 @@ fn go_round(
     ensures { λ x. ⌜ pollOutcome x (now («record» .exit)) (now (io .exit)) (now (packet .exit)) ≡ pollOn (now («record» .entry)) (now (io .entry)) (given (now (packet .entry)) (now (one .entry)) (now (two .entry)) turn) ⌝ }
 {
     let o = open(n, io, one, turn.first);
+    count_anew(record, o);
     keep_wrapper(record, o, io);
     let c = go_on(n, o, io, packet, one, two, turn);
     let report = c.report;

@@ -13,6 +13,8 @@ use Rattle.wrapper.proofs.counters.left_after.Kinds as left-after-kinds
 use Rattle.wrapper.proofs.counters.left_after.Reads as left-after
 use Rattle.wrapper.proofs.counters.residue_of.Kinds as residue-of-kinds
 use Rattle.wrapper.proofs.counters.residue_of.Reads as residue-of
+use Rattle.wrapper.proofs.counters.put_in_after.Kinds as put-in-after-kinds
+use Rattle.wrapper.proofs.counters.put_in_after.Reads as put-in-after
 use Rattle.wrapper.proofs.status.status_of.Kinds as status-of-kinds
 use Rattle.wrapper.proofs.status.status_of.Reads as status-of
 use Rattle.wrapper.proofs.status.status_number.Kinds as status-number-kinds
@@ -58,6 +60,9 @@ left-after-only κs a x y s t p q = (p ∙ sym q, refl)
 
 pub residue-of-only : Only 0 residue-of-kinds.ps residue-of-kinds.r residue-of.Post (λ κs s. tt {0})
 residue-of-only κs a x y s t p q = (p ∙ sym q, refl)
+
+pub put-in-after-only : Only 0 put-in-after-kinds.ps put-in-after-kinds.r put-in-after.Post (λ κs s. tt {0})
+put-in-after-only κs a x y s t p q = (p ∙ sym q, refl)
 
 pub status-of-only : Only 0 status-of-kinds.ps status-of-kinds.r status-of.Post (λ κs s. tt {0})
 status-of-only κs a x y s t p q = (sym (named-answer x) ∙ ap named (p ∙ sym q) ∙ named-answer y, refl)

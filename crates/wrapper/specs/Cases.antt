@@ -9,7 +9,7 @@ use Rattle.fields.specs.Case.{Case, case}
 use Rattle.wrapper.specs.declared.DataDirection.the-variants.{Out, In, NotExpected}
 use Rattle.wrapper.specs.declared.status.CommandStatus.the-variants.{Failed}
 use Rattle.wrapper.specs.declared.verdict.Verdict.the-variants.{Invalid, ValidOnly, Meaningful}
-use Rattle.wrapper.specs.Counters.{fallen, residueOf}
+use Rattle.wrapper.specs.Counters.{fallen, residueOf, risen}
 use Rattle.wrapper.specs.Status.{statusTable, statusSignature, statusNumber, statusBytes, statusCall}
 use Rattle.wrapper.specs.Wrapper.{wrapperTable, wrapperSignature, directionOfFlags, wrapperOf, noWrapper, parsed}
 use Rattle.wrapper.specs.Verdict.{verdictOf, cleared}
@@ -50,6 +50,11 @@ ours =
     ∷ case (statusCall 3) (record { answer = 12; status = 0 })
     -- More bytes move than are left.
     ∷ case (fallen (record { 0 = 5 }) 7 .0) 0
+    -- 02, request 7: what was put in rises to the largest number, and stops there.
+    ∷ case (risen (record { 0 = 5 }) 7 .0) 12
+    ∷ case (risen (record { 0 = 4294967293 }) 2 .0) 4294967295
+    ∷ case (risen (record { 0 = 4294967294 }) 2 .0) 4294967295
+    ∷ case (risen (record { 0 = 4294967295 }) 0 .0) 4294967295
     -- The verdict: the LUN is at max LUN, and then above it.
     ∷ case (verdictOf 3 (message 0 3 10)) Meaningful
     ∷ case (verdictOf 2 (message 0 3 10)) ValidOnly

@@ -28,13 +28,14 @@ use Rattle.wrapper.specs.declared.DataDirection.{DataDirection}
 use Rattle.wrapper.specs.declared.DataDirection.the-variants.{NotExpected}
 use Rattle.wrapper.specs.declared.Wrapper.{Wrapper}
 use Rattle.wrapper.specs.declared.counters.Left.{Left}
+use Rattle.wrapper.specs.declared.counters.PutIn.{PutIn}
 use Rattle.wrapper.specs.Counters.{fallen}
 use Rattle.wrapper.specs.Wrapper.{isValid, wrapperOf}
 use Rattle.packets.specs.Packets.{readAnswer, takesOne, brought, received, sendAnswer, sentCount, sentOff, sentInto, filledUp}
 use Rattle.device.specs.declared.Status.the-variants.{Absent}
 use Rattle.device.specs.declared.Device.{Device}
 use Rattle.device.specs.declared.Numbers.{Numbers}
-use Rattle.device.specs.Device.{isPresent, rebuilt}
+use Rattle.device.specs.Device.{isPresent, rebuilt, withPutIn}
 use Rattle.bbb.specs.declared.Turn.{Turn}
 use Rattle.bbb.specs.declared.Polled.{Polled}
 use Rattle.bbb.specs.declared.Change.{Change}
@@ -156,6 +157,18 @@ justRead io m = take 31 (drop (m .read - 31) io)
 -- gave. The wrapper is read before the act, because acting may overwrite its bytes.
 unfoldable pub wrapperThen : Opening → List ℕ → Wrapper → Wrapper
 wrapperThen o io w = cond (isValidFound (o .found)) (wrapperOf (justRead io (o .marks))) w
+
+-- ---- the count of what was put in that the record has then
+
+-- This says whether it starts at 0: if 31 bytes were parsed, whatever was `found` in them, or if 0 was entered (`cleared`).
+abbrev pub isCountedAnew : Found → Bool → Bool
+isCountedAnew found.Nothing cleared = cleared
+isCountedAnew found.Invalid cleared = true
+isCountedAnew found.Valid cleared = true
+
+-- The record then has this count, where it had `c` and opening gave `o`.
+abbrev pub putInThen : Opening → PutIn → PutIn
+putInThen o c = cond (isCountedAnew (o .found) (o .cleared)) (record { 0 = 0 }) c
 
 -- ---- act
 
@@ -302,6 +315,6 @@ endsWith row n o io g = endedBy (row .0) o (acted row n o io g) (actedPacket row
 unfoldable pub goneOn : Numbers → Opening → List ℕ → Given → Ended
 goneOn n o io g = endsWith (rowOf (settled (n .state) (n .left .0) (isPresent (n .status)) (eqb (n .marks .write - n .marks .read) 0) (o .found) (o .direction) (o .left .0))) n o io g
 
--- This is the record `d` with the changes `c` and the wrapper `w`.
-abbrev pub changedBy : Device → Change → Wrapper → Device
-changedBy d c w = rebuilt d (c .state) (c .marks) w (cond (c .cleared) Absent (d .status)) (c .left)
+-- This is the record `d` with the changes `c`, the wrapper `w` and the count `putin` of what was put in.
+abbrev pub changedBy : Device → Change → Wrapper → PutIn → Device
+changedBy d c w putin = withPutIn putin (rebuilt d (c .state) (c .marks) w (cond (c .cleared) Absent (d .status)) (c .left))

@@ -10,14 +10,14 @@ returns-2 c =
     let put = c .before .before .before .before .before .before in
     let test = put .before .before .before in
     data-done _ _ _ _ _ (test .before .before .before .broken .ensures) (test .before .before .if1 .left) (test .before .is-in .ensures) (test .if2 .taken)
-    (writes-all _ _ _ (put .write-all .ensures .0) (put .write-all .ensures .1) (c .before .if3 .taken) (c .left-at .ensures))
+    (writes-all _ _ _ (put .write-all .ensures .0) (put .write-all .ensures .1) (c .before .if3 .taken) (c .put-in .ensures))
 
 returns-3 : tie.Need-returns-3
 returns-3 c =
     let put = c .before .before .before .before .before .before in
     let test = put .before .before .before in
     data-done _ _ _ _ _ (test .before .before .before .broken .ensures) (test .before .before .if1 .left) (test .before .is-in .ensures) (test .if2 .taken)
-    (overflows _ _ _ (put .write-all .ensures .0) (put .write-all .ensures .1) (c .before .if3 .left) (c .left-at2 .ensures))
+    (overflows _ _ _ (put .write-all .ensures .0) (put .write-all .ensures .1) (c .before .if3 .left) (c .left-at .ensures))
 
 pub try-write-data-all-spec : {M : Type 1} → statement M
 try-write-data-all-spec =

@@ -15,7 +15,7 @@ returns-2 c =
     let least = put .before .before .before in
     let test = least .before .before .before .before in
     data-done _ _ _ _ _ (test .before .before .before .broken .ensures) (test .before .before .if1 .left) (test .before .is-in .ensures) (test .if2 .taken)
-    (writes _ _ _ (least .least .ensures) (put .write .ensures .0) (put .write .ensures .1) (c .left-at .ensures))
+    (writes _ _ _ (least .least .ensures) (put .write .ensures .0) (put .write .ensures .1) (c .put-in .ensures))
 
 pub write-data-spec : {M : Type 1} → statement M
 write-data-spec =

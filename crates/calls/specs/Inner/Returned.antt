@@ -8,7 +8,7 @@ use Rattle.answers.specs.declared.Answer.{Answer}
 use Rattle.answers.specs.declared.Answer.the-variants.{Done}
 use Rattle.answers.specs.declared.Stalls.the-variants.{Kept, Unstalled}
 use Rattle.device.specs.declared.Device.{Device}
-use Rattle.device.specs.Device.{entering0, withMarks}
+use Rattle.device.specs.Device.{entering0, withMarks, puttingIn}
 use Rattle.calls.specs.declared.Stated.{Stated}
 use Rattle.calls.specs.declared.Moved.{Moved}
 use Rattle.calls.specs.declared.Reply.{Reply}
@@ -29,6 +29,10 @@ unmoved d answer = record { device = d; report = record { answer = answer; count
 -- A read or write returns this if it left the marks `m` and moved `count` bytes.
 abbrev pub movesTo : Device → Marks → Answer → ℕ → Moved
 movesTo d m answer count = record { device = withMarks m d; report = record { answer = answer; count = count } }
+
+-- A write returns this if it left the marks `m` and put `count` bytes in.
+abbrev pub putsIn : Device → Marks → ℕ → Moved
+putsIn d m count = movesTo (puttingIn count d) m Done count
 
 -- A reset or a control request returns this if it changes nothing; `reply` goes back to the host.
 abbrev pub keeps : Device → Answer → Reply → Handled

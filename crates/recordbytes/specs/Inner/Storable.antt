@@ -16,6 +16,7 @@ pub record Storable (d : Device) : Type 0 where
   pub read : d .marks .read < 2 ^ 32
   pub write : d .marks .write < 2 ^ 32
   pub left : d .left .0 < 2 ^ 32
+  pub putin : d .putin .0 < 2 ^ 32
   pub residue : (s : CommandStatus) (x : Residue) → d .status ≡ Present s x → x .0 < 2 ^ 32
   pub tag : d .wrapper .tag < 2 ^ 32
   pub declared : d .wrapper .length < 2 ^ 32
@@ -23,7 +24,7 @@ pub record Storable (d : Device) : Type 0 where
   pub blocklength : d .wrapper .blocklength < 256
   pub block : length (d .wrapper .block) ≡ 16
 
--- The bytes `r` are 52, and hold in their fields what creation fixed for the device `d`: only creation writes those fields.
+-- The bytes `r` are 56, and hold in their fields what creation fixed for the device `d`: only creation writes those fields.
 pub record RecordOf (d : Device) (r : List ℕ) : Type 0 where
   pub long : length r ≡ field.recordSize
   pub fixed : fixedAt r ≡ d .fixed
