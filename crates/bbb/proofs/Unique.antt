@@ -15,6 +15,8 @@ use Rattle.bbb.proofs.fits.Kinds as fits-kinds
 use Rattle.bbb.proofs.fits.Reads as fits
 use Rattle.bbb.proofs.is_valid.Kinds as is-valid-kinds
 use Rattle.bbb.proofs.is_valid.Reads as is-valid
+use Rattle.bbb.proofs.counted_anew.Kinds as counted-anew-kinds
+use Rattle.bbb.proofs.counted_anew.Reads as counted-anew
 use Rattle.bbb.proofs.open.open.Kinds as open-kinds
 use Rattle.bbb.proofs.open.open.Reads as open-call
 use Rattle.bbb.proofs.go_on.Kinds as go-on-kinds
@@ -59,6 +61,9 @@ fits-only κs a x y s t p q = (p ∙ sym q, refl)
 
 pub is-valid-only : Only 0 is-valid-kinds.ps is-valid-kinds.r is-valid.Post (λ κs s. tt {0})
 is-valid-only κs a x y s t p q = (p ∙ sym q, refl)
+
+pub counted-anew-only : Only 0 counted-anew-kinds.ps counted-anew-kinds.r counted-anew.Post (λ κs s. tt {0})
+counted-anew-only κs a x y s t p q = (p ∙ sym q, refl)
 
 pub open-only : Only 2 open-kinds.ps open-kinds.r open-call.Post (λ κs s. now (s .1 .0))
 open-only κs a x y s t p q = (open-once x y (p .leaves) (q .leaves), p .bytes ∙ sym (q .bytes))

@@ -5,6 +5,7 @@
 --     ..-unread     the unread bytes after it
 --     ..-count      how many bytes a read or a write moves
 --     ..-counts     the record counts what a write moved
+--     ..-storable   that count is the one before, or has 32 bits
 --     ..-within     the count is not above the write mark
 --     ..-tells      if the answer is 10, nothing has moved; if it is any other, the record is whole
 --     ..-whole      a whole record stays whole, over the IO buffer that the call leaves
@@ -12,7 +13,7 @@
 use mathlib.Core.Path.{_≡_, refl, sym, ap, _∙_, subst}
 use mathlib.Core.Bool.{Bool, true, false, not, cond}
 use mathlib.Core.List.{List, [], _∷_, _++_}
-use Prim.Native.Nat.{ℕ, _≤_, min, max, zero-le}
+use Prim.Native.Nat.{ℕ, _+_, _^_, _≤_, _<_, min, max, zero-le}
 use native.Mathlib.Nat.{min-le-left, min-le-right, max-eq-right}
 use native.Mathlib.Omega.{arith}
 use lib.Dec.{eqb, leb}
@@ -35,6 +36,7 @@ use Rattle.ring.specs.declared.State.{State}
 use Rattle.ring.specs.declared.State.the-variants.{CommandTransfer, CommandTransferInvalid, DataTransferNoData, StatusTransfer, DataTransferToHost, DataTransferToHostStatusAwait, DataTransferToHostEnding, DataTransferFromHost, DataTransferFromHostEnding}
 use Rattle.ring.specs.States.{stateNumber}
 use Rattle.device.specs.declared.Device.{Device}
+use Rattle.wrapper.specs.declared.counters.PutIn.{PutIn}
 use Rattle.wrapper.specs.Counters.{risen}
 use Rattle.device.specs.Device.{numbersOf, isPresent, withMarks, withStatus, withPutIn, puttingIn, entering0}
 use Rattle.device.specs.Broken.{statusFits, Whole}
@@ -197,6 +199,24 @@ module _ (d : Device) (io src : List ℕ) (stored : d .putin .0 ≤ 4294967295) 
       let t : Buffer = writtenAll 0 src (bufferOf d io) in
       by-data (Counts d) 4 d io io _ (λ a. refused-counts a io (d .marks))
       (of-picked (Counts d) (lacksRoom (length src) (bufferOf d io)) (λ _. refused-counts (lacking (missing (length src) (bufferOf d io))) (t .bytes) (t .marks)) (λ _. refl))
+
+-- The count of what was put in is the one before, or has 32 bits.
+Storable : Device → Moving → Type 0
+Storable d o = (d .putin .0 ≡ o .device .putin .0 → ⊥) → o .device .putin .0 < 2 ^ 32
+
+risen-small : (c : PutIn) (n : ℕ) → risen c n .0 < 2 ^ 32
+unfolding risen
+risen-small c n = omega (arith, min-le-right (c .0 + n) 4294967295)
+
+pub write-storable : (d : Device) (io src : List ℕ) → (d .putin .0 ≡ writeDataCall d io src .device .putin .0 → ⊥) → writeDataCall d io src .device .putin .0 < 2 ^ 32
+unfolding writeIn Storable
+write-storable d io src = by-data (Storable d) 4 d io io _ (λ _ other. absurd (other refl)) (λ _. risen-small (d .putin) _)
+
+pub write-all-storable : (d : Device) (io src : List ℕ) → (d .putin .0 ≡ writeDataAllCall d io src .device .putin .0 → ⊥) → writeDataAllCall d io src .device .putin .0 < 2 ^ 32
+unfolding writeAllIn Storable
+write-all-storable d io src =
+    by-data (Storable d) 4 d io io _ (λ _ other. absurd (other refl))
+    (of-picked (Storable d) (lacksRoom (length src) (bufferOf d io)) (λ _ other. absurd (other refl)) (λ _ _. risen-small (d .putin) (length src)))
 
 -- The count is never above the write mark that the call leaves.
 pub read-within : (d : Device) (io dst : List ℕ) → Whole (numbersOf d) (length io) → readDataCall d io dst .count ≤ readDataCall d io dst .device .marks .write

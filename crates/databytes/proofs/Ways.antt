@@ -1,5 +1,5 @@
--- What each way through a call owes (`ways`): the call by value was made on the device that the bytes hold, and the marks, the only part
--- that it changes, were stored. Assumes nothing.
+-- What each way through a call owes (`ways`): the call by value was made on the device that the bytes hold, and what it changes was stored:
+-- the marks, and with a write the count of what was put in before them. Assumes nothing.
 use mathlib.Core.Path.{_≡_, refl, sym, ap, _∙_, subst}
 use mathlib.Core.Bool.{Bool, true, false, not, cond}
 use mathlib.Core.List.{List}
@@ -11,15 +11,15 @@ use borrow.Author.Tests.{eq-eqb, ne-eqb}
 use borrow.Table.Steps.{cases}
 use Rattle.answers.specs.Answers.{answer, answerOf}
 use Rattle.device.specs.declared.Device.{Device}
-use Rattle.device.specs.Device.{numbersOf, withMarks}
+use Rattle.device.specs.Device.{numbersOf, withMarks, withPutIn}
 use Rattle.device.specs.Broken.{Whole}
 use Rattle.device.proofs.Wholly.{size-most}
 use Rattle.calls.specs.declared.Moved.{Moved}
 use Rattle.calls.specs.Data.{Moving, moving, movingOf, readDataCall, writeDataCall, writeDataAllCall}
-use Rattle.calls.proofs.After.{Tells10, read-tells, read-keeps, read-whole, read-within, write-tells, write-keeps, write-whole, write-within, write-all-tells, write-all-keeps, write-all-whole, write-all-within}
-use Rattle.recordbytes.specs.Record.{isKnown, deviceAt, storeMarks, storeDevice}
-use Rattle.recordbytes.proofs.Stored.{Known, is-known}
-use Rattle.recordbytes.proofs.Parts.{device-kept, marks-alone}
+use Rattle.calls.proofs.After.{Tells10, read-tells, read-keeps, read-whole, read-within, write-tells, write-keeps, write-storable, write-whole, write-within, write-all-tells, write-all-keeps, write-all-storable, write-all-whole, write-all-within}
+use Rattle.recordbytes.specs.Record.{isKnown, deviceAt, storeMarks, storePutIn, storeDevice}
+use Rattle.recordbytes.proofs.Stored.{Known, is-known, put-in-kept}
+use Rattle.recordbytes.proofs.Parts.{device-kept, marks-alone, counted-marks}
 use Rattle.border.specs.Word.{word, upperHalf, answerWord}
 use Rattle.border.specs.Record.{onDevice}
 use Rattle.border.proofs.Lending.{known-then, long-then, unknown, made}
@@ -65,32 +65,56 @@ module _ (m : Moved) {n : ℕ} (en : n ≡ answerOf (m .report .answer) .number)
   pub marks-stored : (r : List ℕ) → (n ≡ 10 → ⊥) → {l : List ℕ} → l ≡ storeMarks (m .device .marks) r → l ≡ cond (is10 m) r (storeMarks (m .device .marks) r)
   marks-stored r q el = rw (done-is q) el
 
+-- A write stores the count of what was put in first.
+pub counted-then : (m : Moved) (r : List ℕ) {q l : List ℕ} → q ≡ storePutIn (m .device .putin) r → l ≡ cond (is10 m) q (storeMarks (m .device .marks) q)
+    → l ≡ cond (is10 m) (storePutIn (m .device .putin) r) (storeMarks (m .device .marks) (storePutIn (m .device .putin) r))
+counted-then m r e h = rw e at h
+
 -- ---- a call
 
 -- What the call by value returned is 10 just where its definition says 10.
 same-10 : (m : Moved) (b : List ℕ) {o : Moving} → movingOf m b ≡ o → eqb (o .answer .number) 10 ≡ is10 m
 same-10 m b to = sym (ap (λ (x : Moving). eqb (x .answer .number) 10) to)
 
--- A record that the call refused stays; of any other only the marks changed.
-module _ (r bytes io : List ℕ) (known : Known r) (o : Moving) (tells : Tells10 (deviceAt r) io bytes o) (keeps : withMarks (deviceAt r .marks) (o .device) ≡ deviceAt r)
-    (m : Moved) (b : List ℕ) (to : movingOf m b ≡ o) {x : ℕ} {l : List ℕ}
-    (ex : x ≡ cond (is10 m) (answerWord 10) (word (answerOf (m .report .answer) .number) 0 0 0 (upperHalf (answerOf (m .report .answer)) (m .report .count)))) (el : l ≡ cond (is10 m) r (storeMarks (m .device .marks) r)) where
+-- The bytes are `q` when the marks are stored. Where the call refused a broken record these are the bytes `r` as they were. Otherwise the
+-- marks are all that is then missing for the device that the call left.
+module _ (r bytes io : List ℕ) (known : Known r) (o : Moving) (tells : Tells10 (deviceAt r) io bytes o)
+    (m : Moved) (b : List ℕ) (to : movingOf m b ≡ o) (q : List ℕ) (stays : m .device ≡ deviceAt r → q ≡ r) (kept : storeMarks (m .device .marks) q ≡ storeDevice (m .device) r) {x : ℕ} {l : List ℕ}
+    (ex : x ≡ cond (is10 m) (answerWord 10) (word (answerOf (m .report .answer) .number) 0 0 0 (upperHalf (answerOf (m .report .answer)) (m .report .count)))) (el : l ≡ cond (is10 m) q (storeMarks (m .device .marks) q)) where
   refused-comes : is10 m ≡ true → dataOutcome x l b ≡ dataOutcomeOf r o
   unfolding upperHalf
   refused-comes ten =
       let is : o ≡ moving (answer 10) 0 (deviceAt r) bytes = tells .broken (same-10 m b to ∙ ten) in
-      let stays : b ≡ bytes = ap (λ (y : Moving). y .bytes) (to ∙ is) in
-      rw (ex, el, ten, stays) (ap (λ (z : List ℕ). dataOutcome (answerWord 10) z bytes) (sym (device-kept r known)) ∙ ap (dataOutcomeOf r) (sym is))
+      let same : b ≡ bytes = ap (λ (y : Moving). y .bytes) (to ∙ is) in
+      let before : q ≡ r = stays (ap (λ (y : Moving). y .device) (to ∙ is)) in
+      rw (ex, el, ten, same, before) (ap (λ (z : List ℕ). dataOutcome (answerWord 10) z bytes) (sym (device-kept r known)) ∙ ap (dataOutcomeOf r) (sym is))
 
   done-comes : is10 m ≡ false → dataOutcome x l b ≡ dataOutcomeOf r o
-  done-comes other =
-      let alone : m .device ≡ withMarks (m .device .marks) (deviceAt r) =
-      ap (λ (y : Moving). withMarks (m .device .marks) (withMarks (deviceAt r .marks) (y .device))) to ∙ ap (withMarks (m .device .marks)) keeps in
-      let kept : storeMarks (m .device .marks) r ≡ storeDevice (m .device) r = sym (marks-alone r known (m .device .marks)) ∙ ap (λ (d : Device). storeDevice d r) (sym alone) in
-      rw (ex, el, other, kept) (ap (dataOutcomeOf r) to)
+  done-comes other = rw (ex, el, other, kept) (ap (dataOutcomeOf r) to)
 
   comes : dataOutcome x l b ≡ dataOutcomeOf r o
   comes = cases (is10 m) refused-comes done-comes
+
+-- A read changes only the marks.
+module _ (r : List ℕ) (known : Known r) (o : Moving) (m : Moved) (b : List ℕ) (to : movingOf m b ≡ o) where
+  marks-kept : withMarks (deviceAt r .marks) (o .device) ≡ deviceAt r → storeMarks (m .device .marks) r ≡ storeDevice (m .device) r
+  marks-kept keeps =
+      let alone : m .device ≡ withMarks (m .device .marks) (deviceAt r) =
+      ap (λ (y : Moving). withMarks (m .device .marks) (withMarks (deviceAt r .marks) (y .device))) to ∙ ap (withMarks (m .device .marks)) keeps in
+      sym (marks-alone r known (m .device .marks)) ∙ ap (λ (d : Device). storeDevice d r) (sym alone)
+
+  -- A write also changes the count.
+  counted-stays : m .device ≡ deviceAt r → storePutIn (m .device .putin) r ≡ r
+  unfolding deviceAt
+  counted-stays e = rw e (put-in-kept r)
+
+  counted-kept : withPutIn (deviceAt r .putin) (withMarks (deviceAt r .marks) (o .device)) ≡ deviceAt r → ((deviceAt r .putin .0 ≡ o .device .putin .0 → ⊥) → o .device .putin .0 < 2 ^ 32)
+      → storeMarks (m .device .marks) (storePutIn (m .device .putin) r) ≡ storeDevice (m .device) r
+  unfolding deviceAt
+  counted-kept keeps small =
+      let with : Device → Device = λ (d : Device). withMarks (m .device .marks) (withPutIn (m .device .putin) d) in
+      let alone : m .device ≡ with (deviceAt r) = ap (λ (y : Moving). with (withPutIn (deviceAt r .putin) (withMarks (deviceAt r .marks) (y .device)))) to ∙ ap with keeps in
+      sym (counted-marks r known (m .device .putin) (rw (← to) at small) (m .device .marks)) ∙ ap (λ (d : Device). storeDevice d r) (sym alone)
 
 module _ (r io dst : List ℕ) {k : Bool} (ek : k ≡ isKnown r) where
   pub read-unknown : not k ≡ true → dataOutcome 10 r dst ≡ readDataOn r io dst
@@ -105,7 +129,7 @@ module _ (r io dst : List ℕ) {k : Bool} (ek : k ≡ isKnown r) where
     unfolding readDataOn
     read-made e =
         let test = known-then r ek q in
-        comes r dst io (is-known r test) (readDataCall (deviceAt r) io dst) (read-tells (deviceAt r) io dst) (read-keeps (deviceAt r) io dst) m dst′ read-is (e .0) (e .1)
+        comes r dst io (is-known r test) (readDataCall (deviceAt r) io dst) (read-tells (deviceAt r) io dst) m dst′ read-is r (λ _. refl) (marks-kept r (is-known r test) _ m dst′ read-is (read-keeps (deviceAt r) io dst)) (e .0) (e .1)
         ∙ made r (dataOutcome (answerWord 10) r dst) (λ (d : Device). dataOutcomeOf r (readDataCall d io dst)) test
 
     pub read-fits : is10 m ≡ false → StorableMove m
@@ -124,11 +148,11 @@ module _ (r io src : List ℕ) {k : Bool} (ek : k ≡ isKnown r) where
     write-is : movingOf m io′ ≡ writeDataCall (deviceAt r) io src
     write-is = rw ed at em
 
-    pub write-made : {x : ℕ} {l : List ℕ} → (x ≡ cond (is10 m) (answerWord 10) (word (answerOf (m .report .answer) .number) 0 0 0 (upperHalf (answerOf (m .report .answer)) (m .report .count)))) × (l ≡ cond (is10 m) r (storeMarks (m .device .marks) r)) → dataOutcome x l io′ ≡ writeDataOn r io src
+    pub write-made : {x : ℕ} {l : List ℕ} → (x ≡ cond (is10 m) (answerWord 10) (word (answerOf (m .report .answer) .number) 0 0 0 (upperHalf (answerOf (m .report .answer)) (m .report .count)))) × (l ≡ cond (is10 m) (storePutIn (m .device .putin) r) (storeMarks (m .device .marks) (storePutIn (m .device .putin) r))) → dataOutcome x l io′ ≡ writeDataOn r io src
     unfolding writeDataOn
     write-made e =
         let test = known-then r ek q in
-        comes r io io (is-known r test) (writeDataCall (deviceAt r) io src) (write-tells (deviceAt r) io src) (write-keeps (deviceAt r) io src) m io′ write-is (e .0) (e .1)
+        comes r io io (is-known r test) (writeDataCall (deviceAt r) io src) (write-tells (deviceAt r) io src) m io′ write-is (storePutIn (m .device .putin) r) (counted-stays r (is-known r test) _ m io′ write-is) (counted-kept r (is-known r test) _ m io′ write-is (write-keeps (deviceAt r) io src) (write-storable (deviceAt r) io src)) (e .0) (e .1)
         ∙ made r (dataOutcome (answerWord 10) r io) (λ (d : Device). dataOutcomeOf r (writeDataCall d io src)) test
 
     pub write-fits : is10 m ≡ false → StorableMove m
@@ -147,11 +171,11 @@ module _ (r io src : List ℕ) {k : Bool} (ek : k ≡ isKnown r) where
     write-all-is : movingOf m io′ ≡ writeDataAllCall (deviceAt r) io src
     write-all-is = rw ed at em
 
-    pub write-all-made : {x : ℕ} {l : List ℕ} → (x ≡ cond (is10 m) (answerWord 10) (word (answerOf (m .report .answer) .number) 0 0 0 (upperHalf (answerOf (m .report .answer)) (m .report .count)))) × (l ≡ cond (is10 m) r (storeMarks (m .device .marks) r)) → dataOutcome x l io′ ≡ writeDataAllOn r io src
+    pub write-all-made : {x : ℕ} {l : List ℕ} → (x ≡ cond (is10 m) (answerWord 10) (word (answerOf (m .report .answer) .number) 0 0 0 (upperHalf (answerOf (m .report .answer)) (m .report .count)))) × (l ≡ cond (is10 m) (storePutIn (m .device .putin) r) (storeMarks (m .device .marks) (storePutIn (m .device .putin) r))) → dataOutcome x l io′ ≡ writeDataAllOn r io src
     unfolding writeDataAllOn
     write-all-made e =
         let test = known-then r ek q in
-        comes r io io (is-known r test) (writeDataAllCall (deviceAt r) io src) (write-all-tells (deviceAt r) io src) (write-all-keeps (deviceAt r) io src) m io′ write-all-is (e .0) (e .1)
+        comes r io io (is-known r test) (writeDataAllCall (deviceAt r) io src) (write-all-tells (deviceAt r) io src) m io′ write-all-is (storePutIn (m .device .putin) r) (counted-stays r (is-known r test) _ m io′ write-all-is) (counted-kept r (is-known r test) _ m io′ write-all-is (write-all-keeps (deviceAt r) io src) (write-all-storable (deviceAt r) io src)) (e .0) (e .1)
         ∙ made r (dataOutcome (answerWord 10) r io) (λ (d : Device). dataOutcomeOf r (writeDataAllCall d io src)) test
 
     pub write-all-fits : is10 m ≡ false → StorableMove m

@@ -29,11 +29,11 @@ use Rattle.recordbytes.specs.Record.{isKnown, statusBy, statusAt, marksA
 -- ---- whether bytes are a record
 
 module _ (r : List ℕ) where
-  pub not-52 : (length r ≡ 52 → ⊥) → false ≡ isKnown r
+  pub not-long : (length r ≡ field.recordSize → ⊥) → false ≡ isKnown r
   unfolding isKnown
-  not-52 n = rw (ne-eqb _ _ n)
+  not-long n = rw (ne-eqb _ _ n)
 
-  module _ (h : length r ≡ 52) {s : ℕ} (es : s ≡ get field.state r) where
+  module _ (h : length r ≡ field.recordSize) {s : ℕ} (es : s ≡ get field.state r) where
     pub no-state : 8 < s → false ≡ isKnown r
     unfolding isKnown
     no-state n = rw (eq-eqb _ _ h, ← es, lt-leb _ _ n)
@@ -74,7 +74,7 @@ module _ (r : List ℕ) where
   unfolding marksAt
   reads-marks ex ey = rw (ex, ey)
 
-  pub reads-block : length r ≡ 52 → listed r 36 16 ≡ bytesAt field.block r
+  pub reads-block : length r ≡ field.recordSize → listed r 36 16 ≡ bytesAt field.block r
   unfolding bytesAt
   reads-block h = sym (part-listed r 36 16 (omega arith))
 
@@ -88,12 +88,12 @@ module _ (r : List ℕ) where
   unfolding fixedAt
   reads-fixed ep em es = rw (ep, em, es)
 
-  pub reads-device : {n l : ℕ} {f : Fixed} {s : State} {marks : Marks} {w : Wrapper} {status : Status} → f ≡ fixedAt r → n ≡ get field.state r → s ≡ stateOfNumber n → marks ≡ marksAt r → w ≡ wrapperAt r → status ≡ statusAt r
-      → l ≡ get field.left r → _≡_ {A = Device} (record { fixed = f; state = s; marks = marks; wrapper = w; status = status; left = record { 0 = l } }) (deviceAt r)
+  pub reads-device : {n l c : ℕ} {f : Fixed} {s : State} {marks : Marks} {w : Wrapper} {status : Status} → f ≡ fixedAt r → n ≡ get field.state r → s ≡ stateOfNumber n → marks ≡ marksAt r → w ≡ wrapperAt r → status ≡ statusAt r
+      → l ≡ get field.left r → c ≡ get field.putIn r → _≡_ {A = Device} (record { fixed = f; state = s; marks = marks; wrapper = w; status = status; left = record { 0 = l }; putin = record { 0 = c } }) (deviceAt r)
   unfolding deviceAt
-  reads-device ef en es em ew et el = rw (ef, es, en, em, ew, et, el)
+  reads-device ef en es em ew et el ec = rw (ef, es, en, em, ew, et, el, ec)
 
   pub reads-numbers : {d : Device} {x : Numbers} → d ≡ deviceAt r → x ≡ numbersOf d → x ≡ numbersOf (deviceAt r)
   reads-numbers ed ex = rw (← ed, ex)
 
-pub ruleset ways = (not-52, no-state, no-flag, no-status, by-direction, no-status-there, status-there, reads-status, reads-marks, reads-block, reads-wrapper, reads-fixed, reads-device, reads-numbers)
+pub ruleset ways = (not-long, no-state, no-flag, no-status, by-direction, no-status-there, status-there, reads-status, reads-marks, reads-block, reads-wrapper, reads-fixed, reads-device, reads-numbers)

@@ -31,12 +31,12 @@ use Rattle.device.specs.declared.Status.{Status}
 use Rattle.device.specs.declared.Status.the-variants.{Absent, Present}
 use Rattle.device.specs.Create.{newDevice}
 use Rattle.recordbytes.specs.Layout as field
-use Rattle.recordbytes.specs.Record.{isKnown, statusBy, statusAt, marksAt, wrapperAt, fixedAt, deviceAt, storeState, storeMarks, storeLeft, storeStatus, storeWrapper, storeDevice, newRecord}
+use Rattle.recordbytes.specs.Record.{isKnown, statusBy, statusAt, marksAt, wrapperAt, fixedAt, deviceAt, storeState, storeMarks, storeLeft, storePutIn, storeStatus, storeWrapper, storeDevice, newRecord}
 use Rattle.recordbytes.specs.Inner.Storable.{Storable, RecordOf, StorableFixed}
 use Rattle.recordbytes.proofs.Storing.{isApart}
 use Rattle.recordbytes.proofs.Reading.{reads-marks, reads-wrapper, reads-device, reads-status}
 use Rattle.recordbytes.proofs.Stored.{Write, write, storeAll, areWithin, areApart, length-all, bytes-elsewhere, get-elsewhere, get-there, known-is}
-use Rattle.recordbytes.proofs.Parts.{statusWrites, wrapperWrites, before-block, behind-wrapper, length-wrapper}
+use Rattle.recordbytes.proofs.Parts.{statusWrites, wrapperWrites, beside-block, beside-wrapper, length-wrapper}
 
 -- ---- a number is a byte
 
@@ -48,21 +48,21 @@ a-byte n k h b = omega (arith, leb-true n k h)
 module _ (r : List ℕ) (long : length r ≡ field.recordSize) (w : Wrapper) (sixteen : length (w .block) ≡ 16) where
   -- This is one of the wrapper's numbers; the block is stored after it.
   in-wrapper : (before : List Write) (g : Field) (x : ℕ) (after : List Write) → before ++ (write g x ∷ after) ≡ wrapperWrites w
-      → g .start + g .width ≤ 36 → areApart g after ≡ true → x < 256 ^ g .width → get g (storeWrapper w r) ≡ x
+      → isApart field.block g ≡ true → areApart g after ≡ true → x < 256 ^ g .width → get g (storeWrapper w r) ≡ x
   in-wrapper before g x after e h a b =
-      before-block r long w sixteen g h ∙ ap (λ (ws : List Write). get g (storeAll ws r)) (sym e) ∙ get-there 52 before g x after r long (ap (areWithin 52) e) a b
+      beside-block r long w sixteen g h ∙ ap (λ (ws : List Write). get g (storeAll ws r)) (sym e) ∙ get-there field.recordSize before g x after r long (ap (areWithin field.recordSize) e) a b
 
   block-there : bytesAt field.block (storeWrapper w r) ≡ w .block
   unfolding storeWrapper bytesAt
   block-there =
       let q : List ℕ = storeAll (wrapperWrites w) r in
-      let whole : length q ≡ 52 = length-all 52 (wrapperWrites w) r long refl in
+      let whole : length q ≡ field.recordSize = length-all field.recordSize (wrapperWrites w) r long refl in
       rw sixteen at (part-inside q 36 (w .block) (omega arith))
 
   direction-there : get field.direction (storeWrapper w r) ≡ directionNumber (w .direction)
   unfolding isApart
   direction-there =
-      in-wrapper [] field.direction _ (write field.lun (w .lun) ∷ write field.blockLength (w .blocklength) ∷ write field.tag (w .tag) ∷ write field.declared (w .length) ∷ []) refl (leb-true 26 36 refl) refl
+      in-wrapper [] field.direction _ (write field.lun (w .lun) ∷ write field.blockLength (w .blocklength) ∷ write field.tag (w .tag) ∷ write field.declared (w .length) ∷ []) refl refl refl
       (a-byte _ 2 (direction-small (w .direction)) (lit< tt))
 
 -- ---- the status's fields
@@ -73,33 +73,33 @@ besideStatus g = areApart g (statusWrites (Present Passed (record { 0 = 0 }))) �
 
 module _ (q : List ℕ) (long : length q ≡ field.recordSize) where
   length-status : (s : Status) → length (storeStatus s q) ≡ field.recordSize
-  length-status Absent = length-all 52 (statusWrites Absent) q long refl
-  length-status (Present b x) = length-all 52 (statusWrites (Present b x)) q long refl
+  length-status Absent = length-all field.recordSize (statusWrites Absent) q long refl
+  length-status (Present b x) = length-all field.recordSize (statusWrites (Present b x)) q long refl
 
   bytes-beside-status : (s : Status) (g : Field) → besideStatus g → bytesAt g (storeStatus s q) ≡ bytesAt g q
-  bytes-beside-status Absent g a = bytes-elsewhere 52 g (statusWrites Absent) q long refl (rw (and-left (isApart field.present g) (isApart field.residue g && (isApart field.status g && true)) a))
-  bytes-beside-status (Present b x) g a = bytes-elsewhere 52 g (statusWrites (Present b x)) q long refl a
+  bytes-beside-status Absent g a = bytes-elsewhere field.recordSize g (statusWrites Absent) q long refl (rw (and-left (isApart field.present g) (isApart field.residue g && (isApart field.status g && true)) a))
+  bytes-beside-status (Present b x) g a = bytes-elsewhere field.recordSize g (statusWrites (Present b x)) q long refl a
 
   status-there : (s : Status) → ((b : CommandStatus) (x : Residue) → s ≡ Present b x → x .0 < 2 ^ 32) → statusAt (storeStatus s q) ≡ s
   unfolding statusAt statusBy isApart
-  status-there Absent h = rw (get-there 52 [] field.present 0 [] q long refl refl (lit< tt))
+  status-there Absent h = rw (get-there field.recordSize [] field.present 0 [] q long refl refl (lit< tt))
   status-there (Present b x) h =
-      let flag = get-there 52 [] field.present 1 (write field.residue (x .0) ∷ write field.status (statusNumber b) ∷ []) q long refl refl (lit< tt) in
-      let residue = get-there 52 (write field.present 1 ∷ []) field.residue (x .0) (write field.status (statusNumber b) ∷ []) q long refl refl (h b x refl) in
-      let byte = get-there 52 (write field.present 1 ∷ write field.residue (x .0) ∷ []) field.status (statusNumber b) [] q long refl refl (a-byte _ 2 (status-small b) (lit< tt)) in
+      let flag = get-there field.recordSize [] field.present 1 (write field.residue (x .0) ∷ write field.status (statusNumber b) ∷ []) q long refl refl (lit< tt) in
+      let residue = get-there field.recordSize (write field.present 1 ∷ []) field.residue (x .0) (write field.status (statusNumber b) ∷ []) q long refl refl (h b x refl) in
+      let byte = get-there field.recordSize (write field.present 1 ∷ write field.residue (x .0) ∷ []) field.status (statusNumber b) [] q long refl refl (a-byte _ 2 (status-small b) (lit< tt)) in
       rw (flag, residue, byte, status-back b)
 
   -- A test of the flag and the status byte sees these.
   flag-small : (s : Status) → get field.present (storeStatus s q) ≤ 1
   unfolding isApart
-  flag-small Absent = rw (get-there 52 [] field.present 0 [] q long refl refl (lit< tt)) (leb-true 0 1 refl)
-  flag-small (Present b x) = rw (get-there 52 [] field.present 1 (write field.residue (x .0) ∷ write field.status (statusNumber b) ∷ []) q long refl refl (lit< tt)) (leb-true 1 1 refl)
+  flag-small Absent = rw (get-there field.recordSize [] field.present 0 [] q long refl refl (lit< tt)) (leb-true 0 1 refl)
+  flag-small (Present b x) = rw (get-there field.recordSize [] field.present 1 (write field.residue (x .0) ∷ write field.status (statusNumber b) ∷ []) q long refl refl (lit< tt)) (leb-true 1 1 refl)
 
   byte-small : (s : Status) → (s ≡ Absent → get field.status q ≤ 2) → get field.status (storeStatus s q) ≤ 2
   unfolding isApart
-  byte-small Absent h = rw (get-elsewhere 52 field.status (statusWrites Absent) q long refl refl) (h refl)
+  byte-small Absent h = rw (get-elsewhere field.recordSize field.status (statusWrites Absent) q long refl refl) (h refl)
   byte-small (Present b x) h =
-      rw (get-there 52 (write field.present 1 ∷ write field.residue (x .0) ∷ []) field.status (statusNumber b) [] q long refl refl (a-byte _ 2 (status-small b) (lit< tt)))
+      rw (get-there field.recordSize (write field.present 1 ∷ write field.residue (x .0) ∷ []) field.status (statusNumber b) [] q long refl refl (a-byte _ 2 (status-small b) (lit< tt)))
       (leb-true _ _ (status-small b))
 
 -- ---- the whole device
@@ -108,10 +108,17 @@ module _ (q : List ℕ) (long : length q ≡ field.recordSize) where
 abbrev lastWrites : Device → List Write
 lastWrites d = write field.state (stateNumber (d .state)) ∷ write field.readMark (d .marks .read) ∷ write field.writeMark (d .marks .write) ∷ write field.left (d .left .0) ∷ []
 
+-- This number is stored first.
+abbrev countWrites : Device → List Write
+countWrites d = write field.putIn (d .putin .0) ∷ []
+
 module _ (d : Device) (r : List ℕ) (long : length r ≡ field.recordSize) (sixteen : length (d .wrapper .block) ≡ 16) where
-  -- These are the bytes after the wrapper was stored, and after wrapper and status were.
+  -- These are the bytes after the count of what was put in was stored, after the wrapper was stored too, and after the status.
+  abbrev zeroth : List ℕ
+  zeroth = storePutIn (d .putin) r
+
   abbrev first : List ℕ
-  first = storeWrapper (d .wrapper) r
+  first = storeWrapper (d .wrapper) zeroth
 
   abbrev second : List ℕ
   second = storeStatus (d .status) first
@@ -120,41 +127,54 @@ module _ (d : Device) (r : List ℕ) (long : length r ≡ field.recordSize) (six
   unfolding storeDevice storeLeft storeMarks storeState
   in-turn = refl
 
+  length-zeroth : length zeroth ≡ field.recordSize
+  unfolding storePutIn
+  length-zeroth = length-all field.recordSize (countWrites d) r long refl
+
   length-first : length first ≡ field.recordSize
-  length-first = length-wrapper r long (d .wrapper) sixteen
+  length-first = length-wrapper zeroth length-zeroth (d .wrapper) sixteen
 
   length-second : length second ≡ field.recordSize
   length-second = length-status first length-first (d .status)
 
   pub length-device : length (storeDevice d r) ≡ field.recordSize
-  length-device = rw in-turn (length-all 52 (lastWrites d) second length-second refl)
+  length-device = rw in-turn (length-all field.recordSize (lastWrites d) second length-second refl)
 
   -- This is a field among those that are stored last.
   at-last : (before : List Write) (g : Field) (x : ℕ) (after : List Write) → before ++ (write g x ∷ after) ≡ lastWrites d → areApart g after ≡ true → x < 256 ^ g .width → get g (storeDevice d r) ≡ x
   at-last before g x after e a b =
       ap (get g) in-turn
       ∙ ap (λ (ws : List Write). get g (storeAll ws second)) (sym e)
-      ∙ get-there 52 before g x after second length-second (ap (areWithin 52) e) a b
+      ∙ get-there field.recordSize before g x after second length-second (ap (areWithin field.recordSize) e) a b
 
   -- This is a field of the status, or one of the wrapper or of none.
   of-status : (g : Field) → areApart g (lastWrites d) ≡ true → get g (storeDevice d r) ≡ get g second
-  of-status g a = rw in-turn (get-elsewhere 52 g (lastWrites d) second length-second refl a)
+  of-status g a = rw in-turn (get-elsewhere field.recordSize g (lastWrites d) second length-second refl a)
 
   bytes-first : (g : Field) → areApart g (lastWrites d) ≡ true → besideStatus g → bytesAt g (storeDevice d r) ≡ bytesAt g first
-  bytes-first g a b = rw in-turn (bytes-elsewhere 52 g (lastWrites d) second length-second refl a ∙ bytes-beside-status first length-first (d .status) g b)
+  bytes-first g a b = rw in-turn (bytes-elsewhere field.recordSize g (lastWrites d) second length-second refl a ∙ bytes-beside-status first length-first (d .status) g b)
 
   of-first : (g : Field) → areApart g (lastWrites d) ≡ true → besideStatus g → get g (storeDevice d r) ≡ get g first
   unfolding get
   of-first g a b = rw (bytes-first g a b)
 
+  -- This is a field of the count, or one of none.
+  of-zeroth : (g : Field) → areApart g (lastWrites d) ≡ true → besideStatus g → isApart field.block g ≡ true → areApart g (wrapperWrites (d .wrapper)) ≡ true → get g (storeDevice d r) ≡ get g zeroth
+  of-zeroth g a b h c = of-first g a b ∙ beside-wrapper zeroth length-zeroth (d .wrapper) sixteen g h c
+
+  -- The count leaves every other field.
+  beside-count : (g : Field) → areApart g (countWrites d) ≡ true → get g zeroth ≡ get g r
+  unfolding storePutIn
+  beside-count g e = get-elsewhere field.recordSize g (countWrites d) r long refl e
+
   -- No part of a device stands in this field.
-  of-none : (g : Field) → areApart g (lastWrites d) ≡ true → besideStatus g → g .start + g .width ≤ 36 → areApart g (wrapperWrites (d .wrapper)) ≡ true → get g (storeDevice d r) ≡ get g r
-  of-none g a b h c = of-first g a b ∙ behind-wrapper r long (d .wrapper) sixteen g h c
+  of-none : (g : Field) → areApart g (lastWrites d) ≡ true → besideStatus g → isApart field.block g ≡ true → areApart g (wrapperWrites (d .wrapper)) ≡ true → areApart g (countWrites d) ≡ true → get g (storeDevice d r) ≡ get g r
+  of-none g a b h c e = of-zeroth g a b h c ∙ beside-count g e
 
   -- What creation wrote stays.
   fixed-kept : fixedAt (storeDevice d r) ≡ fixedAt r
   unfolding fixedAt isApart
-  fixed-kept = rw (of-none field.packetSize refl refl (leb-true 1 36 refl) refl, of-none field.maxLun refl refl (leb-true 2 36 refl) refl, of-none field.size refl refl (leb-true 8 36 refl) refl)
+  fixed-kept = rw (of-none field.packetSize refl refl refl refl refl, of-none field.maxLun refl refl refl refl refl, of-none field.size refl refl refl refl refl)
 
   state-read : get field.state (storeDevice d r) ≡ stateNumber (d .state)
   unfolding isApart
@@ -164,7 +184,7 @@ module _ (d : Device) (r : List ℕ) (long : length r ≡ field.recordSize) (six
 
   direction-read : get field.direction (storeDevice d r) ≡ directionNumber (d .wrapper .direction)
   unfolding isApart
-  direction-read = of-first field.direction refl refl ∙ direction-there r long (d .wrapper) sixteen
+  direction-read = of-first field.direction refl refl ∙ direction-there zeroth length-zeroth (d .wrapper) sixteen
 
   marks-read : d .marks .read < 2 ^ 32 → d .marks .write < 2 ^ 32 → marksAt (storeDevice d r) ≡ d .marks
   unfolding isApart
@@ -178,6 +198,10 @@ module _ (d : Device) (r : List ℕ) (long : length r ≡ field.recordSize) (six
   left-read h =
       at-last (write field.state (stateNumber (d .state)) ∷ write field.readMark (d .marks .read) ∷ write field.writeMark (d .marks .write) ∷ []) field.left (d .left .0) [] refl refl h
 
+  put-in-read : d .putin .0 < 2 ^ 32 → get field.putIn (storeDevice d r) ≡ d .putin .0
+  unfolding storePutIn isApart
+  put-in-read h = of-zeroth field.putIn refl refl refl refl ∙ get-there field.recordSize [] field.putIn (d .putin .0) [] r long refl refl h
+
   status-read : ((b : CommandStatus) (x : Residue) → d .status ≡ Present b x → x .0 < 2 ^ 32) → statusAt (storeDevice d r) ≡ d .status
   unfolding statusAt isApart
   status-read h = rw (of-status field.present refl, of-status field.status refl, of-status field.residue refl) (status-there first length-first (d .status) h)
@@ -186,17 +210,17 @@ module _ (d : Device) (r : List ℕ) (long : length r ≡ field.recordSize) (six
   unfolding isApart
   wrapper-read s =
       let w : Wrapper = d .wrapper in
-      let inside = in-wrapper r long w sixteen in
+      let inside = in-wrapper zeroth length-zeroth w sixteen in
       let a : Write = write field.direction (directionNumber (w .direction)) in
       let b : Write = write field.lun (w .lun) in
       let c : Write = write field.blockLength (w .blocklength) in
       let e : Write = write field.tag (w .tag) in
       let f : Write = write field.declared (w .length) in
-      let lun = of-first field.lun refl refl ∙ inside (a ∷ []) field.lun (w .lun) (c ∷ e ∷ f ∷ []) refl (leb-true 27 36 refl) refl (s .lun) in
-      let blocklength = of-first field.blockLength refl refl ∙ inside (a ∷ b ∷ []) field.blockLength (w .blocklength) (e ∷ f ∷ []) refl (leb-true 28 36 refl) refl (s .blocklength) in
-      let tag = of-first field.tag refl refl ∙ inside (a ∷ b ∷ c ∷ []) field.tag (w .tag) (f ∷ []) refl (leb-true 32 36 refl) refl (s .tag) in
-      let declared = of-first field.declared refl refl ∙ inside (a ∷ b ∷ c ∷ e ∷ []) field.declared (w .length) [] refl (leb-true 36 36 refl) refl (s .declared) in
-      let block = bytes-first field.block refl refl ∙ block-there r long w sixteen in
+      let lun = of-first field.lun refl refl ∙ inside (a ∷ []) field.lun (w .lun) (c ∷ e ∷ f ∷ []) refl refl refl (s .lun) in
+      let blocklength = of-first field.blockLength refl refl ∙ inside (a ∷ b ∷ []) field.blockLength (w .blocklength) (e ∷ f ∷ []) refl refl refl (s .blocklength) in
+      let tag = of-first field.tag refl refl ∙ inside (a ∷ b ∷ c ∷ []) field.tag (w .tag) (f ∷ []) refl refl refl (s .tag) in
+      let declared = of-first field.declared refl refl ∙ inside (a ∷ b ∷ c ∷ e ∷ []) field.declared (w .length) [] refl refl refl (s .declared) in
+      let block = bytes-first field.block refl refl ∙ block-there zeroth length-zeroth w sixteen in
       sym (reads-wrapper (storeDevice d r) (sym direction-read) (sym (direction-back (w .direction))) (sym block) (sym tag) (sym declared) (sym lun) (sym blocklength))
 
 -- What was stored is read.
@@ -211,15 +235,16 @@ back d r s o =
     (sym (marks-read d r (o .long) (s .block) (s .read) (s .write)))
     (sym (wrapper-read d r (o .long) (s .block) s))
     (sym (status-read d r (o .long) (s .block) (s .residue)))
-    (sym (left-read d r (o .long) (s .block) (s .left))))
+    (sym (left-read d r (o .long) (s .block) (s .left)))
+    (sym (put-in-read d r (o .long) (s .block) (s .putin))))
 
 -- The bytes are still a record. If there is no status, the status byte stays, so it must have been known before.
 pub back-known : (d : Device) (r : List ℕ) → length r ≡ field.recordSize → length (d .wrapper .block) ≡ 16 → (d .status ≡ Absent → get field.status r ≤ 2) → isKnown (storeDevice d r) ≡ true
 unfolding isApart
 back-known d r long sixteen h =
-    let q : List ℕ = storeWrapper (d .wrapper) r in
-    let whole : length q ≡ 52 = length-wrapper r long (d .wrapper) sixteen in
-    let before = behind-wrapper r long (d .wrapper) sixteen field.status (leb-true 25 36 refl) refl in
+    let q : List ℕ = first d r long sixteen in
+    let whole : length q ≡ field.recordSize = length-first d r long sixteen in
+    let before : get field.status q ≡ get field.status r = beside-wrapper (zeroth d r long sixteen) (length-zeroth d r long sixteen) (d .wrapper) sixteen field.status refl refl ∙ beside-count d r long sixteen field.status refl in
     known-is (storeDevice d r) (record {
       long = length-device d r long sixteen;
       state = rw (state-read d r long sixteen) (leb-true _ _ (state-small (d .state)));
@@ -238,7 +263,7 @@ abbrev newWrites : Fixed → List Write
 newWrites f = write field.packetSize (f .packetsize) ∷ write field.maxLun (f .maxlun) ∷ write field.size (f .size) ∷ []
 
 abbrev zeros : List ℕ
-zeros = replicate 52 0
+zeros = replicate field.recordSize 0
 
 module _ (f : Fixed) where
   new-writes : newRecord f ≡ storeAll (newWrites f) zeros
@@ -246,11 +271,11 @@ module _ (f : Fixed) where
   new-writes = refl
 
   new-length : length (newRecord f) ≡ field.recordSize
-  new-length = rw new-writes (length-all 52 (newWrites f) zeros refl refl)
+  new-length = rw new-writes (length-all field.recordSize (newWrites f) zeros refl refl)
 
   -- A field apart from the three has its zeros.
   new-bytes : (g : Field) → areApart g (newWrites f) ≡ true → bytesAt g (newRecord f) ≡ bytesAt g zeros
-  new-bytes g a = rw new-writes (bytes-elsewhere 52 g (newWrites f) zeros refl refl a)
+  new-bytes g a = rw new-writes (bytes-elsewhere field.recordSize g (newWrites f) zeros refl refl a)
 
   new-get : (g : Field) → areApart g (newWrites f) ≡ true → get g (newRecord f) ≡ get g zeros
   unfolding get
@@ -269,9 +294,9 @@ module _ (f : Fixed) where
   new-fixed : StorableFixed f → fixedAt (newRecord f) ≡ f
   unfolding fixedAt isApart
   new-fixed fits =
-      let p = ap (get field.packetSize) new-writes ∙ get-there 52 [] field.packetSize (f .packetsize) (write field.maxLun (f .maxlun) ∷ write field.size (f .size) ∷ []) zeros refl refl refl (fits .packetsize) in
-      let m = ap (get field.maxLun) new-writes ∙ get-there 52 (write field.packetSize (f .packetsize) ∷ []) field.maxLun (f .maxlun) (write field.size (f .size) ∷ []) zeros refl refl refl (fits .maxlun) in
-      let s = ap (get field.size) new-writes ∙ get-there 52 (write field.packetSize (f .packetsize) ∷ write field.maxLun (f .maxlun) ∷ []) field.size (f .size) [] zeros refl refl refl (fits .size) in
+      let p = ap (get field.packetSize) new-writes ∙ get-there field.recordSize [] field.packetSize (f .packetsize) (write field.maxLun (f .maxlun) ∷ write field.size (f .size) ∷ []) zeros refl refl refl (fits .packetsize) in
+      let m = ap (get field.maxLun) new-writes ∙ get-there field.recordSize (write field.packetSize (f .packetsize) ∷ []) field.maxLun (f .maxlun) (write field.size (f .size) ∷ []) zeros refl refl refl (fits .maxlun) in
+      let s = ap (get field.size) new-writes ∙ get-there field.recordSize (write field.packetSize (f .packetsize) ∷ write field.maxLun (f .maxlun) ∷ []) field.size (f .size) [] zeros refl refl refl (fits .size) in
       rw (p, m, s)
 
   new-wrapper : wrapperAt (newRecord f) ≡ noWrapper
@@ -299,7 +324,8 @@ module _ (f : Fixed) where
       (reads-marks q (sym (new-get field.readMark refl)) (sym (new-get field.writeMark refl)))
       (sym new-wrapper)
       (reads-status q (sym (new-get field.present refl)) (sym (new-get field.status refl)) (sym (new-get field.residue refl)) refl)
-      (sym (new-get field.left refl)))
+      (sym (new-get field.left refl))
+      (sym (new-get field.putIn refl)))
 
   pub of-new : StorableFixed f → RecordOf (newDevice f) (newRecord f)
   of-new fits = record { long = new-length; fixed = new-fixed fits }

@@ -19,7 +19,7 @@ use Rattle.ring.specs.States.{stateOfNumber}
 use Rattle.ring.proofs.Numbers.{state-number}
 use Rattle.wrapper.proofs.Numbers.{direction-number, status-number}
 use Rattle.recordbytes.specs.Layout as field
-use Rattle.recordbytes.specs.Record.{isKnown, statusBy, statusAt, marksAt, wrapperAt, store, storeState, storeMarks, storeLeft, storeStatus, storeWrapper}
+use Rattle.recordbytes.specs.Record.{isKnown, statusBy, statusAt, marksAt, wrapperAt, store, storeState, storeMarks, storeLeft, storePutIn, storeStatus, storeWrapper}
 use Rattle.recordbytes.proofs.Storing.{isApart, store-same, length-store, get-stored, bytes-apart}
 
 -- ---- a list of numbers to store
@@ -89,7 +89,7 @@ pub record Known (r : List ℕ) : Type 0 where
 pub is-known : (r : List ℕ) → isKnown r ≡ true → Known r
 unfolding isKnown
 is-known r h =
-    let a : Bool = eqb (length r) 52 in
+    let a : Bool = eqb (length r) field.recordSize in
     let b : Bool = leb (get field.state r) 8 in
     let c : Bool = leb (get field.present r) 1 in
     let d : Bool = leb (get field.status r) 2 in
@@ -122,6 +122,10 @@ marks-kept r = rw (store-same field.readMark (get field.readMark r) r refl) (sto
 pub left-kept : (r : List ℕ) → storeLeft (record { 0 = get field.left r }) r ≡ r
 unfolding storeLeft
 left-kept r = store-same field.left _ r refl
+
+pub put-in-kept : (r : List ℕ) → storePutIn (record { 0 = get field.putIn r }) r ≡ r
+unfolding storePutIn
+put-in-kept r = store-same field.putIn _ r refl
 
 pub status-kept : (r : List ℕ) → get field.present r ≤ 1 → get field.status r ≤ 2 → storeStatus (statusAt r) r ≡ r
 unfolding statusAt statusBy

@@ -25,6 +25,7 @@ use Rattle.ring.specs.declared.State.{State}
 use Rattle.ring.specs.States.{stateNumber}
 use Rattle.wrapper.specs.declared.Head.{Head}
 use Rattle.wrapper.specs.declared.counters.Left.{Left}
+use Rattle.wrapper.specs.declared.counters.PutIn.{PutIn}
 use Rattle.wrapper.specs.declared.counters.Residue.{Residue}
 use Rattle.wrapper.specs.declared.status.CommandStatus.{CommandStatus}
 use Rattle.wrapper.specs.Status.{statusNumber}
@@ -33,7 +34,7 @@ use Rattle.device.specs.declared.Fixed.{Fixed}
 use Rattle.device.specs.declared.Status.{Status}
 use Rattle.device.specs.declared.Status.the-variants.{Absent, Present}
 use Rattle.recordbytes.specs.Layout as field
-use Rattle.recordbytes.specs.Record.{marksAt, store, storeState, storeMarks, storeLeft, storeStatus, storeWrapper, newRecord}
+use Rattle.recordbytes.specs.Record.{marksAt, store, storeState, storeMarks, storeLeft, storePutIn, storeStatus, storeWrapper, newRecord}
 use Rattle.recordbytes.specs.Inner.Record.{wrapperOfHead}
 use Rattle.recordbytes.specs.Inner.Storable.{StorableFixed}
 
@@ -101,6 +102,10 @@ module _ (r : List ℕ) where
   unfolding storeLeft
   leaves-left x h = h
 
+  pub leaves-put-in : (c : PutIn) {l : List ℕ} → l ≡ store field.putIn (c .0) r → l ≡ storePutIn c r
+  unfolding storePutIn
+  leaves-put-in c h = h
+
   pub leaves-marks : (m : Marks) {x y : ℕ} {l k : List ℕ} → x ≡ m .read → l ≡ store field.readMark x r → y ≡ m .write → k ≡ store field.writeMark y l → k ≡ storeMarks m r
   unfolding storeMarks
   leaves-marks m ex hl ey hk = rw (ey, hl, ex) at hk
@@ -128,9 +133,9 @@ module _ (r : List ℕ) where
   leaves-wrapper h block en ha hb hc hd he hl = rw (he, hd, hc, hb, ha, en) at hl
 
 -- Zeros cover all that was there.
-pub leaves-new : (r : List ℕ) (f : Fixed) → StorableFixed f → {a b c l : List ℕ} {k : ℕ} → length r ≡ field.recordSize → a ≡ overlay r 0 (replicate 52 0) → b ≡ store field.packetSize (f .packetsize % 256) a
+pub leaves-new : (r : List ℕ) (f : Fixed) → StorableFixed f → {a b c l : List ℕ} {k : ℕ} → length r ≡ field.recordSize → a ≡ overlay r 0 (replicate field.recordSize 0) → b ≡ store field.packetSize (f .packetsize % 256) a
     → c ≡ store field.maxLun (f .maxlun) b → k ≡ f .size → l ≡ store field.size k c → l ≡ newRecord f
 unfolding newRecord
-leaves-new r f fits h ha hb hc hk hl = rw (hk, hc, hb, mod-eq-of-lt (fits .packetsize), ha ∙ overlay-whole r (replicate 52 0) (sym h)) at hl
+leaves-new r f fits h ha hb hc hk hl = rw (hk, hc, hb, mod-eq-of-lt (fits .packetsize), ha ∙ overlay-whole r (replicate field.recordSize 0) (sym h)) at hl
 
-pub ruleset ways = (leaves-new, leaves-byte, leaves-state, leaves-left, leaves-marks, leaves-read-mark, leaves-write-mark, leaves-absent, leaves-present, leaves-wrapper)
+pub ruleset ways = (leaves-new, leaves-byte, leaves-state, leaves-left, leaves-put-in, leaves-marks, leaves-read-mark, leaves-write-mark, leaves-absent, leaves-present, leaves-wrapper)

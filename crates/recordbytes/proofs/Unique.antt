@@ -24,6 +24,8 @@ use Rattle.recordbytes.proofs.store.write_mark.Kinds as write-mark-kind
 use Rattle.recordbytes.proofs.store.write_mark.Reads as write-mark
 use Rattle.recordbytes.proofs.store.left.Kinds as left-kinds
 use Rattle.recordbytes.proofs.store.left.Reads as left
+use Rattle.recordbytes.proofs.store.put_in.Kinds as put-in-kinds
+use Rattle.recordbytes.proofs.store.put_in.Reads as put-in
 use Rattle.recordbytes.proofs.store.status.Kinds as status-kinds
 use Rattle.recordbytes.proofs.store.status.Reads as status
 use Rattle.recordbytes.proofs.store.wrapper.Kinds as wrapper-kinds
@@ -60,6 +62,9 @@ write-mark-only κs a x y s t p q = (refl, p ∙ sym q)
 
 pub left-only : Only 1 left-kinds.ps left-kinds.r left.Post (λ κs s. now (s .0))
 left-only κs a x y s t p q = (refl, p ∙ sym q)
+
+pub put-in-only : Only 1 put-in-kinds.ps put-in-kinds.r put-in.Post (λ κs s. now (s .0))
+put-in-only κs a x y s t p q = (refl, p ∙ sym q)
 
 pub status-only : Only 1 status-kinds.ps status-kinds.r status.Post (λ κs s. now (s .0))
 status-only κs a x y s t p q = (refl, p ∙ sym q)

@@ -1,4 +1,4 @@
--- `recordbytes::device_at` meets its contract: it reads two fields and the four parts. Assumes nothing.
+-- `recordbytes::device_at` meets its contract: it reads three fields and the four parts. Assumes nothing.
 use borrow.Author.Needs.{needs}
 use Rattle.recordbytes.proofs.Reading.{ways}
 use Rattle.recordbytes.proofs.device_at.Statement.{statement}
@@ -8,4 +8,4 @@ pub device-at-spec : {M : Type 1} → statement M
 device-at-spec =
     tie.close (tie.spec
     (λ c. search needs) (λ c. search needs) (λ c. search needs) (λ c. search needs) (λ c. search needs) (λ c. search needs)
-    (λ c. search needs) (λ c. search (ways, needs)))
+    (λ c. search needs) (λ c. search needs) (λ c. search (ways, needs)))

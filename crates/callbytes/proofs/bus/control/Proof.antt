@@ -1,5 +1,5 @@
--- `callbytes::bus::control` meets its contract: it refuses, or makes the call by value on the device that the bytes hold. Only status,
--- state and left can change. Assumes nothing.
+-- `callbytes::bus::control` meets its contract: it refuses, or makes the call by value on the device that the bytes hold. Only the
+-- count of what was put in, status, state and left can change. Assumes nothing.
 use Rattle.callbytes.proofs.Ways.{ways}
 use borrow.Author.Needs.{needs}
 use Rattle.callbytes.proofs.bus.control.Statement.{statement}

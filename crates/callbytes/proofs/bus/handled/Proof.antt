@@ -1,4 +1,4 @@
--- `callbytes::bus::handled` meets its contract: three parts are stored one after the other, and the rest is put into one number. Assumes
+-- `callbytes::bus::handled` meets its contract: four parts are stored one after the other, and the rest is put into one number. Assumes
 -- nothing.
 use Rattle.callbytes.proofs.Ways.{ways}
 use borrow.Author.Needs.{needs}
@@ -12,4 +12,4 @@ pub handled-spec : {M : Type 1} → statement M
 handled-spec =
     tie.close (tie.spec
     (λ c. search needs) (λ c. search needs) (λ c. search needs) (λ c. search needs) (λ c. search needs) (λ c. search needs)
-    (λ c. search needs) returns)
+    (λ c. search needs) (λ c. search needs) returns)

@@ -1,4 +1,4 @@
--- `callbytes::create::create` meets its contract: 01's refusals, bytes that are not 52, or a new record. Assumes nothing.
+-- `callbytes::create::create` meets its contract: 01's refusals, bytes that are not 56, or a new record. Assumes nothing.
 use Rattle.callbytes.proofs.Ways.{ways}
 use borrow.Author.Needs.{needs}
 use Rattle.callbytes.proofs.create.create.Statement.{statement}
