@@ -44,7 +44,7 @@ fn show_block(record: &[u8], block: &mut [u8]) -> u64
     requires { ⌜ (length (now «record») ≡ recordSize) × (length (now block) ≡ 16) ⌝ }
     ensures { λ x. ⌜ commandOutcome x (now (block .exit)) ≡ commandOutcomeOf (now (block .entry)) (showing (wrapperAt (now («record» .entry)))) ⌝ }
 {
-    put(block, 0, &record[in_record::BLOCK..in_record::SIZE]);
+    put(block, 0, &record[in_record::BLOCK..in_record::PUT_IN]);
     word(
         0,
         byte(record, in_record::LUN),

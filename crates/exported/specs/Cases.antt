@@ -24,12 +24,17 @@ block = 0x12 ∷ 0x01 ∷ 0x80 ∷ 0x00 ∷ 0xFF ∷ replicate 11 9
 
 -- The bytes of a record with P 8, max LUN 3 and an IO buffer of 31 bytes. The parameters are the number of its state, whether a status is
 -- present, both marks, left, the residue and the status byte. Its wrapper is to the host, for LUN 1, with a block of five bytes, tag 7
--- and L = 512.
+-- and L = 512. 254 bytes were put in.
 abbrev bytes : ℕ → ℕ → ℕ → ℕ → ℕ → ℕ → ℕ → List ℕ
 bytes state present read write left residue status =
     (8 ∷ 3 ∷ state ∷ present ∷ 31 ∷ 0 ∷ 0 ∷ 0 ∷ read ∷ 0 ∷ 0 ∷ 0 ∷ write ∷ 0 ∷ 0 ∷ 0 ∷ left ∷ 0 ∷ 0 ∷ 0 ∷ residue ∷ 0 ∷ 0 ∷ 0 ∷ status ∷ [])
     ++ (1 ∷ 1 ∷ 5 ∷ 7 ∷ 0 ∷ 0 ∷ 0 ∷ 0 ∷ 2 ∷ 0 ∷ 0 ∷ [])
     ++ block
+    ++ (254 ∷ 0 ∷ 0 ∷ 0 ∷ [])
+
+-- The record's bytes `r` with these four as the count of what was put in.
+abbrev counting : List ℕ → List ℕ → List ℕ
+counting four r = overlay r 52 four
 
 -- Such a record in the state with the number `state`, with three bytes unread, two left and no status.
 abbrev recordIn : ℕ → List ℕ
@@ -65,12 +70,12 @@ table =
     ∷ case (upperHalf (lacking 7) 0) 7
     ∷ case (upperHalf (lacking 4294967295) 0) 4294967295
     ∷ case (upperHalf (lacking 4294967296) 0) 4294967295
-    -- Creation with 64, 0 and 64 makes a record, of 52 bytes only. 01's refusals come before the one for the length, and the bytes stay.
-    ∷ case (createOn (replicate 52 9) (fixed 64 0 64)) (callOutcome 0 (64 ∷ 0 ∷ 0 ∷ 0 ∷ 64 ∷ replicate 47 0))
-    ∷ case (createOn (replicate 51 9) (fixed 64 0 64)) (callOutcome 10 (replicate 51 9))
-    ∷ case (createOn (replicate 52 9) (fixed 8 16 0)) (callOutcome 2 (replicate 52 9))
+    -- Creation with 64, 0 and 64 makes a record, of 56 bytes only. 01's refusals come before the one for the length, and the bytes stay.
+    ∷ case (createOn (replicate 56 9) (fixed 64 0 64)) (callOutcome 0 (64 ∷ 0 ∷ 0 ∷ 0 ∷ 64 ∷ replicate 51 0))
+    ∷ case (createOn (replicate 55 9) (fixed 64 0 64)) (callOutcome 10 (replicate 55 9))
+    ∷ case (createOn (replicate 56 9) (fixed 8 16 0)) (callOutcome 2 (replicate 56 9))
     ∷ case (createOn [] (fixed 8 16 0)) (callOutcome 2 [])
-    -- A record that is whole; then one with a number for no state, for no flag, for no status and for no direction; 53 bytes, and none;
+    -- A record that is whole; then one with a number for no state, for no flag, for no status and for no direction; 57 bytes, and none;
     -- an IO buffer of another length.
     ∷ case (answered (bytes 8 1 1 4 2 0 2) 31) 0x0000000000020000
     ∷ case (answered (bytes 9 1 1 4 2 0 2) 31) 10
@@ -91,14 +96,16 @@ table =
     ∷ case (readDataOn (recordIn 4) io (8 ∷ 8 ∷ [])) (dataOutcome 3 (recordIn 4) (8 ∷ 8 ∷ []))
     ∷ case (readDataOn (recordIn 9) io (8 ∷ 8 ∷ [])) (dataOutcome 10 (recordIn 9) (8 ∷ 8 ∷ []))
     -- Two bytes are left. Of three bytes `souk_write_data` takes two, and `souk_try_write_data_all` takes all. 29 bytes have no room:
-    -- that gives 1, with the one byte missing from bit 32 on, and the move stays.
-    ∷ case (writeDataOn (recordIn 4) io (6 ∷ 7 ∷ 8 ∷ [])) (dataOutcome 0x0000000200000000 (bytes 4 0 1 6 2 0 0) (1 ∷ 2 ∷ 3 ∷ 4 ∷ 6 ∷ 7 ∷ replicate 25 5))
-    ∷ case (writeDataAllOn (recordIn 4) io (6 ∷ 7 ∷ 8 ∷ [])) (dataOutcome 0x0000000300000000 (bytes 4 0 1 7 2 0 0) (1 ∷ 2 ∷ 3 ∷ 4 ∷ 6 ∷ 7 ∷ 8 ∷ replicate 24 5))
+    -- that gives 1, with the one byte missing from bit 32 on, and the move stays. What was taken is added to the 254 bytes put in before.
+    ∷ case (writeDataOn (recordIn 4) io (6 ∷ 7 ∷ 8 ∷ [])) (dataOutcome 0x0000000200000000 (counting (0 ∷ 1 ∷ 0 ∷ 0 ∷ []) (bytes 4 0 1 6 2 0 0)) (1 ∷ 2 ∷ 3 ∷ 4 ∷ 6 ∷ 7 ∷ replicate 25 5))
+    ∷ case (writeDataAllOn (recordIn 4) io (6 ∷ 7 ∷ 8 ∷ [])) (dataOutcome 0x0000000300000000 (counting (1 ∷ 1 ∷ 0 ∷ 0 ∷ []) (bytes 4 0 1 7 2 0 0)) (1 ∷ 2 ∷ 3 ∷ 4 ∷ 6 ∷ 7 ∷ 8 ∷ replicate 24 5))
     ∷ case (writeDataAllOn (recordIn 4) io (replicate 29 6)) (dataOutcome 0x0000000100000001 (bytes 4 0 0 3 2 0 0) (2 ∷ 3 ∷ 4 ∷ 4 ∷ replicate 27 5))
     ∷ case (writeDataOn (recordIn 9) io (6 ∷ [])) (dataOutcome 10 (recordIn 9) io)
-    -- A reset asks for `U`, and stores the state, left and the flag. The residue and the status byte stay.
+    -- The largest count stays, and the bytes go in.
+    ∷ case (writeDataOn (counting (replicate 4 255) (recordIn 4)) io (6 ∷ 7 ∷ [])) (dataOutcome 0x0000000200000000 (counting (replicate 4 255) (bytes 4 0 1 6 2 0 0)) (1 ∷ 2 ∷ 3 ∷ 4 ∷ 6 ∷ 7 ∷ replicate 25 5))
+    -- A reset asks for `U`, and stores the state, left, the flag and the count. The residue and the status byte stay.
     ∷ case (resetOn (newRecord (fixed 8 3 31)) io) (callOutcome 0x0000000000020000 (newRecord (fixed 8 3 31)))
-    ∷ case (resetOn (bytes 4 1 1 4 2 12 2) io) (callOutcome 0x0000000000020000 (bytes 0 0 1 4 0 12 2))
+    ∷ case (resetOn (bytes 4 1 1 4 2 12 2) io) (callOutcome 0x0000000000020000 (counting (replicate 4 0) (bytes 0 0 1 4 0 12 2)))
     ∷ case (resetOn (recordIn 9) io) (callOutcome 10 (recordIn 9))
     -- A1 FE gives the flag 1 and max LUN; A1 FF is a reset; 21 FF does not count.
     ∷ case (controlOn (recordIn 4) io (request 0xA1 0xFE)) (callOutcome 0x0000000301000000 (recordIn 4))
@@ -150,9 +157,13 @@ polling =
     ∷ case (pollOn (bytes 7 0 1 28 2 0 0) io (offering (6 ∷ []))) (pollOutcome 0x0000000400000001 (bytes 7 0 0 27 2 0 0) (2 ∷ 3 ∷ 4 ∷ replicate 28 5) (replicate 8 9))
     -- The first eight bytes of the status go out, with the wrapper's tag.
     ∷ case (pollOn (bytes 5 1 1 4 0 12 1) io (silent 8)) (pollOutcome 0x0000000800000000 (bytes 3 1 8 13 0 12 1) (0x55 ∷ 0x53 ∷ 0x42 ∷ 0x53 ∷ 7 ∷ 0 ∷ 0 ∷ 0 ∷ 12 ∷ 0 ∷ 0 ∷ 0 ∷ 1 ∷ replicate 18 5) (0x55 ∷ 0x53 ∷ 0x42 ∷ 0x53 ∷ 7 ∷ 0 ∷ 0 ∷ 0 ∷ []))
-    -- The last eight bytes of a wrapper come in: it is stored, and the device awaits its status in 5.
+    -- The last eight bytes of a wrapper come in: it is stored, what is put in is counted anew, and the device awaits its status in 5.
     ∷ case (pollOn (bytes 0 0 0 23 0 0 0) (begun ++ replicate 8 0) (offering (replicate 8 4)))
-    (pollOutcome 0x0000000001000000 ((8 ∷ 3 ∷ 5 ∷ 0 ∷ 31 ∷ 0 ∷ 0 ∷ 0 ∷ 31 ∷ 0 ∷ 0 ∷ 0 ∷ 31 ∷ 0 ∷ 0 ∷ 0 ∷ replicate 9 0) ++ (0 ∷ 2 ∷ 6 ∷ 9 ∷ replicate 7 0) ++ replicate 16 4) (begun ++ replicate 8 4) (replicate 8 9))
+    (pollOutcome 0x0000000001000000 ((8 ∷ 3 ∷ 5 ∷ 0 ∷ 31 ∷ 0 ∷ 0 ∷ 0 ∷ 31 ∷ 0 ∷ 0 ∷ 0 ∷ 31 ∷ 0 ∷ 0 ∷ 0 ∷ replicate 9 0) ++ (0 ∷ 2 ∷ 6 ∷ 9 ∷ replicate 7 0) ++ replicate 16 4 ++ replicate 4 0) (begun ++ replicate 8 4) (replicate 8 9))
+    -- The same with another signature: it is no wrapper. The count starts anew here too, and both endpoints are stalled in 1.
+    ∷ case (pollOn (bytes 0 0 0 23 0 0 0) (1 ∷ replicate 30 4) (offering (replicate 8 4))) (pollOutcome 0x0000000001010000 (counting (replicate 4 0) (bytes 1 0 31 31 0 0 0)) (1 ∷ replicate 30 4) (replicate 8 9))
+    -- The status is all sent, and OUT is busy: 0 is entered, where the count starts anew, and the answer is 6.
+    ∷ case (pollOn (bytes 3 1 4 4 0 12 1) io (silent 8)) (pollOutcome 0x0000000000020006 (counting (replicate 4 0) (bytes 0 0 4 4 0 12 1)) io (replicate 8 9))
     -- 10 comes before 11. Either leaves everything as it was.
     ∷ case (pollOn (recordIn 9) io (silent 7)) (pollOutcome 10 (recordIn 9) io (replicate 7 9))
     ∷ case (pollOn (recordIn 4) io (silent 7)) (pollOutcome 11 (recordIn 4) io (replicate 7 9))

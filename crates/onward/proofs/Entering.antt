@@ -60,7 +60,7 @@ ending-in P ring.DataTransferFromHostEnding h a b c d e = e
 -- ---- what the tests tell
 
 pub may-end : (r : List ℕ) (len packet one two write : ℕ) {state flag left p to from : ℕ} {s f v : Bool}
-    → length r ≡ 52 → state ≡ get field.state r → 4 ≤ state → state ≤ 8 → flag ≡ get field.present r → flag ≡ 1 → write ≡ 0 → left ≡ get field.left r → left ≡ 0
+    → length r ≡ field.recordSize → state ≡ get field.state r → 4 ≤ state → state ≤ 8 → flag ≡ get field.present r → flag ≡ 1 → write ≡ 0 → left ≡ get field.left r → left ≡ 0
     → (s ≡ true → Steady r len) → not s ≡ false → p ≡ get field.packetSize r → f ≡ isFitting p packet one two → not f ≡ false
     → to ≡ get field.writeMark r → to ≤ len → from ≡ get field.readMark r → from ≤ to → v ≡ isPacketSize p → v ≡ true → MayEnd r len packet one two write
 unfolding deviceAt

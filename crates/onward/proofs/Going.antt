@@ -298,7 +298,7 @@ module _ (d : Device) (io : List ℕ) (g : Given) (w : Whole (numbersOf d) (leng
 -- The state stands apart from the marks.
 write-stays : (r : List ℕ) (s : State) (present : Bool) → length r ≡ field.recordSize → marksAt (cond present (storeState s r) r) .write ≡ marksAt r .write
 unfolding marksAt storeState isApart
-write-stays r s true long = get-elsewhere 52 field.writeMark (write field.state (stateNumber s) ∷ []) r long refl refl
+write-stays r s true long = get-elsewhere field.recordSize field.writeMark (write field.state (stateNumber s) ∷ []) r long refl refl
 write-stays r s false long = refl
 
 -- A whole packet is unread, so a read takes all of it.
