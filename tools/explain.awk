@@ -2,8 +2,8 @@
 #     awk -f tools/explain.awk of=bytes BYTES of=lines LINES
 # BYTES is a bench file as 'od -An -v -tu1' prints it, LINES is what bench printed for it. Answers, states, counts, stalls,
 # bytes and the number missing are bench's own. From the file come the event itself and, where a poll completes one, the
-# wrapper. Nothing is worked out twice: the decoder below only names the fields of a block that bench showed, and a refused
-# file is only told why.
+# wrapper. Nothing is worked out twice: the decoder below only names the fields of a block that bench showed, what was put in
+# is the sum of counts that bench showed, and a refused file is only told why.
 
 BEGIN {
     split("Done IoBufferOverflow InvalidMaxLun InvalidState FullPacketExpected BufferTooSmall WouldBlock EndpointError " \
@@ -24,6 +24,7 @@ BEGIN {
     size = lines = 0
     waiting = status_sent = ""
     state = unread = 0
+    put_in = declared = 0
 }
 
 of == "bytes" { for (i = 1; i <= NF; i++) file[size++] = $i; next }
@@ -176,7 +177,7 @@ function figures() {
 function outcome() {
     if (kind == 0) return "max LUN " file[from + 2] (now[2] == "0" ? "" : "; the run ends here")
     if (kind == 1) return poll_outcome()
-    if (kind == 3 || kind == 4) return now[2] == "0" ? write_outcome() : ""
+    if (kind == 3 || kind == 4) return now[2] == "0" ? join(write_outcome(), passing()) : ""
     if (kind == 5) return now[2] != "0" ? "" : "read " (now[8] == "-" ? "nothing" : shown(now[8]))
     if (kind == 7) return now[8] == "-" ? "" : "answers " now[8]
     if (kind == 8) return now[2] != "0" ? "" : now[8] == "-" ? "no command is offered" : command_words(now[8])
@@ -184,6 +185,13 @@ function outcome() {
 }
 
 function write_outcome() { return "wrote " (now[6] == length_of ? "" : now[6] " of ") file_shown(from, length_of) }
+
+# The call by which what was put in since the wrapper passes L, and each later one that puts in more.
+function passing() {
+    put_in += now[6]
+    if (now[6] == "0" || declared == "?" || put_in <= declared) return ""
+    return put_in " bytes put in, " put_in - declared " more than L"
+}
 
 # "LUN in two digits, then exactly block-length bytes". Extended addressing is on only where the step carries 1.
 function command_words(hex,    lun, block) {
@@ -206,16 +214,28 @@ function poll_outcome(    text) {
 function wrapper_outcome(    wrapper) {
     if (!(state == 0 || state == 3 && unread == 0) || now[6] == "0") return ""
     if (unread == 0) waiting = ""
-    if (waiting == "?") return now[3] == "0" ? "" : "wrapper behind older bytes" (now[3] == "1" ? ", invalid" : "")
+    if (waiting == "?") return now[3] == "0" ? "" : older_words()
     waiting = waiting file_hex(from + 5, file[from + 3])
     if (length(waiting) < 62) return ""
     wrapper = substr(waiting, 1, 62)
     waiting = now[3] == "1" ? substr(waiting, 63) : "?"
+    begin(little(wrapper, 8, 4))
     return now[3] == "1" ? fault_words(wrapper) : wrapper_words(wrapper)
 }
 
-function wrapper_words(hex,    declared) {
-    declared = little(hex, 8, 4)
+# A wrapper was parsed: it declares L, and nothing is put in yet.
+function begin(l) {
+    declared = l
+    put_in = 0
+}
+
+# L is then what is left and what was sent of it at once. Where nothing is left, more than L may have been sent.
+function older_words() {
+    begin(now[4] == "0" ? "?" : now[4] + (now[8] == "-" ? 0 : length(now[8]) / 2))
+    return "wrapper behind older bytes" (now[3] == "1" ? ", invalid" : "")
+}
+
+function wrapper_words(hex) {
     return "wrapper tag " whole(little(hex, 4, 4)) ", " \
         (declared == 0 ? "no data" : whole(declared) (hex_byte(hex, 12) >= 128 ? " to host" : " from host")) \
         ", LUN " hex_byte(hex, 13) % 16 ", " block_words(substr(hex, 31, 2 * hex_byte(hex, 14)), 0)

@@ -17,7 +17,6 @@ static uint8_t packet[PACKET_SIZE];
 /* The present command: it is offered in every turn until its status is set, so its reply is made once and kept. */
 static bool at_work;
 static struct reply reply;
-static size_t put_in; /* how much of the reply the socket has */
 
 bool firmware_start(void) {
     usb_empty_both();
@@ -62,7 +61,6 @@ static uint32_t wanted(void) {
 /* If the host wants fewer bytes than the reply has, nothing of the reply goes out. */
 static void begin(uint8_t lun, const uint64_t *command) {
     at_work = true;
-    put_in = 0;
     reply = commands_reply(lun, command);
     if (reply.length > wanted()) {
         reply.length = 0;
@@ -75,12 +73,13 @@ static void begin(uint8_t lun, const uint64_t *command) {
    the recorder's. The socket fills up with FFh what is missing, and only a true figure keeps the host from reading that as
    entries. */
 static void carry_on(void) {
+    uint32_t put_in = souk_put_in(record); /* how much of the reply the socket has: it counts anew with each command */
     if (put_in < reply.length) {
-        uint64_t word = souk_write_data(record, sizeof record, io, sizeof io, reply.bytes + put_in, reply.length - put_in);
-        put_in += souk_count(word);
+        (void)souk_write_data(record, sizeof record, io, sizeof io, reply.bytes + put_in, reply.length - put_in);
+        put_in = souk_put_in(record);
     }
     if (put_in == reply.length) {
-        uint32_t answer = souk_set_status(record, sizeof record, io, sizeof io, reply.status, (uint32_t)put_in);
+        uint32_t answer = souk_set_status(record, sizeof record, io, sizeof io, reply.status, put_in);
         if (answer == SOUK_DONE) at_work = false;
     }
 }

@@ -52,11 +52,12 @@
  *   - only offer commands of exactly 31 bytes. The polls also take longer messages, and then the bytes after the wrapper go
  *     back to the host before the data. With P 32 or 64 a wrapper is one packet: in states 0 and 3 ask souk_verdict about
  *     'one', and if it says SOUK_INVALID offer 31 zeros in its place. Both endpoints are then stalled, as the standard says;
- *   - put in at most L bytes for one command (SOUK_AT_DECLARED): more would go out;
+ *   - put in at most L bytes for one command (SOUK_AT_DECLARED): more would go out. souk_put_in counts them: the call after
+ *     which it is above L is the one that made the read-out too long;
  *   - put in all that fits before each poll: with less than P left, what is there goes out at once as a short packet, and a
  *     short packet ends the host's read;
- *   - then give the status, with the number of bytes truly put in as the figure. The host learns from the residue where the
- *     filler starts. If the figure is too large, filler counts as data.
+ *   - then give the status, with the number of bytes truly put in, souk_put_in, as the figure. The host learns from the
+ *     residue where the filler starts. If the figure is too large, filler counts as data.
  *
  * THE STATES (souk_state; arrows are followed within one poll; reset and the request FF lead from every state to 0)
  *
@@ -110,7 +111,7 @@ extern "C" {
 #endif
 
 enum {
-    SOUK_RECORD_SIZE = 52,
+    SOUK_RECORD_SIZE = 56,
     SOUK_BLOCK_SIZE = 16,     /* a command block as souk_command shows it */
     SOUK_COMMAND_NUMBERS = 6, /* a decoded command: its kind and up to five fields */
     SOUK_IO_SMALLEST = 31,
@@ -238,7 +239,8 @@ enum souk_record {
     SOUK_AT_BLOCK_LENGTH = 27,  /* 1: 0 before the first wrapper, then 1 to 16 */
     SOUK_AT_TAG = 28,           /* 4 */
     SOUK_AT_DECLARED = 32,      /* 4: L, the length that the host declared */
-    SOUK_AT_BLOCK = 36          /* 16: the command block */
+    SOUK_AT_BLOCK = 36,         /* 16: the command block */
+    SOUK_AT_PUT_IN = 52         /* 4: bytes put in since the wrapper: souk_put_in */
 };
 
 /* ---- The parts of a 64-bit result. A part that a call does not give is 0. */
@@ -292,10 +294,21 @@ static inline uint32_t souk_number(const uint8_t *record, size_t at) {
            (uint32_t)record[at + 3] << 24;
 }
 
+/* How many bytes the firmware has put in since the wrapper: what souk_write_data took, and all of src for which
+   souk_try_write_data_all answered 0. Filler, status and refused calls do not count. It starts at 0 with each wrapper, and
+   whenever state 0 is entered. At 0xFFFFFFFF it stops.
+   Which call made this read-out too long? Look after each write call: it is the one after which this is above L
+   (SOUK_AT_DECLARED).
+   In states 4 and 6, this less the bytes sent since the wrapper is what is unread in io: if nothing was unread after the
+   wrapper, as long as no filler was added, and unless the count has stopped. */
+static inline uint32_t souk_put_in(const uint8_t *record) {
+    return souk_number(record, SOUK_AT_PUT_IN);
+}
+
 /* ---- The calls. Every call that takes a record, except souk_create, first answers 10 if the record is broken. */
 
-/* Makes a new device in the record's 52 bytes, whatever they were. Answers 0; or 2, 5, 8, 9, tested in this order; then 10 if
-   the record does not have 52 bytes.
+/* Makes a new device in the record's 56 bytes, whatever they were. Answers 0; or 2, 5, 8, 9, tested in this order; then 10 if
+   the record does not have 56 bytes: a firmware that was compiled with an older header has fewer.
    packet_size  P: 8, 16, 32 or 64
    max_lun      the highest unit number, 0 to 15: 0 for one disk
    size         the length of io
@@ -326,7 +339,7 @@ uint64_t souk_write_data(uint8_t *record, size_t record_len, uint8_t *io, size_t
                          size_t src_len);
 
 /* Puts in all of src, or puts in nothing and answers 1. What is left does not limit it: if more than L is put in, more than L
-   would go out. Answers 0, 1, 3, 10.
+   would go out, and souk_put_in tells. Answers 0, 1, 3, 10.
    After answer 1 the same call succeeds once polls have sent at least souk_missing bytes. If a poll answers 4 before that, it
    has to be given more first. src without its last souk_missing bytes fits at once. */
 uint64_t souk_try_write_data_all(uint8_t *record, size_t record_len, uint8_t *io, size_t io_len, const uint8_t *src,

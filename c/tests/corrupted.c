@@ -1,8 +1,8 @@
 /* Corrupted records. A record is in the firmware's memory, and a stray pointer can write into it. Whatever the record then
    holds, every call has to answer, and has to refuse it with 10 exactly if document 01 calls it broken.
    Sixteen good records are reached by polls: P 8 and 64, in every state that a device can be left in. Then each byte of each is
-   set to each value, and each is lent with each wrong length up to 60. Records of any bytes and any length are added, and good
-   ones with several bytes changed.
+   set to each value, and each is lent with each wrong length up to 60. What it counts as put in is set to numbers near the end
+   of that count. Records of any bytes and any length are added, and good ones with several bytes changed.
    Each record goes to every call that takes one. Every call is tested by lending.h, and this is tested besides:
      - a broken record, a wrong length of block or command, or another number than 0 or 1 told, gives 10 and nothing else;
      - any other record gives another answer, and is not broken afterwards.
@@ -32,7 +32,7 @@ static bool status_is_out_of_place(unsigned state, bool present) {
 }
 
 static bool broken(const uint8_t *r, size_t r_length, size_t io_length) {
-    if (r_length != 52) return true;
+    if (r_length != 56) return true;
     if (souk_number(r, 4) != io_length) return true;
     if (violates_a_creation_rule(r[0], r[1], souk_number(r, 4))) return true;
     if (souk_number(r, 8) > souk_number(r, 12) || souk_number(r, 12) > souk_number(r, 4)) return true;
@@ -234,6 +234,20 @@ static uint64_t set_each_byte(const struct good *g) {
     return tried;
 }
 
+/* Every number there is a whole record. From these a write can reach the last number, or would pass it. */
+static uint64_t set_put_in(const struct good *g) {
+    uint64_t tried = 0;
+    for (uint32_t less = 0; less <= LONGEST_WRITE; less++) {
+        struct good corrupted = *g;
+        for (int i = 0; i < 4; i++) corrupted.record[SOUK_AT_PUT_IN + i] = (uint8_t)((0xFFFFFFFF - less) >> 8 * i);
+        snprintf(where, sizeof where, "P %u, state %u, put in 2^32 - 1 - %u", g->record[0], g->record[2], (unsigned)less);
+        require(!broken(corrupted.record, SOUK_RECORD_SIZE, IO_LENGTH), CREATE, "this record", "is broken");
+        try_record(g, corrupted.record, SOUK_RECORD_SIZE);
+        tried++;
+    }
+    return tried;
+}
+
 /* Any bytes of any length: nearly all are broken. */
 static void try_any_bytes(const struct good *g, unsigned which) {
     uint8_t record[LONGEST_RECORD];
@@ -270,7 +284,7 @@ static void try_several_bytes(const struct good *g, unsigned which) {
 }
 
 int main(void) {
-    uint64_t single = 0, lengths = 0;
+    uint64_t single = 0, counts = 0, lengths = 0;
     make_area(RECORD, LONGEST_RECORD);
     make_area(IO, IO_LENGTH);
     make_area(PACKET, SOUK_PACKET_LARGEST);
@@ -286,6 +300,7 @@ int main(void) {
         reach(packet_size, state);
         keep(&good[i]);
         single += set_each_byte(&good[i]);
+        counts += set_put_in(&good[i]);
         lengths += try_each_length(&good[i]);
     }
     for (unsigned i = 0; i < RANDOM_RECORDS; i++) {
@@ -293,8 +308,8 @@ int main(void) {
         if (i % 2) try_any_bytes(g, i);
         else try_several_bytes(g, i);
     }
-    printf("%u good records; %llu with one byte set, %llu of another length, %u random\n", GOOD, (unsigned long long)single,
-           (unsigned long long)lengths, RANDOM_RECORDS);
+    printf("%u good records; %llu with one byte set, %llu with another count, %llu of another length, %u random\n", GOOD,
+           (unsigned long long)single, (unsigned long long)counts, (unsigned long long)lengths, RANDOM_RECORDS);
     printf("answers, each with the calls that gave it:");
     for (unsigned i = 0; i < ANSWERS; i++)
         if (given[i] > 0) printf(" %u: %llu", i, (unsigned long long)given[i]);

@@ -5,6 +5,7 @@
      - a refusal changes nothing;
      - a packet after the bytes sent, and a destination after the bytes read, are kept;
      - with answer 1 nothing is counted, and the bytes missing are those wanted less the room; with others none are missing;
+     - the record counts what was put in: a write adds to it, it is 0 where 0 is entered or a wrapper parsed, else it stays;
      - block and command are kept if no command is shown, offered or decoded;
      - told another number than 0 or 1, a call gives 10 alone;
      - a plain call does what its told form does with 1: each time, that is made too.
@@ -297,6 +298,24 @@ static void require_missing(enum call which) {
     require(souk_count(result) == (overflow ? 0 : result >> 32), which, "the count", "is not the one for this answer");
 }
 
+/* Whether what was put in is counted anew: 0 is entered, where both are unstalled, or a poll in 0 has parsed a wrapper. */
+static bool starts_anew(enum call which) {
+    uint32_t stalls = souk_stalls(result);
+    bool was_in_0 = before[RECORD][start[RECORD] + SOUK_AT_STATE] == SOUK_COMMAND_TRANSFER;
+    bool is_in_0 = lent(RECORD)[SOUK_AT_STATE] == SOUK_COMMAND_TRANSFER;
+    return which == CREATE || stalls == SOUK_STALLS_CLEAR || stalls == SOUK_STALLS_CLEAR_THEN_SET || (was_in_0 && !is_in_0);
+}
+
+/* After a refusal, or a call that does not write the record, require_kept has seen that all of it stayed. */
+static void require_put_in(enum call which) {
+    if (!(calls[which].writes & BIT(RECORD)) || !may_write(souk_answer(result))) return;
+    bool is_write = which == WRITE_DATA || which == TRY_WRITE_DATA_ALL;
+    uint64_t due = (uint64_t)souk_put_in(before[RECORD] + start[RECORD]) + (is_write ? souk_count(result) : 0);
+    if (due > 0xFFFFFFFF) due = 0xFFFFFFFF;
+    if (starts_anew(which)) due = 0;
+    require(souk_put_in(lent(RECORD)) == due, which, "what was put in", "is not counted as it has to be");
+}
+
 /* The call, and what is tested after it. */
 static uint64_t call_alone(enum call which) {
     bool is_told = which == COMMAND_STEP_TOLD || which == DECODE_TOLD;
@@ -308,6 +327,7 @@ static uint64_t call_alone(enum call which) {
             "has to give 10 alone");
     for (enum area a = 0; a < AREAS; a++) require_kept(which, a);
     require_missing(which);
+    require_put_in(which);
     return result;
 }
 

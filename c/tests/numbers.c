@@ -123,6 +123,7 @@ static void new_record(void) {
     BYTE(SOUK_AT_MAX_LUN, MAX_LUN);
     BYTE(SOUK_AT_STATE, SOUK_COMMAND_TRANSFER);
     NUMBER(SOUK_AT_IO_LENGTH, IO_LENGTH);
+    NUMBER(SOUK_AT_PUT_IN, 0);
 }
 
 static void fields_of_a_command(void) {
@@ -144,6 +145,8 @@ static void counters_and_marks(void) {
     same("souk_count of souk_write_data", souk_count(write_data(1000)), 1000);
     NUMBER(SOUK_AT_READ_MARK, WRAPPER);
     NUMBER(SOUK_AT_WRITE_MARK, WRAPPER + 1000);
+    NUMBER(SOUK_AT_PUT_IN, 1000);
+    same("souk_put_in", souk_put_in(record), 1000);
     same("souk_count of souk_poll", souk_count(idle(SOUK_ENDPOINT_READY)), P);
     NUMBER(SOUK_AT_READ_MARK, WRAPPER + P);
     NUMBER(SOUK_AT_LEFT, DECLARED - P);

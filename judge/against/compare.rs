@@ -54,6 +54,7 @@ fn compare(ours: &Seen, rust: &Step) -> Checked {
     match (ours.device, &rust.after) {
         (Some(device), Some(figures)) => {
             same("record", &figures_of(device.record()), figures)?;
+            same("put in", &device.put_in(), &rust.put_in)?;
             compare_shown(device, figures)?;
         }
         (None, None) => {}
@@ -112,9 +113,9 @@ fn figures_of(record: &[u8]) -> Figures {
         direction: ["none", "in", "out"][usize::from(record[layout::DIRECTION])],
         lun: record[layout::LUN],
         block_length: usize::from(record[layout::BLOCK_LENGTH]),
-        block: record[layout::BLOCK..]
+        block: record[layout::BLOCK..][..layout::BLOCK_BYTES]
             .try_into()
-            .expect("the block is the record's end"),
+            .expect("a block has 16 bytes"),
         status: (record[layout::PRESENT] == 1)
             .then(|| (record[layout::STATUS], number(record, layout::RESIDUE))),
     }

@@ -1,4 +1,4 @@
-//! The device: its record of 52 bytes, and the IO buffer that was lent to it.
+//! The device: its record of 56 bytes, and the IO buffer that was lent to it.
 
 use crate::answer::{CreateError, Error};
 use crate::command::{Command, Offer, ScsiCommand};
@@ -7,7 +7,7 @@ use crate::ffi;
 use crate::state::{CommandStatus, State};
 
 /// Bytes of a device record.
-pub const RECORD_LENGTH: usize = 52;
+pub const RECORD_LENGTH: usize = 56;
 
 const PACKET_SIZE: usize = 0;
 const MAX_LUN: usize = 1;
@@ -15,6 +15,7 @@ const STATE: usize = 2;
 const READ_MARK: usize = 8;
 const WRITE_MARK: usize = 12;
 const LEFT: usize = 16;
+const PUT_IN: usize = 52;
 
 /// A Bulk-Only device over a lent IO buffer.
 #[derive(Debug)]
@@ -131,6 +132,41 @@ impl<'a> Device<'a> {
     pub fn unread(&self) -> u32 {
         self.number_at(WRITE_MARK)
             .saturating_sub(self.number_at(READ_MARK))
+    }
+
+    /// Bytes that the firmware put in for the present command: what [`Device::write_data`] took, and all of what
+    /// [`Device::try_write_data_all`] accepted. It is 0 again with the next wrapper, and whenever a command is awaited. At
+    /// `u32::MAX` it stops.
+    ///
+    /// It tells which call made a read-out too long: the one after which it is above the length that the host declared.
+    ///
+    /// ```
+    /// use souklavanh::{Device, Endpoints};
+    ///
+    /// let (mut buffer, mut packet) = ([0; 512], [0; 64]);
+    /// let mut device = Device::new(64, 0, &mut buffer).unwrap();
+    ///
+    /// // The host reads 36 bytes.
+    /// let mut wrapper = [0; 31];
+    /// wrapper[..4].copy_from_slice(b"USBC");
+    /// wrapper[8] = 36;
+    /// wrapper[12] = 0x80;
+    /// wrapper[14..20].copy_from_slice(&[6, 0x12, 0, 0, 0, 36]);
+    /// assert_eq!(device.poll(Endpoints::offering(&wrapper), &mut packet).taken, 1);
+    /// let declared = device.left();
+    ///
+    /// // The second call is the one too many.
+    /// device.try_write_data_all(&[0x41; 20]).unwrap();
+    /// assert!(device.put_in() <= declared);
+    /// device.try_write_data_all(&[0x42; 20]).unwrap();
+    /// assert!(device.put_in() > declared);
+    ///
+    /// // All 40 bytes go out, and still count.
+    /// assert_eq!(device.poll(Endpoints::silent(), &mut packet).sent, 40);
+    /// assert_eq!((device.put_in(), device.unread()), (40, 0));
+    /// ```
+    pub fn put_in(&self) -> u32 {
+        self.number_at(PUT_IN)
     }
 
     /// Makes one poll. The packet buffer must have room for a packet; the bytes sent are put at its front, and the rest of it

@@ -1,6 +1,6 @@
 //! A USB mass-storage Bulk-Only socket over an archive. Every call of the archive is proved against its contract.
 //!
-//! A [`Device`] holds its record of 52 bytes and borrows the IO buffer. It knows no USB stack. The firmware tells each
+//! A [`Device`] holds its record of 56 bytes and borrows the IO buffer. It knows no USB stack. The firmware tells each
 //! [`Device::poll`] what its endpoints would answer ([`Endpoints`]), and does what the [`Poll`] reports: it takes that many
 //! OUT packets off the endpoint, sends the bytes at the front of the packet buffer, and stalls or unstalls both endpoints.
 //!

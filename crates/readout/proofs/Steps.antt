@@ -20,7 +20,7 @@ use Rattle.ring.specs.States.{stateNumber}
 use Rattle.wrapper.specs.declared.Wrapper.{Wrapper}
 use Rattle.device.specs.declared.Device.{Device}
 use Rattle.device.specs.declared.Status.{Status}
-use Rattle.device.specs.Device.{numbersOf, isPresent, withMarks}
+use Rattle.device.specs.Device.{numbersOf, isPresent, withMarks, withPutIn}
 use Rattle.device.specs.Broken.{Whole}
 use Rattle.device.proofs.Wholly.{whole-sound, wrapper-fits, packet-fits, packet-known, packet-bounds}
 use Rattle.answers.specs.Answers.{Answering, answer}
@@ -174,8 +174,8 @@ module _ (w : Wrapper) (p : ℕ) (got put : List ℕ) (s : Socket) (t : Transfer
       (λ n _. unchanged n false)
       (λ counts ff. absurd (clash (sym (ap₂ _&&_ counts ff) ∙ kept)))
 
-  -- A call that changes only the marks of the record.
-  module _ (d : Device) (io : List ℕ) (keeps : withMarks (s .device .marks) d ≡ s .device) (whole : Whole (numbersOf d) (length io)) where
+  -- A call that changes only the marks of the record, and the count of what was put in.
+  module _ (d : Device) (io : List ℕ) (keeps : withPutIn (s .device .putin) (withMarks (s .device .marks) d) ≡ s .device) (whole : Whole (numbersOf d) (length io)) where
     same-state : d .state ≡ s .device .state
     same-state = ap (λ (x : Device). x .state) keeps
 
@@ -231,7 +231,7 @@ module _ (w : Wrapper) (p : ℕ) (got put : List ℕ) (s : Socket) (t : Transfer
       let d : Device = s .device in
       let io : List ℕ = s .io in
       cases (isIn 7 d)
-      (λ in7. read-off (readDataCall d io dst .device) io (read-keeps d io dst) (read-whole d io (t .whole) dst) in7 _ (d .state) refl (t .phase))
+      (λ in7. read-off (readDataCall d io dst .device) io (ap (withPutIn (d .putin)) (read-keeps d io dst)) (read-whole d io (t .whole) dst) in7 _ (d .state) refl (t .phase))
       (λ elsewhere. rw (data-elsewhere 7 d io dst _ (t .whole) elsewhere) (unchanged (answer 3) false))
 
   write-steps : (src : List ℕ) → Steps w p got put s (accepts (write src) s) (served (write src) s) (shows (write src) s)

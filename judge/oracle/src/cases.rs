@@ -1,6 +1,6 @@
 //! Bench files made by hand: every case of document 01 that a bench file can show, every chain,
 //! every answer, every known difference from BOT in its smallest form, what demand 3 would be
-//! without each of its premises, and how much room is missing.
+//! without each of its premises, how much room is missing, and what the firmware has put in.
 
 use crate::benchfile::{InAnswer, LONGEST, OutAnswer};
 use crate::damage;
@@ -44,7 +44,8 @@ pub fn all() -> Vec<Case> {
 /// These came after the random files had been picked. If they counted for the picking, others would be picked now, and old files
 /// would be gone.
 pub fn added() -> Vec<Case> {
-    missing().into_iter().map(good_file).collect()
+    let added = [missing(), put_in()].into_iter().flatten();
+    added.map(good_file).collect()
 }
 
 type Named = (String, Script);
@@ -1218,6 +1219,95 @@ fn missing() -> Vec<Named> {
                 .write(&counted(32))
                 .write_all(&[7; 10_032])
                 .write_all(&[]),
+        ),
+    ]
+}
+
+/// The status of a command whose five bytes are sent.
+fn closed(script: Script) -> Script {
+    script.status(0, 5).poll()
+}
+
+/// What the firmware has put in since the wrapper. No line shows the count: `--show` does.
+fn put_in() -> Vec<Named> {
+    // Both resets; 3 to 0 with OUT busy and failing; 3 through 0 to 4, to 1, and to 7 where room is missing.
+    const INTO_0: [fn(Script) -> Script; 7] = [
+        Script::reset,
+        |script| script.control(0xA1, 0xFF),
+        |script| closed(script).poll(),
+        |script| closed(script).out_answers(OutAnswer::Error(9)),
+        |script| closed(script).wrapper(reading(1)).reset(),
+        |script| closed(script).wrapper(bad_signature()).reset(),
+        |script| closed(script).packet(&[writing(100).bytes(), counted(33)].concat()),
+    ];
+    vec![
+        named(
+            "put-in-70-for-l-2-leaves-6-unread",
+            create(64, 0, 128)
+                .wrapper(reading(2))
+                .write_all(&counted(70))
+                .polls(2)
+                .status(0, 2)
+                .polls(2),
+        ),
+        named(
+            "put-in-passes-l-with-the-second-write-data",
+            create(8, 0, 64)
+                .wrapper(reading(10))
+                .write(&counted(10))
+                .write(&counted(4))
+                .polls(2),
+        ),
+        named(
+            "put-in-40-though-calls-between-are-refused",
+            create(8, 0, 32)
+                .wrapper(reading(30))
+                .write_all(&counted(20))
+                .write_all(&counted(13))
+                .write_all(&counted(12))
+                .write(&counted(1))
+                .poll()
+                .write(&counted(20))
+                .write_all(&counted(1))
+                .polls(4)
+                .write_all(&counted(1)),
+        ),
+        named(
+            "put-in-behind-the-status-counts-while-4-lasts",
+            create(8, 0, 64)
+                .wrapper(reading(10))
+                .write(&counted(4))
+                .status(0, 4)
+                .write(&counted(4))
+                .write_all(&counted(3))
+                .poll()
+                .write_all(&counted(1))
+                .polls(3),
+        ),
+        named(
+            "put-in-62-behind-2-bytes-that-came-with-the-wrapper",
+            create(64, 0, 128)
+                .packet(&[reading(64).bytes(), vec![0xAB, 0xCD]].concat())
+                .write_all(&counted(62))
+                .poll(),
+        ),
+        named(
+            "put-in-5-for-l-4-behind-a-wrapper-kept-by-a-reset",
+            create(64, 0, 128)
+                .wrapper(writing(64))
+                .packet(&[reading(4).bytes(), vec![0xAB]].concat())
+                .reset()
+                .packet(&[])
+                .write_all(&counted(5))
+                .poll(),
+        ),
+        named(
+            "put-in-is-0-again-by-every-way-into-state-0",
+            INTO_0
+                .into_iter()
+                .fold(create(64, 0, 64), |script, into_0| {
+                    into_0(script.wrapper(reading(5)).write(&counted(5)).poll())
+                }),
         ),
     ]
 }

@@ -6,6 +6,7 @@
 use crate::benchfile::{Event, Offers, OutAnswer};
 use crate::endpoints::{ScriptedBus, Seen};
 use crate::panics;
+use crate::putin::PutIn;
 use usb_device::UsbError;
 use usb_device::bus::UsbBusAllocator;
 use usb_device::class::{ControlIn, UsbClass};
@@ -21,6 +22,7 @@ pub struct Device<'a> {
     bus: &'a ScriptedBus,
     scsi: Scsi<BulkOnly<'a, ScriptedBus, Vec<u8>>>,
     packet_size: usize,
+    put_in: PutIn,
 }
 
 /// What one event showed, in the terms of a `bench` line.
@@ -95,6 +97,7 @@ impl<'a> Device<'a> {
             bus: allocator.bus(),
             scsi,
             packet_size: usize::from(packet_size),
+            put_in: PutIn::default(),
         })
     }
 
@@ -106,7 +109,19 @@ impl<'a> Device<'a> {
         self.scsi.peek_transport().peek_io()
     }
 
+    /// The bytes that the firmware has put in since the wrapper.
+    pub fn put_in(&self) -> u32 {
+        self.put_in.0
+    }
+
     pub fn apply(&mut self, event: &Event) -> Outcome {
+        let before = self.figures();
+        let outcome = self.run(event);
+        self.put_in = self.put_in.after(event, &before, &outcome, &self.figures());
+        outcome
+    }
+
+    fn run(&mut self, event: &Event) -> Outcome {
         match event {
             Event::Create { .. } => unreachable!("the file's rules let no second creation through"),
             Event::Poll(offers) => self.poll(offers),

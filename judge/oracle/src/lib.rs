@@ -23,6 +23,7 @@ pub mod host;
 pub mod lines;
 pub mod panics;
 pub mod printed;
+pub mod putin;
 pub mod reachable;
 pub mod reached;
 pub mod rng;

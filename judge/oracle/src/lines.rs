@@ -22,6 +22,8 @@ pub struct Step<'a> {
     pub before: Option<Figures>,
     pub outcome: &'a Outcome,
     pub after: Option<Figures>,
+    /// The bytes that the firmware has put in since the wrapper, which the Rust does not count.
+    pub put_in: u32,
     pub io: &'a [u8],
 }
 
@@ -81,6 +83,7 @@ impl<'a> Run<'a> {
             before,
             outcome: &outcome,
             after: self.device.as_ref().map(Device::figures),
+            put_in: self.device.as_ref().map_or(0, Device::put_in),
             io: self.device.as_ref().map_or(&[], |device| device.io()),
         };
         line(&mut self.text, self.index, &step);

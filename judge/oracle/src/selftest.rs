@@ -1,15 +1,17 @@
 //! Faults on purpose. Each must end the program with a message and a nonzero exit; checks/oracle runs
 //! them all, so that it is noticed if the oracle no longer sees faults.
 
-use crate::benchfile::{InAnswer, Offers, OutAnswer};
+use crate::benchfile::{Event, InAnswer, Offers, OutAnswer};
+use crate::device::{Device, Outcome};
 use crate::endpoints::ScriptedBus;
 use crate::generator;
 use crate::lines;
 use crate::panics;
+use crate::putin::PutIn;
 use crate::script::create;
 use usb_device::endpoint::{Endpoint, In, Out};
 use usbd_storage::subclass::scsi::peek::peek_parse_cb;
-use usbd_storage::transport::bbb::peek::Buffer;
+use usbd_storage::transport::bbb::peek::{Buffer, Figures};
 
 const PACKET_SIZE: u16 = 8;
 
@@ -49,6 +51,15 @@ const FAULTS: &[(&str, Fault)] = &[
     // Eight bytes fit exactly.
     ("an overflow with room enough", |_| {
         Buffer::new(vec![0; 8]).peek_missing(8);
+    }),
+    ("state 0 was entered without an unstall", |_| {
+        count(&Event::Reset, 4, 0);
+    }),
+    ("bytes put in before the wrapper", |_| {
+        count(&Event::Poll(silent()), 0, 1);
+    }),
+    ("a write call took another number of bytes", |_| {
+        count(&Event::WriteData(vec![0]), 4, 4);
     }),
     // A panic that is an answer of another call, but not of this one.
     ("cb.is_empty()", |_| {
@@ -93,6 +104,30 @@ fn write_packets(ends: &Ends, count: usize, length: usize) {
     for _ in 0..count {
         let written = ends.input.write(&vec![0; length]);
         assert_eq!(written, Ok(length), "IN takes every packet");
+    }
+}
+
+/// One byte was put in before this event, which goes from one state to another. It says a count of 1, but no mark has moved.
+fn count(event: &Event, from: u8, to: u8) {
+    let allocator = lines::allocator();
+    let Ok(device) = Device::create(&allocator, PACKET_SIZE, 0, 31) else {
+        return;
+    };
+    let in_state = |state| Figures {
+        state,
+        ..device.figures()
+    };
+    let outcome = Outcome {
+        count: 1,
+        ..Outcome::answered(0)
+    };
+    PutIn(1).after(event, &in_state(from), &outcome, &in_state(to));
+}
+
+fn silent() -> Offers {
+    Offers {
+        in_answer: InAnswer::Accepts,
+        out: [OutAnswer::Busy, OutAnswer::Busy],
     }
 }
 

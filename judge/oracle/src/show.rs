@@ -28,7 +28,7 @@ pub fn step(text: &mut String, step: &Step) {
         write!(text, "\n  command {words}").expect("a string");
     }
     match &step.after {
-        Some(figures) => record(text, figures, step.io),
+        Some(figures) => record(text, figures, step.put_in, step.io),
         None => text.push_str("\n  no device"),
     }
     text.push('\n');
@@ -81,7 +81,7 @@ pub fn event(text: &mut String, event: &Event) {
     .expect("a string");
 }
 
-fn record(text: &mut String, figures: &Figures, io: &[u8]) {
+fn record(text: &mut String, figures: &Figures, put_in: u32, io: &[u8]) {
     let Figures {
         read_mark,
         write_mark,
@@ -89,6 +89,7 @@ fn record(text: &mut String, figures: &Figures, io: &[u8]) {
         ..
     } = figures;
     write!(text, "\n  marks read {read_mark} write {write_mark}").expect("a string");
+    write!(text, "\n  put-in {put_in}").expect("a string");
     text.push_str("\n  wrapper ");
     wrapper(text, figures);
     match status {

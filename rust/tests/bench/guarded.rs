@@ -306,7 +306,7 @@ impl Guarded {
                 && word.carried() == record[layout::LUN]
                 && word.count() == u32::from(record[layout::BLOCK_LENGTH])
                 && block.guards_stand()
-                && block.all() == &record[layout::BLOCK..],
+                && block.all() == &record[layout::BLOCK..][..layout::BLOCK_BYTES],
             "the command that is shown is not the record's",
         )
     }

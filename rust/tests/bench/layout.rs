@@ -1,6 +1,6 @@
-//! Where each field stands in a record. The safe wrapper has four of these places too; they are written down here a second time.
+//! Where each field stands in a record. The safe wrapper has some of these places too; they are written down here a second time.
 
-pub const RECORD: usize = 52;
+pub const RECORD: usize = 56;
 pub const BLOCK_BYTES: usize = 16;
 
 pub const PACKET: usize = 0;
@@ -19,6 +19,7 @@ pub const BLOCK_LENGTH: usize = 27;
 pub const TAG: usize = 28;
 pub const DECLARED: usize = 32;
 pub const BLOCK: usize = 36;
+pub const PUT_IN: usize = 52;
 
 pub fn number(record: &[u8], at: usize) -> u32 {
     let bytes = [0, 1, 2, 3].map(|index| record[at + index]);

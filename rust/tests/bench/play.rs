@@ -146,7 +146,8 @@ fn require_same(device: &Device, guarded: &Guarded) -> Checked {
     require(
         device.state().map(State::number) == Some(record[layout::STATE])
             && device.left() == number(record, layout::LEFT)
-            && device.unread() == number(record, layout::WRITE) - number(record, layout::READ),
-        "state, left or unread are not the record's",
+            && device.unread() == number(record, layout::WRITE) - number(record, layout::READ)
+            && device.put_in() == number(record, layout::PUT_IN),
+        "state, left, unread or what was put in are not the record's",
     )
 }

@@ -52,7 +52,8 @@ pub static RULES: &[Rule] = &[
     lent("one byte more is lent", 1, 0),
     lent("the record is one byte short", 0, -1),
     lent("the record is one byte long", 0, 1),
-    lent("the record has no bytes", 0, -52),
+    lent("the record ends before the last field", 0, -4),
+    lent("the record has no bytes", 0, -56),
     set("max LUN 16", &[(MAX_LUN, 16)]),
     set("max LUN 255", &[(MAX_LUN, 255)]),
     set(
