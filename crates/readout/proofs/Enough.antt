@@ -30,7 +30,7 @@ use Rattle.readout.specs.History.{Socket, Event, poll, status, write, wr
 use Rattle.readout.specs.Demand.{Story, toWrapper, afterWrapper, beforeStatus, afterStatus, message, L, firmware, waitsIn, Earlier, Later, Demand}
 use Rattle.readout.proofs.Demand.{demand}
 
-abbrev WholeIn : Socket → Type 0
+abbrev pub WholeIn : Socket → Type 0
 WholeIn s = Whole (numbersOf (s .device)) (length (s .io))
 
 -- ---- a broken record
@@ -63,7 +63,7 @@ whole-follows t valid =
 -- ---- a whole record
 
 -- A whole record stays whole.
-stays-whole : (e : Event) (s : Socket) → WholeIn s → WholeIn (next e s)
+pub stays-whole : (e : Event) (s : Socket) → WholeIn s → WholeIn (next e s)
 unfolding shows
 stays-whole (poll g) s w = call-whole (s .device) (s .io) g w
 stays-whole (status f) s w = status-whole (s .device) (s .io) f w

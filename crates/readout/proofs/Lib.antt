@@ -15,6 +15,8 @@
 -- proofs.Premises     what is supposed, as tests; it can be met
 -- proofs.Enough       ten of the twelve premises are enough
 -- proofs.Needed       each of the ten is needed
+-- proofs.Flow         what each event does in 4 and 6 to the unread bytes and to the count of what was put in
+-- proofs.Account      request 7 of document 02: the account of a read-out
 -- proofs.Computing    what cases compute with
 -- proofs.Cases        the cases of specs/Cases.antt hold
 pub mod Ceiling
@@ -34,5 +36,7 @@ pub mod Called
 pub mod Premises
 pub mod Enough
 pub mod Needed
+pub mod Flow
+pub mod Account
 pub mod Computing
 pub mod Cases
