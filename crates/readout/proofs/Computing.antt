@@ -4,7 +4,8 @@ use Rattle.bbb.proofs.Computing as bbb
 use Rattle.calls.proofs.Computing as calls
 use Rattle.readout.specs.History.{shows, run, all, isServed, isPoll, served, servedIn}
 use Rattle.readout.specs.Demand.{ceiling, filledWith}
+use Rattle.readout.specs.Account.{filledBy, filledIn}
 
 unfoldable pub computing : Unit {0}
-unfolding flatten shows run all isServed isPoll served servedIn ceiling filledWith bbb.computing calls.computing
+unfolding flatten shows run all isServed isPoll served servedIn ceiling filledWith filledBy filledIn bbb.computing calls.computing
 computing = tt

@@ -17,6 +17,7 @@
 -- proofs.Needed       each of the ten is needed
 -- proofs.Flow         what each event does in 4 and 6 to the unread bytes and to the count of what was put in
 -- proofs.Account      request 7 of document 02: the account of a read-out
+-- proofs.Reckoned     it can be met, and all that is supposed is needed
 -- proofs.Computing    what cases compute with
 -- proofs.Cases        the cases of specs/Cases.antt hold
 pub mod Ceiling
@@ -38,5 +39,6 @@ pub mod Enough
 pub mod Needed
 pub mod Flow
 pub mod Account
+pub mod Reckoned
 pub mod Computing
 pub mod Cases

@@ -1,4 +1,4 @@
--- Document 01's cases of demand 3, and cases of ours: the stories, and the tables of what they show. proofs/Cases.antt has the statement
+-- Document 01's cases of demand 3, and cases of ours, also of request 7 of 02: the stories, and the tables of what they show. proofs/Cases.antt has the statement
 -- that each case holds. Assumes nothing: these are definitions.
 use mathlib.Core.Bool.{true, false}
 use mathlib.Core.List.{List, [], _∷_, _++_}
@@ -7,8 +7,9 @@ use lib.ListN.{length, replicate, take, drop}
 use Rattle.fields.specs.Case.{Case, case}
 use Rattle.device.specs.Create.{fixed, newDevice}
 use Rattle.bbb.specs.Poll.{Given, given}
-use Rattle.readout.specs.History.{Socket, socket, Event, poll, status, write, read, commandStep, Shows, shows, next, all}
+use Rattle.readout.specs.History.{Socket, socket, Event, poll, status, write, writeAll, read, commandStep, Shows, shows, next, all}
 use Rattle.readout.specs.Demand.{Story, afterStatus, ended, L, R, pollsDue, firmware, host, servedSince, crossed, ceiling, theData, theStatus}
+use Rattle.readout.specs.Account.{Readout, reached, count, accepted, sent, unreadAt, filled}
 
 -- ---- the polls
 
@@ -25,7 +26,7 @@ abbrev pub sending : ℕ → Given
 sending n = given (replicate n 7) [] [] (record { first = 1; second = 1; write = 0 })
 
 -- A poll with a packet buffer of `n` bytes of 7 in which every endpoint is busy.
-abbrev busy : ℕ → Given
+abbrev pub busy : ℕ → Given
 busy n = given (replicate n 7) [] [] (record { first = 1; second = 1; write = 1 })
 
 -- ---- the stories
@@ -40,7 +41,7 @@ abbrev pub cbw : ℕ → ℕ → ℕ → List ℕ
 cbw tag flags l = 0x55 ∷ 0x53 ∷ 0x42 ∷ 0x43 ∷ tag ∷ 0 ∷ 0 ∷ 0 ∷ l ∷ 0 ∷ 0 ∷ 0 ∷ flags ∷ 0 ∷ 6 ∷ replicate 16 0
 
 -- A wrapper to the host with tag 1, which declares `l` bytes. Where `l` is 0 the flags do not count.
-abbrev cbwToHost : ℕ → List ℕ
+abbrev pub cbwToHost : ℕ → List ℕ
 cbwToHost l = cbw 1 0x80 l
 
 -- At P 8 the 31 bytes of a wrapper, `bytes`, come in packets of 8, 8, 8 and 7 bytes. These are the polls of the first three, and between
@@ -115,6 +116,46 @@ full8 = record {
   lastStatus = record { status = 0; figure = 20 };
   after = write (17 ∷ 18 ∷ 19 ∷ 20 ∷ []) ∷ poll (sending 8) ∷ poll (busy 8) ∷ poll (sending 8) ∷ [];
 }
+
+-- ---- read-outs, for request 7 of 02
+
+-- A poll with a packet buffer of `n` bytes of 7, in which OUT offers one packet, `packet`, and IN is busy.
+abbrev pub takingBusy : ℕ → List ℕ → Given
+takingBusy n packet = given (replicate n 7) packet [] (record { first = 0; second = 1; write = 1 })
+
+-- A read-out of a new device with P 64 and an IO buffer of 128 bytes, whose wrapper declares L = 2.
+abbrev pub read2 : List Event → Readout
+read2 since = record { start = newSocket 64 128; completing = taking 64 (cbwToHost 2); since = since }
+
+-- The firmware puts in 70 bytes at once, 68 more than L. A packet goes out.
+unfoldable pub tooLong : Readout
+tooLong = read2 (writeAll (replicate 70 1) ∷ poll (sending 64) ∷ [])
+
+-- The firmware puts in one byte with `write_data`, tries 128 more, for which one byte of room is missing, and sets the status. It puts in one
+-- byte more, which is taken behind the status.
+unfoldable pub byBoth : Readout
+byBoth = read2 (write (1 ∷ []) ∷ writeAll (replicate 128 2) ∷ status (record { status = 0; figure = 2 }) ∷ write (3 ∷ []) ∷ [])
+
+-- The firmware puts in one byte of two and sets the status. The poll fills in the other, and IN is busy; the next poll sends both.
+unfoldable pub halfFilled : Readout
+halfFilled = read2 (write (1 ∷ []) ∷ status (record { status = 0; figure = 1 }) ∷ poll (busy 64) ∷ [])
+
+unfoldable pub halfSent : Readout
+halfSent = read2 (write (1 ∷ []) ∷ status (record { status = 0; figure = 1 }) ∷ poll (busy 64) ∷ poll (sending 64) ∷ [])
+
+-- What the account of the read-out `r` speaks of: the count, the bytes accepted, sent, filled in and unread.
+abbrev figures : Readout → List ℕ
+figures r = count r ∷ accepted r ∷ sent r ∷ filled r ∷ unreadAt (reached r) ∷ []
+
+-- Cases of request 7.
+unfoldable pub accounts : List Case
+accounts =
+    case (figures (read2 [])) (0 ∷ 0 ∷ 0 ∷ 0 ∷ 0 ∷ [])
+    ∷ case (figures tooLong) (70 ∷ 70 ∷ 64 ∷ 0 ∷ 6 ∷ [])
+    ∷ case (figures byBoth) (2 ∷ 2 ∷ 0 ∷ 0 ∷ 2 ∷ [])
+    ∷ case (figures halfFilled) (1 ∷ 1 ∷ 0 ∷ 1 ∷ 2 ∷ [])
+    ∷ case (figures halfSent) (1 ∷ 1 ∷ 2 ∷ 1 ∷ 0 ∷ [])
+    ∷ []
 
 -- ---- what they show
 
