@@ -14,7 +14,7 @@ use Rattle.wrapper.specs.declared.status.CommandStatus.the-variants.{Passed}
 use Rattle.device.specs.declared.Device.{Device}
 use Rattle.device.specs.declared.Status.{Status}
 use Rattle.device.specs.declared.Status.the-variants.{Absent, Present}
-use Rattle.device.specs.Device.{rebuilt}
+use Rattle.device.specs.Device.{rebuilt, puttingIn}
 use Rattle.device.specs.Create.{fixed, newDevice}
 use Rattle.bbb.specs.Poll.{Given, given, Polling, pollCall}
 
@@ -125,6 +125,16 @@ ours =
     -- In 7, once four bytes are read there is room for a packet; after three a byte is still missing.
     ∷ case (pollAnswered (deviceIn DataTransferFromHost Absent 4 36 20) 0 0 0 .answer) (answer 0)
     ∷ case (pollAnswered (deviceIn DataTransferFromHost Absent 3 36 20) 0 0 0 .answer) (lacking 1)
+    -- 02, request 7: what was put in is counted anew where 0 is entered, whatever the poll answers then, and where 31 bytes are parsed, valid
+    -- or not. Packets, filler and the status leave the count.
+    ∷ case (pollAnswered (puttingIn 9 (deviceIn StatusTransfer passed 5 5 4)) 1 0 0 .device .putin .0) 0
+    ∷ case (pollAnswered (puttingIn 9 (deviceIn StatusTransfer passed 2 5 4)) 0 0 0 .device .putin .0) 9
+    ∷ case (pollCall (puttingIn 9 (newDevice (fixed 64 0 128))) (replicate 128 0) (given (replicate 64 7) (wrapperFromHost 20) [] (record { first = 0; second = 1; write = 0 })) .device .putin .0) 0
+    ∷ case (pollCall (puttingIn 9 (newDevice (fixed 64 0 128))) (replicate 128 0) (given (replicate 64 7) (replicate 31 1) [] (record { first = 0; second = 1; write = 0 })) .device .putin .0) 0
+    ∷ case (pollCall (puttingIn 9 (newDevice (fixed 64 0 128))) (replicate 128 0) (given (replicate 64 7) (replicate 30 1) [] (record { first = 0; second = 1; write = 0 })) .device .putin .0) 9
+    ∷ case (pollAnswered (puttingIn 9 (deviceIn DataTransferToHost Absent 0 8 8)) 0 0 0 .device .putin .0) 9
+    ∷ case (pollAnswered (puttingIn 9 (deviceIn DataTransferToHostEnding passed 6 8 5)) 0 0 0 .device .putin .0) 9
+    ∷ case (pollAnswered (puttingIn 9 (deviceIn DataTransferToHostStatusAwait passed 2 5 0)) 0 0 0 .device .putin .0) 9
     -- 11: the packet buffer is below P, or an offer is above P. 10 is checked before.
     ∷ case (pollCall (deviceIn DataTransferToHost Absent 0 8 8) io (given (replicate 7 7) [] [] (record { first = 0; second = 0; write = 0 })) .answer) (answer 11)
     ∷ case (pollCall (deviceIn DataTransferToHost Absent 0 8 8) io (given (replicate 8 7) [] (replicate 9 1) (record { first = 0; second = 0; write = 0 })) .answer) (answer 11)

@@ -14,7 +14,7 @@ use Rattle.ring.specs.declared.State.{State}
 use Rattle.ring.specs.declared.State.the-variants.{CommandTransfer, CommandTransferInvalid, DataTransferNoData, DataTransferToHost, DataTransferFromHost}
 use Rattle.device.specs.declared.Device.{Device}
 use Rattle.device.specs.declared.Status.the-variants.{Absent, Present}
-use Rattle.device.specs.Device.{rebuilt, withStatus}
+use Rattle.device.specs.Device.{rebuilt, withStatus, puttingIn}
 use Rattle.device.specs.Create.{fixed, newDevice}
 use Rattle.calls.specs.declared.FirmwareStatus.{FirmwareStatus}
 use Rattle.calls.specs.declared.Request.{Request}
@@ -82,6 +82,15 @@ table =
     ∷ case (writeDataAllCall (device DataTransferToHost 5) io (replicate 30 6) .count) 0
     ∷ case (writeDataAllCall (device DataTransferToHost 5) io (replicate 30 6) .device .marks) (at 0 3)
     ∷ case (writeDataAllCall (device DataTransferToHost 5) io (replicate 30 6) .bytes) (2 ∷ 3 ∷ 4 ∷ 4 ∷ replicate 28 5)
+    -- 02, request 7: what was taken is counted, also behind a status; a refused source is not. The largest number stays.
+    ∷ case (writeDataCall (device DataTransferToHost 5) io (6 ∷ 7 ∷ 8 ∷ []) .device .putin .0) 2
+    ∷ case (writeDataAllCall (device DataTransferToHost 5) io (6 ∷ 7 ∷ 8 ∷ []) .device .putin .0) 3
+    ∷ case (writeDataAllCall (withStatus (Present PhaseError (record { 0 = 0 })) (device DataTransferToHost 5)) io (6 ∷ 7 ∷ 8 ∷ []) .device .putin .0) 3
+    ∷ case (writeDataAllCall (puttingIn 9 (device DataTransferToHost 5)) io (replicate 30 6) .device .putin .0) 9
+    ∷ case (writeDataCall (puttingIn 9 (device DataTransferFromHost 5)) io (6 ∷ []) .device .putin .0) 9
+    ∷ case (writeDataAllCall (puttingIn 4294967294 (device DataTransferToHost 5)) io (6 ∷ 7 ∷ 8 ∷ []) .device .putin .0) 4294967295
+    ∷ case (resetCall (puttingIn 9 (device DataTransferToHost 5)) io .device .putin .0) 0
+    ∷ case (controlCall (puttingIn 9 (device DataTransferToHost 5)) io (request 0xA1 0xFE) .device .putin .0) 9
     -- A reset keeps the marks and clears left.
     ∷ case (resetCall (device DataTransferToHost 5) io .device .state) CommandTransfer
     ∷ case (resetCall (device DataTransferToHost 5) io .device .marks) (at 1 4)

@@ -35,7 +35,7 @@ use Rattle.bbb.proofs.After.{P, bufferAfter, firstFor, arrived, read-unread, pa
 use Rattle.calls.specs.Checks.{bufferOf}
 use Rattle.readout.specs.History.{Socket, Event, poll, shows, next, run, all, sentIn, putIn, firstOf, isPoll, Throughout}
 use Rattle.readout.specs.Demand.{waitsIn}
-use Rattle.readout.specs.Account.{Readout, reached, count, accepted, sent, unreadAt, comesTo6, isRefusal, filledBy, filledIn, filled, isToHost, Lasts, Supposed, Account}
+use Rattle.readout.specs.Account.{Readout, reachedBy, countSince, putInSince, sentSince, unreadAt, comesTo6, isRefusal, filledBy, filledIn, filledSince, isToHost, Lasts, SupposedReadout, Account}
 use Rattle.readout.proofs.Transfer.{unreadIn}
 use Rattle.readout.proofs.Rules.{bytesOf, packetsOf}
 use Rattle.readout.proofs.Waiting.{waits-by, apart, From, Reads, idle, short, ripe, ripe-first, by-reading}
@@ -178,7 +178,7 @@ module _ (s : Socket) (g : Given) (waits : waitsIn (s .device .state) ≡ true) 
 
 -- ---- the account
 
-module _ (r : Readout) (u : Supposed r) where
+module _ (r : Readout) (u : SupposedReadout r) where
   abbrev after : Socket
   after = next (poll (r .completing)) (r .start)
 
@@ -197,15 +197,15 @@ module _ (r : Readout) (u : Supposed r) where
   since = carried (r .since) after (stays-whole (poll (r .completing)) (r .start) (begins .0)) (u .lasts .0) (rw starts-at-0 zero-le) (u .lasts .1)
 
   -- The poll itself puts nothing in.
-  put-since : accepted r ≡ length (putIn (r .since) after)
+  put-since : putInSince r ≡ length (putIn (r .since) after)
   unfolding shows all
   put-since = refl
 
-  sent-since : sent r ≡ length (bytesOf first) + length (sentIn (r .since) after)
+  sent-since : sentSince r ≡ length (bytesOf first) + length (sentIn (r .since) after)
   unfolding shows all
   sent-since = length-append (bytesOf first) (sentIn (r .since) after)
 
-  filled-since : filled r ≡ filledIn (r .since) after
+  filled-since : filledSince r ≡ filledIn (r .since) after
   unfolding filledIn
   filled-since = rw (none-filled (r .start) (r .completing) (u .waits)) (zero-add _)
 
@@ -213,16 +213,16 @@ module _ (r : Readout) (u : Supposed r) where
   unfolding shows
   left-over = begins .1 .flow
 
-  counted : count r ≡ min (accepted r) 4294967295
+  counted : countSince r ≡ min (putInSince r) 4294967295
   unfolding run risen
   counted = ap (λ (c : PutIn). c .0) (since .count) ∙ rw (starts-at-0, put-since) (ap (λ (n : ℕ). min n 4294967295) (zero-add _))
 
-  flow : unreadAt (reached r) + sent r ≡ accepted r + filled r
+  flow : unreadAt (reachedBy r) + sentSince r ≡ putInSince r + filledSince r
   unfolding run
-  flow = omega (arith, since .flow, left-over, put-since, sent-since, filled-since, length-unread (bufferOf (reached r .device) (reached r .io)) (whole-sound (numbersOf (reached r .device)) (reached r .io) (since .whole)))
+  flow = omega (arith, since .flow, left-over, put-since, sent-since, filled-since, length-unread (bufferOf (reachedBy r .device) (reachedBy r .io)) (whole-sound (numbersOf (reachedBy r .device)) (reachedBy r .io) (since .whole)))
 
 -- Every read-out that meets what is supposed has its account.
-pub account : (r : Readout) → Supposed r → Account r
+pub account : (r : Readout) → SupposedReadout r → Account r
 account r u = record {
   counted = counted r u;
   flow = flow r u;

@@ -4,11 +4,11 @@
 --     unfilled-needed, below-needed    "before any filling" and "Unless the count has stopped there": without them 02's sentence is false
 -- Assumes nothing.
 use mathlib.Core.Path.{_≡_, refl, sym, ap, _∙_, subst}
-use mathlib.Core.Bool.{true, false, cond}
+use mathlib.Core.Bool.{true}
 use mathlib.Core.List.{List, [], _∷_, _++_}
-use Prim.Native.Nat.{ℕ, zero, suc, _+_, _-_, _*_, _≤_, _<_, min}
+use Prim.Native.Nat.{ℕ, zero, suc, _+_, _-_, _*_, _≤_, _<_}
 use native.Mathlib.Omega.{arith}
-use lib.Dec.{eqb, lit<}
+use lib.Dec.{lit<}
 use lib.ListN.{length, replicate, length-append}
 use borrow.Author.Tests.{eqb-false, ne-eqb, le-leb, leb-true}
 use Rattle.buffer.specs.Buffer.{at}
@@ -17,12 +17,13 @@ use Rattle.wrapper.specs.declared.counters.PutIn.{PutIn}
 use Rattle.wrapper.specs.Counters.{risen}
 use Rattle.wrapper.specs.Wrapper.{wrapperOf}
 use Rattle.device.specs.declared.Status.the-variants.{Absent}
+use Rattle.bbb.specs.Poll.{Given, given}
 use Rattle.device.specs.Create.{fixed}
 use Rattle.calls.specs.Data.{writeAllIn}
 use Rattle.readout.specs.History.{Socket, socket, Event, poll, status, writeAll, shows, next, run, all, sentIn, putIn, isPoll, Throughout}
-use Rattle.readout.specs.Account.{Readout, events, reached, count, accepted, sent, unreadAt, filledBy, filledIn, filled, arrived, isToHost, Lasts, Supposed, Account}
+use Rattle.readout.specs.Account.{Readout, eventsSince, reachedBy, countSince, putInSince, sentSince, unreadAt, filledBy, filledIn, filledSince, arrivedFor, isToHost, Lasts, SupposedReadout, Account}
 use Rattle.readout.specs.Demand.{waitsIn}
-use Rattle.readout.specs.Cases.{taking, sending, busy, newSocket, cbwToHost, takingBusy, read2, tooLong, halfFilled}
+use Rattle.readout.specs.Cases.{taking, sending, newSocket, cbwToHost, read2, tooLong, halfFilled}
 use Rattle.readout.proofs.Computing.{computing}
 use Rattle.readout.proofs.Account.{account}
 
@@ -33,11 +34,11 @@ reckoning = tt
 
 -- ---- it can be met
 
-pub met-tooLong : Supposed tooLong
+pub met-tooLong : SupposedReadout tooLong
 unfolding reckoning tooLong
 met-tooLong = record { waits = refl; nothing = refl; lasts = (refl, (refl, (refl, tt))) }
 
-pub met-halfFilled : Supposed halfFilled
+pub met-halfFilled : SupposedReadout halfFilled
 unfolding reckoning halfFilled
 met-halfFilled = record { waits = refl; nothing = refl; lasts = (refl, (refl, (refl, (refl, tt)))) }
 
@@ -52,15 +53,19 @@ without-waits = record {
   since = [];
 }
 
-pub needed-waits : (length (arrived without-waits) ≡ 31) × Throughout Lasts (events without-waits) (without-waits .start) × (Account without-waits → ⊥)
+pub needed-waits : (length (arrivedFor without-waits) ≡ 31) × Throughout Lasts (eventsSince without-waits) (without-waits .start) × (Account without-waits → ⊥)
 unfolding reckoning without-waits
 needed-waits = (refl, (refl, tt), λ a. eqb-false 31 0 refl (a .counted))
+
+-- A poll with a packet buffer of `n` bytes of 7, in which OUT offers one packet, `packet`, and IN is busy.
+abbrev takingBusy : ℕ → List ℕ → Given
+takingBusy n packet = given (replicate n 7) packet [] (record { first = 0; second = 1; write = 1 })
 
 -- A byte came behind the wrapper, in the same packet, and it is unread: nobody put it in.
 unfoldable pub without-nothing : Readout
 without-nothing = record { start = newSocket 64 64; completing = takingBusy 64 (cbwToHost 2 ++ (0xAB ∷ [])); since = [] }
 
-pub needed-nothing : (waitsIn (without-nothing .start .device .state) ≡ true) × Throughout Lasts (events without-nothing) (without-nothing .start) × (Account without-nothing → ⊥)
+pub needed-nothing : (waitsIn (without-nothing .start .device .state) ≡ true) × Throughout Lasts (eventsSince without-nothing) (without-nothing .start) × (Account without-nothing → ⊥)
 unfolding reckoning without-nothing
 needed-nothing = (refl, (refl, tt), λ a. eqb-false 1 0 refl (a .flow))
 
@@ -68,7 +73,7 @@ needed-nothing = (refl, (refl, tt), λ a. eqb-false 1 0 refl (a .flow))
 unfoldable pub without-lasts : Readout
 without-lasts = read2 (status (record { status = 0; figure = 0 }) ∷ poll (sending 64) ∷ poll (sending 64) ∷ [])
 
-pub needed-lasts : (waitsIn (without-lasts .start .device .state) ≡ true) × (length (arrived without-lasts) ≡ 31) × (Account without-lasts → ⊥)
+pub needed-lasts : (waitsIn (without-lasts .start .device .state) ≡ true) × (length (arrivedFor without-lasts) ≡ 31) × (Account without-lasts → ⊥)
 unfolding reckoning without-lasts
 needed-lasts = (refl, refl, λ a. eqb-false 15 2 refl (a .flow))
 
@@ -76,10 +81,10 @@ needed-lasts = (refl, refl, λ a. eqb-false 15 2 refl (a .flow))
 
 -- "unread bytes .. equal this count less bytes sent"
 abbrev Less : Readout → Type 0
-Less r = unreadAt (reached r) ≡ count r - sent r
+Less r = unreadAt (reachedBy r) ≡ countSince r - sentSince r
 
 -- Half of the data was filled in: two bytes are unread, and one was put in.
-pub unfilled-needed : Supposed halfFilled × (count halfFilled < 4294967295) × (Less halfFilled → ⊥)
+pub unfilled-needed : SupposedReadout halfFilled × (countSince halfFilled < 4294967295) × (Less halfFilled → ⊥)
 unfolding reckoning halfFilled
 unfilled-needed = (met-halfFilled, lit< tt, eqb-false 2 1 refl)
 
@@ -176,11 +181,11 @@ first-lasts : Lasts (poll (taking 64 longest)) (newSocket 64 64) × Lasts (write
 unfolding reckoning
 first-lasts = (refl, refl, refl)
 
-first-arrived : length (arrived stopped) ≡ 31
+first-arrived : length (arrivedFor stopped) ≡ 31
 unfolding reckoning stopped
 first-arrived = refl
 
-met-stopped : Supposed stopped
+met-stopped : SupposedReadout stopped
 unfolding stopped
 met-stopped = record {
   waits = refl;
@@ -198,24 +203,24 @@ first-filled : (filledBy (poll (taking 64 longest)) (newSocket 64 64) ≡ 0) × 
 unfolding reckoning
 first-filled = (refl, refl, refl)
 
-accepted-stopped : accepted stopped ≡ 4294967296
+accepted-stopped : putInSince stopped ≡ 4294967296
 unfolding stopped all
 accepted-stopped =
     rw (first-shows .0, first-shows .2, first-shows .4, once-is)
     (length-append zeros (putIn (rounds 67108862) (between 4294967231 (record { 0 = 64 }))) ∙ ap (λ (n : ℕ). 64 + n) (rest .put))
 
-sent-stopped : sent stopped ≡ 4294967232
+sent-stopped : sentSince stopped ≡ 4294967232
 unfolding stopped all
 sent-stopped =
     rw (first-shows .1, first-shows .3, first-shows .5, once-is)
     (length-append zeros (sentIn (rounds 67108862) (between 4294967231 (record { 0 = 64 }))) ∙ ap (λ (n : ℕ). 64 + n) (rest .out))
 
-filled-stopped : filled stopped ≡ 0
+filled-stopped : filledSince stopped ≡ 0
 unfolding stopped filledIn
 filled-stopped = rw (first-filled .0, first-filled .1, first-filled .2, once-is, rest .none)
 
 -- 64 bytes are unread, and the count is 63 above what was sent.
-pub below-needed : Supposed stopped × (filled stopped ≡ 0) × (Less stopped → ⊥)
+pub below-needed : SupposedReadout stopped × (filledSince stopped ≡ 0) × (Less stopped → ⊥)
 below-needed =
     let a : Account stopped = account stopped met-stopped in
     (met-stopped, filled-stopped, λ less. omega (arith, a .counted, a .flow, less, accepted-stopped, sent-stopped, filled-stopped))

@@ -26,24 +26,24 @@ pub record Readout : Type 0 where
   pub since : List Event
 
 -- The events of the read-out `r`, with the poll that parses its wrapper.
-abbrev pub events : Readout → List Event
-events r = poll (r .completing) ∷ r .since
+abbrev pub eventsSince : Readout → List Event
+eventsSince r = poll (r .completing) ∷ r .since
 
 -- The socket to which the read-out `r` has come.
-abbrev pub reached : Readout → Socket
-reached r = run (events r) (r .start)
+abbrev pub reachedBy : Readout → Socket
+reachedBy r = run (eventsSince r) (r .start)
 
 -- "this count": what the record of the read-out `r` says that the firmware put in.
-abbrev pub count : Readout → ℕ
-count r = reached r .device .putin .0
+abbrev pub countSince : Readout → ℕ
+countSince r = reachedBy r .device .putin .0
 
 -- "the bytes accepted by both write calls since the wrapper": how many they are in the read-out `r`, by the calls themselves.
-abbrev pub accepted : Readout → ℕ
-accepted r = length (putIn (events r) (r .start))
+abbrev pub putInSince : Readout → ℕ
+putInSince r = length (putIn (eventsSince r) (r .start))
 
 -- "bytes sent": how many bytes the host got in the read-out `r`.
-abbrev pub sent : Readout → ℕ
-sent r = length (sentIn (events r) (r .start))
+abbrev pub sentSince : Readout → ℕ
+sentSince r = length (sentIn (eventsSince r) (r .start))
 
 -- How many bytes are unread at the socket `s`.
 abbrev pub unreadAt : Socket → ℕ
@@ -74,8 +74,8 @@ filledIn [] s = 0
 filledIn (e ∷ h) s = filledBy e s + filledIn h (next e s)
 
 -- How many bytes of 0xFF were filled in during the read-out `r`.
-abbrev pub filled : Readout → ℕ
-filled r = filledIn (events r) (r .start)
+abbrev pub filledSince : Readout → ℕ
+filledSince r = filledIn (eventsSince r) (r .start)
 
 -- ---- what is supposed
 
@@ -89,30 +89,30 @@ Lasts e s = isToHost (next e s .device .state) ≡ true
 
 -- The bytes that are unread in the read-out `r` when its wrapper is parsed: those that are unread at its start, and the packet that the poll
 -- takes first.
-abbrev pub arrived : Readout → List ℕ
-arrived r = unreadBytes (bufferOf (r .start .device) (r .start .io)) ++ firstOf (shows (poll (r .completing)) (r .start) .taken)
+abbrev pub arrivedFor : Readout → List ℕ
+arrivedFor r = unreadBytes (bufferOf (r .start .device) (r .start .io)) ++ firstOf (shows (poll (r .completing)) (r .start) .taken)
 
 -- What is supposed of the read-out `r`. "for a wrapper to the host": the device waits in 0 or in 3, and the poll leaves it in 4, which only a
 -- wrapper to the host does. "after whose parsing nothing was unread": the 31 bytes of the wrapper were all. "in states 4 and 6": the device
 -- is in them after this poll, and after each event since.
-pub record Supposed (r : Readout) : Type 0 where
+pub record SupposedReadout (r : Readout) : Type 0 where
   pub waits : waitsIn (r .start .device .state) ≡ true
-  pub nothing : length (arrived r) ≡ 31
-  pub lasts : Throughout Lasts (events r) (r .start)
+  pub nothing : length (arrivedFor r) ≡ 31
+  pub lasts : Throughout Lasts (eventsSince r) (r .start)
 
 -- ---- what is promised
 
 -- "before any filling", and "Unless the count has stopped there".
 pub record Counting (r : Readout) : Type 0 where
-  pub unfilled : filled r ≡ 0
-  pub below : count r < 4294967295
+  pub unfilled : filledSince r ≡ 0
+  pub below : countSince r < 4294967295
 
 -- What is promised of the read-out `r`.
 pub record Account (r : Readout) : Type 0 where
   -- The count is the number of bytes accepted, up to the largest 32-bit number.
-  pub counted : count r ≡ min (accepted r) 4294967295
+  pub counted : countSince r ≡ min (putInSince r) 4294967295
   -- No byte is lost, and none comes from elsewhere: those that were accepted or filled in are unread, or were sent.
-  pub flow : unreadAt (reached r) + sent r ≡ accepted r + filled r
+  pub flow : unreadAt (reachedBy r) + sentSince r ≡ putInSince r + filledSince r
   -- "unread bytes in states 4 and 6 before any filling equal this count less bytes sent", which are not more than the count.
-  pub less : Counting r → unreadAt (reached r) ≡ count r - sent r
-  pub within : Counting r → sent r ≤ count r
+  pub less : Counting r → unreadAt (reachedBy r) ≡ countSince r - sentSince r
+  pub within : Counting r → sentSince r ≤ countSince r

@@ -1,5 +1,5 @@
--- Document 01's cases of demand 3, and cases of ours, also of request 7 of 02: the stories, and the tables of what they show. proofs/Cases.antt has the statement
--- that each case holds. Assumes nothing: these are definitions.
+-- Document 01's cases of demand 3, and cases of ours, also of request 7 of 02: the stories, and the tables of what they show.
+-- proofs/Cases.antt has the statement that each case holds. Assumes nothing: these are definitions.
 use mathlib.Core.Bool.{true, false}
 use mathlib.Core.List.{List, [], _∷_, _++_}
 use Prim.Native.Nat.{ℕ, _+_}
@@ -9,7 +9,7 @@ use Rattle.device.specs.Create.{fixed, newDevice}
 use Rattle.bbb.specs.Poll.{Given, given}
 use Rattle.readout.specs.History.{Socket, socket, Event, poll, status, write, writeAll, read, commandStep, Shows, shows, next, all}
 use Rattle.readout.specs.Demand.{Story, afterStatus, ended, L, R, pollsDue, firmware, host, servedSince, crossed, ceiling, theData, theStatus}
-use Rattle.readout.specs.Account.{Readout, reached, count, accepted, sent, unreadAt, filled}
+use Rattle.readout.specs.Account.{Readout, reachedBy, countSince, putInSince, sentSince, unreadAt, filledSince}
 
 -- ---- the polls
 
@@ -26,7 +26,7 @@ abbrev pub sending : ℕ → Given
 sending n = given (replicate n 7) [] [] (record { first = 1; second = 1; write = 0 })
 
 -- A poll with a packet buffer of `n` bytes of 7 in which every endpoint is busy.
-abbrev pub busy : ℕ → Given
+abbrev busy : ℕ → Given
 busy n = given (replicate n 7) [] [] (record { first = 1; second = 1; write = 1 })
 
 -- ---- the stories
@@ -119,10 +119,6 @@ full8 = record {
 
 -- ---- read-outs, for request 7 of 02
 
--- A poll with a packet buffer of `n` bytes of 7, in which OUT offers one packet, `packet`, and IN is busy.
-abbrev pub takingBusy : ℕ → List ℕ → Given
-takingBusy n packet = given (replicate n 7) packet [] (record { first = 0; second = 1; write = 1 })
-
 -- A read-out of a new device with P 64 and an IO buffer of 128 bytes, whose wrapper declares L = 2.
 abbrev pub read2 : List Event → Readout
 read2 since = record { start = newSocket 64 128; completing = taking 64 (cbwToHost 2); since = since }
@@ -145,7 +141,7 @@ halfSent = read2 (write (1 ∷ []) ∷ status (record { status = 0; figure = 1 }
 
 -- What the account of the read-out `r` speaks of: the count, the bytes accepted, sent, filled in and unread.
 abbrev figures : Readout → List ℕ
-figures r = count r ∷ accepted r ∷ sent r ∷ filled r ∷ unreadAt (reached r) ∷ []
+figures r = countSince r ∷ putInSince r ∷ sentSince r ∷ filledSince r ∷ unreadAt (reachedBy r) ∷ []
 
 -- Cases of request 7.
 unfoldable pub accounts : List Case
