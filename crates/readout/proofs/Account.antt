@@ -154,7 +154,7 @@ module _ (s : Socket) (g : Given) (waits : waitsIn (s .device .state) ≡ true) 
   rule-begins w fits all-of-it =
       let reading : (s .device .state ≡ StatusTransfer → unreadIn s ≡ []) → Begins (pollRule (s .device) (s .io) g) =
       λ none. by-reading (s .device .fixed .packetsize) (unreadIn s) s (record { whole = w; packetsize = refl; waits = waits; unread = refl; none-in-3 = none }) g fits
-          (λ x f r. read-begins g (unreadIn s) x f (pollRule (s .device) (s .io) g) r all-of-it) in
+      (λ x f r. read-begins g (unreadIn s) x f (pollRule (s .device) (s .io) g) r all-of-it) in
       waits-by (s .device .state) waits
       (λ in0. reading (λ in3. absurd (apart in0 in3)))
       (λ in3. cases (eqb (unread (bufferOfPoint start)) 0)

@@ -44,7 +44,6 @@ met-halfFilled = record { waits = refl; nothing = refl; lasts = (refl, (refl, (r
 
 -- ---- what is supposed
 
-
 -- The device does not wait: it is in 4, where 31 bytes are unread that were put in before.
 unfoldable pub without-waits : Readout
 without-waits = record {

@@ -1,4 +1,4 @@
-// This is the wrapper (CBW) of document 01, after bbb.rs. The modules have the status (CSW), the two counters, and BOT's verdict on a
+// This is the wrapper (CBW) of document 01, after bbb.rs. The modules have the status (CSW), three counters, and BOT's verdict on a
 // message. Every entry of this crate takes any bytes of any length and any number, and ends with an answer. Two public functions are for
 // the layers above and require 31 bytes: `head_of` and `read_wrapper`. Their callers have tested the message before.
 pub mod counters;
