@@ -38,7 +38,7 @@ use Rattle.ring.specs.States.{stateNumber}
 use Rattle.device.specs.declared.Device.{Device}
 use Rattle.wrapper.specs.declared.counters.PutIn.{PutIn}
 use Rattle.wrapper.specs.Counters.{risen}
-use Rattle.device.specs.Device.{numbersOf, isPresent, withMarks, withStatus, withPutIn, puttingIn, entering0}
+use Rattle.device.specs.Device.{numbersOf, isPresent, withMarks, withStatus, withPutIn, entering0}
 use Rattle.device.specs.Broken.{statusFits, Whole}
 use Rattle.device.proofs.Wholly.{passes, either, whole-sound}
 use Rattle.calls.specs.declared.FirmwareStatus.{FirmwareStatus}

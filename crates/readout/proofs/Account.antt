@@ -10,26 +10,24 @@ use Prim.Native.Nat.{ℕ, _+_, _-_, _≤_, min, zero-le}
 use native.Mathlib.Nat.{zero-add}
 use native.Mathlib.Omega.{arith}
 use lib.Dec.{eqb}
-use lib.ListN.{length, take, drop, length-append, drop-of-length-le}
+use lib.ListN.{length, length-append, drop-of-length-le}
 use borrow.Author.Tests.{eqb-true}
 use borrow.Table.Steps.{cases}
 use Rattle.fields.proofs.Bools.{of-picked, clash}
 use Rattle.fields.proofs.Seq.{none-of}
-use Rattle.buffer.specs.Buffer.{buffer, at, unread, unreadBytes, lacksRoom}
+use Rattle.buffer.specs.Buffer.{buffer, at, unread, unreadBytes}
 use Rattle.buffer.specs.Inner.Buffer.{Sound}
 use Rattle.buffer.proofs.Kept.{length-unread}
-use Rattle.answers.specs.Answers.{serves}
 use Rattle.ring.specs.declared.State.{State}
-use Rattle.ring.specs.declared.State.the-variants.{CommandTransfer, StatusTransfer, DataTransferFromHost, DataTransferFromHostEnding}
+use Rattle.ring.specs.declared.State.the-variants.{StatusTransfer}
 use Rattle.wrapper.specs.declared.Wrapper.{Wrapper}
 use Rattle.wrapper.specs.declared.counters.PutIn.{PutIn}
 use Rattle.wrapper.specs.Counters.{risen}
 use Rattle.wrapper.specs.Wrapper.{isValid, wrapperOf}
 use Rattle.device.specs.declared.Device.{Device}
 use Rattle.device.specs.Device.{numbersOf, isPresent}
-use Rattle.device.specs.Broken.{Whole}
 use Rattle.device.proofs.Wholly.{whole-sound}
-use Rattle.bbb.specs.Poll.{Given, Polling, Point, point, bufferOfPoint, reaching, leaving, sendBy, send, takeBy, takeData, noDataRule, toHostRule, fromHostEndingRule, fromHostRule, starting, startRule, messageAt, parsing, parseRule, statusTransferRule, ruleIn, pollRule, Fits, pollCall}
+use Rattle.bbb.specs.Poll.{Given, Polling, Point, point, bufferOfPoint, sendBy, send, takeBy, takeData, noDataRule, toHostRule, fromHostEndingRule, fromHostRule, starting, startRule, messageAt, parsing, parseRule, statusTransferRule, ruleIn, pollRule, Fits, pollCall}
 use Rattle.bbb.proofs.Keeping.{Follows, follows-received, follows-31, by-call, by-direction}
 use Rattle.bbb.proofs.After.{P, bufferAfter, firstFor, arrived, read-unread, parse-rest, parse-valid, parse-invalid}
 use Rattle.calls.specs.Checks.{bufferOf}
@@ -40,7 +38,7 @@ use Rattle.readout.proofs.Transfer.{unreadIn}
 use Rattle.readout.proofs.Rules.{bytesOf, packetsOf}
 use Rattle.readout.proofs.Waiting.{waits-by, apart, From, Reads, idle, short, ripe, ripe-first, by-reading}
 use Rattle.readout.proofs.Enough.{WholeIn, stays-whole}
-use Rattle.readout.proofs.Flow.{Moves, await-leaves, enter-leaves, to-goes, Flows, event-flows}
+use Rattle.readout.proofs.Flow.{await-leaves, enter-leaves, to-goes, Flows, event-flows}
 
 -- ---- through a history
 

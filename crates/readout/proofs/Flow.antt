@@ -1,8 +1,8 @@
 -- What each event does in states 4 and 6 to the unread bytes and to the count of what was put in. No event but a write puts bytes in, and
 -- none but a poll sends or fills. Assumes nothing.
-use mathlib.Core.Path.{_≡_, refl, sym, ap, _∙_, subst}
+use mathlib.Core.Path.{_≡_, refl, sym, ap, _∙_}
 use mathlib.Core.Bool.{Bool, true, false, cond, not, _&&_, _||_}
-use mathlib.Core.List.{List, [], _∷_, _++_, append-nil}
+use mathlib.Core.List.{List, [], _++_, append-nil}
 use Prim.Native.Nat.{ℕ, _+_, _-_, _≤_, min, zero-le}
 use native.Mathlib.Nat.{add-zero}
 use native.Mathlib.Omega.{arith}
@@ -13,32 +13,30 @@ use borrow.Table.Steps.{cases}
 use Rattle.fields.proofs.Bools.{of-picked, clash}
 use Rattle.buffer.specs.Buffer.{unread, unreadBytes, lacksRoom}
 use Rattle.buffer.specs.Inner.Buffer.{Sound}
-use Rattle.buffer.proofs.Kept.{length-unread}
 use Rattle.answers.specs.declared.Endpoint.{Endpoint}
 use Rattle.answers.specs.declared.Endpoint.the-variants.{Served, Busy, Failed}
 use Rattle.answers.specs.Answers.{Answering, answer, answeredBy}
 use Rattle.ring.specs.declared.State.{State}
 use Rattle.ring.specs.States.{stateNumber}
 use Rattle.ring.specs.declared.State.the-variants.{CommandTransfer, CommandTransferInvalid, DataTransferNoData, StatusTransfer, DataTransferToHost, DataTransferToHostStatusAwait, DataTransferToHostEnding, DataTransferFromHost, DataTransferFromHostEnding}
-use Rattle.wrapper.specs.declared.counters.PutIn.{PutIn}
 use Rattle.wrapper.specs.Counters.{risen}
 use Rattle.packets.specs.Packets.{sendAnswer}
 use Rattle.device.specs.declared.Device.{Device}
-use Rattle.device.specs.Device.{numbersOf, isPresent, withMarks, withPutIn}
-use Rattle.device.specs.Broken.{Whole, unlessBroken}
-use Rattle.device.proofs.Wholly.{whole-sound, packet-fits, passes}
-use Rattle.bbb.specs.Poll.{Given, Polling, Point, point, bufferOfPoint, reaching, ends, sendBy, send, sendData, enterStatus, statusAwaitRule, toHostEndingRule, fallsShort, toHostRule, ruleIn, pollRule, refusing, pollCall}
-use Rattle.bbb.proofs.Keeping.{follows-filled, by-call, call-whole}
+use Rattle.device.specs.Device.{numbersOf, isPresent}
+use Rattle.device.specs.Broken.{Whole}
+use Rattle.device.proofs.Wholly.{whole-sound, packet-fits}
+use Rattle.bbb.specs.Poll.{Given, Polling, Point, point, bufferOfPoint, reaching, sendBy, send, sendData, enterStatus, statusAwaitRule, toHostEndingRule, fallsShort, toHostRule, ruleIn, pollRule, pollCall}
+use Rattle.bbb.proofs.Keeping.{follows-filled, by-call}
 use Rattle.bbb.proofs.After.{P, bufferAfter, send-unread, topped, fill-exact}
 use Rattle.calls.specs.declared.FirmwareStatus.{FirmwareStatus}
 use Rattle.calls.specs.declared.Request.{Request}
 use Rattle.calls.specs.Checks.{isIn, bufferOf}
 use Rattle.calls.specs.Status.{Stating, withFigure}
-use Rattle.calls.specs.Data.{Moving, limited, readDataCall, writeDataCall, writeDataAllCall}
+use Rattle.calls.specs.Data.{Moving, writeDataCall, writeDataAllCall}
 use Rattle.calls.specs.Bus.{Handling, handlingOfReset}
 use Rattle.calls.proofs.After.{by-status, data-elsewhere, write-counts, write-count, write-unread, write-first, write-all-counts, write-all-answer, write-all-unread, reset-done, by-request}
-use Rattle.readout.specs.History.{Socket, socket, Event, poll, status, write, writeAll, read, reset, control, command, commandStep, Shows, ofPoll, ofStatus, ofBus, shows, next, isPoll}
-use Rattle.readout.specs.Account.{unreadAt, comesTo6, isRefusal, missingAt, filledBy, isToHost, Lasts}
+use Rattle.readout.specs.History.{Socket, socket, Event, poll, status, write, writeAll, read, reset, control, command, commandStep, Shows, ofStatus, ofBus, shows, isPoll}
+use Rattle.readout.specs.Account.{comesTo6, isRefusal, missingAt, filledBy, isToHost, Lasts}
 use Rattle.readout.proofs.Transfer.{unreadIn}
 use Rattle.readout.proofs.Rules.{bytesOf}
 

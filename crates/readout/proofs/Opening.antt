@@ -22,7 +22,7 @@ use Rattle.wrapper.proofs.Cbw.{valid-is, no-data-only}
 use Rattle.device.specs.declared.Status.{Status}
 use Rattle.device.specs.Device.{numbersOf, isPresent}
 use Rattle.device.specs.Broken.{statusFits, Whole}
-use Rattle.bbb.specs.Poll.{Given, Polling, Point, bufferOfPoint, leaving, noDataRule, toHostRule, fromHostRule, starting, startRule, messageAt, parsing, parseRule, refusing, pollRule, pollCall}
+use Rattle.bbb.specs.Poll.{Given, Polling, Point, bufferOfPoint, noDataRule, toHostRule, fromHostRule, starting, startRule, messageAt, parsing, parseRule, refusing, pollRule, pollCall}
 use Rattle.bbb.proofs.Keeping.{Follows, follows-received, follows-31, by-call, call-whole, call-sizes, packet-is}
 use Rattle.bbb.proofs.After.{P, firstFor, arrived, read-unread, parse-message, parse-rest, parse-valid}
 use Rattle.calls.specs.Status.{takesStatus}

@@ -36,7 +36,7 @@ use Rattle.device.specs.declared.Status.the-variants.{Absent, Present}
 use Rattle.device.specs.declared.Device.{Device}
 use Rattle.device.specs.Device.{inState, withMarks, withStatus, withWrapper, withLeft, withPutIn}
 use Rattle.recordbytes.specs.Layout as field
-use Rattle.recordbytes.specs.Record.{statusBy, statusAt, marksAt, wrapperAt, fixedAt, deviceAt, store, storeState, storeMarks, storeLeft, storePutIn, storeStatus, storeWrapper, storeDevice}
+use Rattle.recordbytes.specs.Record.{statusAt, marksAt, wrapperAt, fixedAt, deviceAt, storeState, storeMarks, storeLeft, storePutIn, storeStatus, storeWrapper, storeDevice}
 use Rattle.recordbytes.proofs.Storing.{isApart, store-same, get-stored}
 use Rattle.recordbytes.proofs.Stored.{Write, write, storeAll, areWithin, areApart, length-all, bytes-elsewhere, get-elsewhere, Known, state-kept, marks-kept, left-kept, put-in-kept, status-kept, wrapper-kept}
 
