@@ -31,12 +31,14 @@ use Rattle.bbb.specs.Poll.{Given, Polling, Point, point, bufferOfPoint, sendBy,
 use Rattle.bbb.proofs.Keeping.{Follows, follows-received, follows-31, by-call, by-direction}
 use Rattle.bbb.proofs.After.{P, bufferAfter, firstFor, arrived, read-unread, parse-rest, parse-valid, parse-invalid}
 use Rattle.calls.specs.Checks.{bufferOf}
-use Rattle.readout.specs.History.{Socket, Event, poll, shows, next, run, all, sentIn, putIn, firstOf, isPoll, Throughout}
+use Rattle.readout.specs.History.{Socket, Event, poll, Shows, shows, next, historyOf, reached, all, sentIn, putIn, firstOf, Throughout, ByValue, isPoll}
 use Rattle.readout.specs.Demand.{waitsIn}
-use Rattle.readout.specs.Account.{Readout, reachedBy, countSince, putInSince, sentSince, unreadAt, comesTo6, isRefusal, filledBy, filledIn, filledSince, isToHost, Lasts, SupposedReadout, Account}
+use Rattle.readout.specs.Account.{Readout, allSince, readoutOf, reachedBy, countSince, putInSince, sentSince, unreadAt, comesTo6, isRefusal, filledBy, filledIn, filledSince, isToHost, Lasts, SupposedReadout, Account}
 use Rattle.readout.proofs.Transfer.{unreadIn}
 use Rattle.readout.proofs.Rules.{bytesOf, packetsOf}
 use Rattle.readout.proofs.Waiting.{waits-by, apart, From, Reads, idle, short, ripe, ripe-first, by-reading}
+use Rattle.readout.proofs.Histories.{throughout-map, events, replayed}
+use Rattle.readout.proofs.Demand.{Faithful}
 use Rattle.readout.proofs.Enough.{WholeIn, stays-whole}
 use Rattle.readout.proofs.Flow.{await-leaves, enter-leaves, to-goes, Flows, event-flows}
 
@@ -44,9 +46,9 @@ use Rattle.readout.proofs.Flow.{await-leaves, enter-leaves, to-goes, Fl
 
 -- What a history `h` leaves that starts at the socket `s`.
 pub record Carried (h : List Event) (s : Socket) : Type 0 where
-  pub whole : WholeIn (run h s)
-  pub flow : length (unreadIn (run h s)) + length (sentIn h s) ≡ length (unreadIn s) + length (putIn h s) + filledIn h s
-  pub count : run h s .device .putin ≡ risen (s .device .putin) (length (putIn h s))
+  pub whole : WholeIn (reached (historyOf h s) s)
+  pub flow : length (unreadIn (reached (historyOf h s) s)) + length (sentIn (historyOf h s)) ≡ length (unreadIn s) + length (putIn (historyOf h s)) + filledIn (historyOf h s) s
+  pub count : reached (historyOf h s) s .device .putin ≡ risen (s .device .putin) (length (putIn (historyOf h s)))
 
 risen-none : (c : PutIn) → c .0 ≤ 4294967295 → c ≡ risen c 0
 unfolding risen
@@ -60,16 +62,16 @@ risen-stored : (c : PutIn) (n : ℕ) → risen c n .0 ≤ 4294967295
 unfolding risen
 risen-stored c n = omega arith
 
-pub carried : (h : List Event) (s : Socket) → WholeIn s → isToHost (s .device .state) ≡ true → s .device .putin .0 ≤ 4294967295 → Throughout Lasts h s → Carried h s
-unfolding run all filledIn
+pub carried : (h : List Event) (s : Socket) → WholeIn s → isToHost (s .device .state) ≡ true → s .device .putin .0 ≤ 4294967295 → Throughout Lasts (historyOf h s) s → Carried h s
+unfolding all filledIn
 carried [] s w in46 stored _ = record { whole = w; flow = omega arith; count = risen-none (s .device .putin) stored }
 carried (e ∷ h) s w in46 stored (lasts, rest) =
-    let f : Flows s (filledBy e s) (shows e s) = event-flows s w in46 stored e lasts in
+    let f : Flows s (filledBy e s (shows e s)) (shows e s) = event-flows s w in46 stored e lasts in
     let more : Carried h (next e s) = carried h (next e s) (stays-whole e s w) lasts (rw (f .count) (risen-stored (s .device .putin) (length (shows e s .put)))) rest in
     record {
       whole = more .whole;
-      flow = omega (arith, f .flow, more .flow, length-append (shows e s .sent) (sentIn h (next e s)), length-append (shows e s .put) (putIn h (next e s)));
-      count = more .count ∙ rw (f .count) (risen-twice (s .device .putin) (length (shows e s .put)) (length (putIn h (next e s)))) ∙ ap (risen (s .device .putin)) (sym (length-append (shows e s .put) (putIn h (next e s))));
+      flow = omega (arith, f .flow, more .flow, length-append (shows e s .sent) (sentIn (historyOf h (next e s))), length-append (shows e s .put) (putIn (historyOf h (next e s))));
+      count = more .count ∙ rw (f .count) (risen-twice (s .device .putin) (length (shows e s .put)) (length (putIn (historyOf h (next e s))))) ∙ ap (risen (s .device .putin)) (sym (length-append (shows e s .put) (putIn (historyOf h (next e s)))));
     }
 
 -- ---- the poll that parses the wrapper
@@ -170,60 +172,73 @@ module _ (s : Socket) (g : Given) (waits : waitsIn (s .device .state) ≡ true) 
   comes-not : comesTo6 s ≡ false
   comes-not = waits-by (s .device .state) waits (λ e. rw e) (λ e. rw e)
 
-  none-filled : filledBy (poll g) s ≡ 0
+  none-filled : filledBy (poll g) s (shows (poll g) s) ≡ 0
   unfolding filledBy isPoll
   none-filled = rw comes-not (cases (not (isRefusal (shows (poll g) s .answer))) (λ e. rw e) (λ e. rw e))
 
 -- ---- the account
 
-module _ (r : Readout) (u : SupposedReadout r) where
+-- A read-out that is computed from its events.
+module _ (start : Socket) (completing : Given) (h : List Event) (u : SupposedReadout (readoutOf start completing h)) where
+  abbrev r : Readout
+  r = readoutOf start completing h
+
   abbrev after : Socket
-  after = next (poll (r .completing)) (r .start)
+  after = r .completed .socket
 
   abbrev first : Polling
-  first = pollCall (r .start .device) (r .start .io) (r .completing)
+  first = pollCall (start .device) (start .io) completing
 
-  begins : WholeIn (r .start) × Begun first
+  begins : WholeIn start × Begun first
   unfolding shows
-  begins = call-begins (r .start) (r .completing) (u .waits) (u .nothing) (u .lasts .0)
+  begins = call-begins start completing (u .waits) (u .nothing) (u .lasts .0)
 
   starts-at-0 : after .device .putin ≡ record { 0 = 0 }
   unfolding shows
   starts-at-0 = begins .1 .count
 
-  since : Carried (r .since) after
-  since = carried (r .since) after (stays-whole (poll (r .completing)) (r .start) (begins .0)) (u .lasts .0) (rw starts-at-0 zero-le) (u .lasts .1)
+  since : Carried h after
+  since = carried h after (stays-whole (poll completing) start (begins .0)) (u .lasts .0) (rw starts-at-0 zero-le) (u .lasts .1)
 
   -- The poll itself puts nothing in.
-  put-since : putInSince r ≡ length (putIn (r .since) after)
+  put-since : putInSince r ≡ length (putIn (r .since))
   unfolding shows all
   put-since = refl
 
-  sent-since : sentSince r ≡ length (bytesOf first) + length (sentIn (r .since) after)
+  sent-since : sentSince r ≡ length (bytesOf first) + length (sentIn (r .since))
   unfolding shows all
-  sent-since = length-append (bytesOf first) (sentIn (r .since) after)
+  sent-since = length-append (bytesOf first) (sentIn (r .since))
 
   filled-since : filledSince r ≡ filledIn (r .since) after
   unfolding filledIn
-  filled-since = rw (none-filled (r .start) (r .completing) (u .waits)) (zero-add _)
+  filled-since = rw (none-filled start completing (u .waits)) (zero-add _)
 
   left-over : length (unreadIn after) + length (bytesOf first) ≡ 0
   unfolding shows
   left-over = begins .1 .flow
 
   counted : countSince r ≡ min (putInSince r) 4294967295
-  unfolding run risen
+  unfolding risen all
   counted = ap (λ (c : PutIn). c .0) (since .count) ∙ rw (starts-at-0, put-since) (ap (λ (n : ℕ). min n 4294967295) (zero-add _))
 
   flow : unreadAt (reachedBy r) + sentSince r ≡ putInSince r + filledSince r
-  unfolding run
   flow = omega (arith, since .flow, left-over, put-since, sent-since, filled-since, length-unread (bufferOf (reachedBy r .device) (reachedBy r .io)) (whole-sound (numbersOf (reachedBy r .device)) (reachedBy r .io) (since .whole)))
 
--- Every read-out that meets what is supposed has its account.
-pub account : (r : Readout) → SupposedReadout r → Account r
-account r u = record {
-  counted = counted r u;
-  flow = flow r u;
-  less = λ c. omega (arith, counted r u, flow r u, c .unfilled, c .below);
-  within = λ c. omega (arith, counted r u, flow r u, c .unfilled, c .below);
-}
+  account-of : Account r
+  account-of = record {
+    counted = counted;
+    flow = flow;
+    less = λ c. omega (arith, counted, flow, c .unfilled, c .below);
+    within = λ c. omega (arith, counted, flow, c .unfilled, c .below);
+  }
+
+-- A read-out that happened by value is that of its events.
+readout-by : (r : Readout) (h : List Event) → r .completed ≡ shows (poll (r .completing)) (r .start) → r .since ≡ historyOf h (r .completed .socket) → r ≡ readoutOf (r .start) (r .completing) h
+readout-by r h completes goes = rw (goes, completes)
+
+-- Every read-out that happened and meets what is supposed has its account.
+pub account : (Does : Event → Socket → Shows → Type 0) → Faithful Does → (r : Readout) → Throughout Does (allSince r) (r .start) → SupposedReadout r → Account r
+account Does faithful r happened =
+    let (completes, goes) = throughout-map Does ByValue faithful (allSince r) (r .start) happened in
+    let same : r ≡ readoutOf (r .start) (r .completing) (events (r .since)) = readout-by r (events (r .since)) completes (replayed (r .since) (r .completed .socket) goes) in
+    subst (λ (x : Readout). SupposedReadout x → Account x) (sym same) (account-of (r .start) (r .completing) (events (r .since)))

@@ -9,6 +9,8 @@ use lib.Dec.{eqb}
 use lib.ListN.{length, length-append}
 use Rattle.fields.proofs.Bools.{clash}
 use Rattle.buffer.specs.Buffer.{unreadBytes}
+use Rattle.answers.specs.declared.Stalls.{Stalls}
+use Rattle.answers.specs.declared.Stalls.the-variants.{Kept}
 use Rattle.answers.specs.Answers.{Answering, answer}
 use Rattle.ring.specs.declared.State.the-variants.{CommandTransfer, StatusTransfer}
 use Rattle.ring.specs.States.{stateNumber}
@@ -21,7 +23,7 @@ use Rattle.calls.specs.Checks.{isIn}
 use Rattle.calls.specs.Status.{Stating, takesStatus}
 use Rattle.calls.specs.Bus.{Handling, handlingOfReset}
 use Rattle.calls.proofs.After.{by-status, data-elsewhere, reset-done, by-request}
-use Rattle.readout.specs.History.{Socket, socket, Event, poll, status, write, writeAll, read, reset, control, command, commandStep, Shows, ofStatus, ofBus, shows, next, run, all, sentIn, putIn, takenIn, firstOf, arrivedIn}
+use Rattle.readout.specs.History.{Socket, socket, Event, poll, status, write, writeAll, read, reset, control, command, commandStep, mislent, Shows, quietly, ofStatus, ofBus, shows, next, historyOf, reached, all, sentIn, putIn, takenIn, firstOf, arrivedIn}
 use Rattle.readout.specs.Demand.{waitsIn}
 use Rattle.readout.proofs.Rules.{bytesOf, packetsOf}
 use Rattle.readout.proofs.Waiting.{Arriving, waits-by, apart, From, from-count, Reads, idle, short, ripe, ripe-first, by-reading}
@@ -84,14 +86,14 @@ module _ (p : ℕ) (m : List ℕ) (s : Socket) (a : Arriving p m s) where
 
   -- ---- the other calls
 
-  nothing-arrives : (x : Answering) → Arrives p m (record { socket = s; answer = x; taken = []; sent = []; put = [] })
+  nothing-arrives : (x : Answering) (stalls : Stalls) (delivered : List ℕ) → Arrives p m (quietly s x stalls delivered)
   unfolding flatten
-  nothing-arrives n = record { arriving = rw append-nil a; sent = refl; put = refl; alone = refl }
+  nothing-arrives x stalls delivered = record { arriving = rw append-nil a; sent = refl; put = refl; alone = refl }
 
   -- Entering 0 keeps the bytes that came.
-  reset-arrives : (x : Answering) → Arrives p m (record { socket = socket (entering0 (s .device)) (s .io); answer = x; taken = []; sent = []; put = [] })
-  unfolding flatten
-  reset-arrives n = record {
+  reset-arrives : Arrives p m (ofBus (s .io) (handlingOfReset (s .device)))
+  unfolding flatten handlingOfReset
+  reset-arrives = record {
     arriving = record {
       whole = record { lent = a .whole .lent; created = a .whole .created; order = a .whole .order; within = a .whole .within; block = a .whole .block; lun = a .whole .lun; status = refl };
       packetsize = a .packetsize;
@@ -116,31 +118,32 @@ module _ (p : ℕ) (m : List ℕ) (s : Socket) (a : Arriving p m s) where
   event-arrives : (e : Event) → length (m ++ firstOf (shows e s .taken)) < 31 → Arrives p m (shows e s)
   unfolding shows handlingOfReset
   event-arrives (poll g) few = poll-arrives g few
-  event-arrives (status f) few = by-status (s .device) (s .io) f (λ (o : Stating). Arrives p m (ofStatus (s .io) o)) (nothing-arrives (answer 10)) (nothing-arrives (answer 12)) (λ takes _. absurd (clash (sym takes ∙ no-status)))
-  event-arrives (write src) few = rw (data-elsewhere 4 (s .device) (s .io) (s .io) _ (a .whole) (elsewhere 4 refl refl)) (nothing-arrives (answer 3))
-  event-arrives (writeAll src) few = rw (data-elsewhere 4 (s .device) (s .io) (s .io) _ (a .whole) (elsewhere 4 refl refl)) (nothing-arrives (answer 3))
-  event-arrives (read dst) few = rw (data-elsewhere 7 (s .device) (s .io) dst _ (a .whole) (elsewhere 7 refl refl)) (nothing-arrives (answer 3))
-  event-arrives reset few = rw (reset-done (s .device) (s .io) (a .whole)) (reset-arrives (answer 0))
-  event-arrives (control q) few = by-request (s .device) (s .io) q (λ (o : Handling). Arrives p m (ofBus (s .io) o)) (λ n _. nothing-arrives n) (λ _ _. reset-arrives (answer 0))
-  event-arrives command few = nothing-arrives _
-  event-arrives (commandStep extended) few = nothing-arrives _
+  event-arrives (status f) few = by-status (s .device) (s .io) f (λ (o : Stating). Arrives p m (ofStatus (s .io) o)) (nothing-arrives (answer 10) Kept []) (nothing-arrives (answer 12) Kept []) (λ takes _. absurd (clash (sym takes ∙ no-status)))
+  event-arrives (write src) few = rw (data-elsewhere 4 (s .device) (s .io) (s .io) _ (a .whole) (elsewhere 4 refl refl)) (nothing-arrives _ Kept [])
+  event-arrives (writeAll src) few = rw (data-elsewhere 4 (s .device) (s .io) (s .io) _ (a .whole) (elsewhere 4 refl refl)) (nothing-arrives _ Kept [])
+  event-arrives (read dst) few = rw (data-elsewhere 7 (s .device) (s .io) dst _ (a .whole) (elsewhere 7 refl refl)) (nothing-arrives _ Kept [])
+  event-arrives reset few = rw (reset-done (s .device) (s .io) (a .whole)) reset-arrives
+  event-arrives (control q) few = by-request (s .device) (s .io) q (λ (o : Handling). Arrives p m (ofBus (s .io) o)) (λ x bytes. nothing-arrives x Kept bytes) (λ _ _. reset-arrives)
+  event-arrives command few = nothing-arrives _ _ _
+  event-arrives (commandStep extended) few = nothing-arrives _ _ _
+  event-arrives mislent few = nothing-arrives _ _ _
 
 -- ---- a history
 
 -- The same for a history `h` that starts at the socket `s`.
 pub record Arrived (p : ℕ) (m : List ℕ) (h : List Event) (s : Socket) : Type 0 where
-  pub arriving : Arriving p (m ++ arrivedIn h s) (run h s)
-  pub sent : sentIn h s ≡ []
-  pub put : putIn h s ≡ []
-  pub alone : takenIn h s ≡ arrivedIn h s
+  pub arriving : Arriving p (m ++ arrivedIn (historyOf h s)) (reached (historyOf h s) s)
+  pub sent : sentIn (historyOf h s) ≡ []
+  pub put : putIn (historyOf h s) ≡ []
+  pub alone : takenIn (historyOf h s) ≡ arrivedIn (historyOf h s)
 
 -- It holds while fewer than 31 bytes have come.
-pub history-arrives : (p : ℕ) (h : List Event) (m : List ℕ) (s : Socket) → Arriving p m s → length (m ++ arrivedIn h s) < 31 → Arrived p m h s
-unfolding run all
+pub history-arrives : (p : ℕ) (h : List Event) (m : List ℕ) (s : Socket) → Arriving p m s → length (m ++ arrivedIn (historyOf h s)) < 31 → Arrived p m h s
+unfolding all
 history-arrives p [] m s a few = record { arriving = rw append-nil a; sent = refl; put = refl; alone = refl }
 history-arrives p (e ∷ h) m s a few =
     let ys : List ℕ = firstOf (shows e s .taken) in
-    let zs : List ℕ = arrivedIn h (next e s) in
+    let zs : List ℕ = arrivedIn (historyOf h (next e s)) in
     let first : Arrives p m (shows e s) = event-arrives p m s a e (omega (arith, length-append m (ys ++ zs), length-append ys zs, length-append m ys)) in
     let rest : Arrived p (m ++ ys) h (next e s) = history-arrives p h (m ++ ys) (next e s) (first .arriving) (rw append-assoc few) in
     record { arriving = rw (← append-assoc m ys zs) (rest .arriving); sent = rw (first .sent, rest .sent); put = rw (first .put, rest .put); alone = rw (first .alone, rest .alone) }

@@ -15,12 +15,12 @@ use Rattle.wrapper.specs.declared.Wrapper.{Wrapper}
 use Rattle.device.specs.Device.{numbersOf, isPresent}
 use Rattle.device.proofs.Wholly.{packet-known, packet-bounds}
 use Rattle.calls.specs.Status.{takesStatus}
-use Rattle.readout.specs.History.{Socket, Event, shows, next, run, all, sentIn, putIn, takenIn, served, servedIn, accepts, Throughout}
+use Rattle.readout.specs.History.{Socket, Event, shows, next, historyOf, reached, all, sentIn, putIn, takenIn, served, servedIn, Throughout}
 use Rattle.readout.specs.Demand.{Earlier, Later, ceiling}
 use Rattle.readout.proofs.Ceiling.{ceiling-some}
 use Rattle.readout.proofs.Transfer.{Transfer, unreadIn, due, dueIn}
 use Rattle.readout.proofs.Rules.{still}
-use Rattle.readout.proofs.Steps.{Steps, event-steps}
+use Rattle.readout.proofs.Steps.{StepsBy, event-steps}
 
 -- In a state in which a status is taken, everything that is left and a whole status are due.
 pub takes-due : (σ : State) (p left n : ℕ) → takesStatus (stateNumber σ) ≡ true → dueIn σ p left n ≡ ceiling left p + ceiling 13 p
@@ -44,41 +44,41 @@ module _ (w : Wrapper) (p : ℕ) where
   -- ---- up to the last accepted status
 
   pub record Before (got put : List ℕ) (h : List Event) (s : Socket) : Type 0 where
-    pub transfer : Transfer w p (got ++ sentIn h s) (put ++ putIn h s) (run h s)
-    pub takes : takesStatus (stateNumber (run h s .device .state)) ≡ true
-    pub wire : run h s .device .left .0 ≡ s .device .left .0 - (length (sentIn h s) + length (takenIn h s))
+    pub transfer : Transfer w p (got ++ sentIn (historyOf h s)) (put ++ putIn (historyOf h s)) (reached (historyOf h s) s)
+    pub takes : takesStatus (stateNumber (reached (historyOf h s) s .device .state)) ≡ true
+    pub wire : reached (historyOf h s) s .device .left .0 ≡ s .device .left .0 - (length (sentIn (historyOf h s)) + length (takenIn (historyOf h s)))
 
-  pub before : (h : List Event) (s : Socket) (got put : List ℕ) → Transfer w p got put s → takesStatus (stateNumber (s .device .state)) ≡ true → Throughout Earlier h s → length (put ++ putIn h s) ≤ w .length → Before got put h s
-  unfolding run all
+  pub before : (h : List Event) (s : Socket) (got put : List ℕ) → Transfer w p got put s → takesStatus (stateNumber (s .device .state)) ≡ true → Throughout Earlier (historyOf h s) s → length (put ++ putIn (historyOf h s)) ≤ w .length → Before got put h s
+  unfolding all
   before [] s got put t takes _ few = record { transfer = rw (append-nil, append-nil) t; takes = takes; wire = still (s .device .left .0) refl }
   before (e ∷ h) s got put t takes (f, fs) few =
       let o = shows e s in
-      let st : Steps w p got put s (accepts e s) (served e s) o = event-steps w p got put (omega (arith, length-append put (o .put ++ putIn h (next e s)))) s t (some-due s got put t takes) e (f .no-reset) in
+      let st : StepsBy w p got put e s = event-steps w p got put (omega (arith, length-append put (o .put ++ putIn (historyOf h (next e s))))) s t (some-due s got put t takes) e (f .no-reset) in
       let b : Before (got ++ o .sent) (put ++ o .put) h (next e s) = before h (next e s) (got ++ o .sent) (put ++ o .put) (st .transfer) (f .same-command) fs (rw append-assoc few) in
       record {
-        transfer = rw (← append-assoc got (o .sent) (sentIn h (next e s)), ← append-assoc put (o .put) (putIn h (next e s))) (b .transfer);
+        transfer = rw (← append-assoc got (o .sent) (sentIn (historyOf h (next e s))), ← append-assoc put (o .put) (putIn (historyOf h (next e s)))) (b .transfer);
         takes = b .takes;
-        wire = omega (arith, st .wire (f .same-command), b .wire, length-append (o .sent) (sentIn h (next e s)), length-append (flatten (o .taken)) (takenIn h (next e s)));
+        wire = omega (arith, st .wire (f .same-command), b .wire, length-append (o .sent) (sentIn (historyOf h (next e s))), length-append (flatten (o .taken)) (takenIn (historyOf h (next e s))));
       }
 
   -- ---- after it
 
   pub record After (got put : List ℕ) (h : List Event) (s : Socket) : Type 0 where
-    pub transfer : Transfer w p (got ++ sentIn h s) (put ++ putIn h s) (run h s)
-    pub status : run h s .device .status ≡ s .device .status
-    pub count : due (run h s) + servedIn h s ≡ due s
+    pub transfer : Transfer w p (got ++ sentIn (historyOf h s)) (put ++ putIn (historyOf h s)) (reached (historyOf h s) s)
+    pub status : reached (historyOf h s) s .device .status ≡ s .device .status
+    pub count : due (reached (historyOf h s) s) + servedIn (historyOf h s) ≡ due s
 
-  pub after : (h : List Event) (s : Socket) (got put : List ℕ) → Transfer w p got put s → isPresent (s .device .status) ≡ true → Throughout Later h s → length (put ++ putIn h s) ≤ w .length → servedIn h s < due s → After got put h s
-  unfolding run all servedIn
+  pub after : (h : List Event) (s : Socket) (got put : List ℕ) → Transfer w p got put s → isPresent (s .device .status) ≡ true → Throughout Later (historyOf h s) s → length (put ++ putIn (historyOf h s)) ≤ w .length → servedIn (historyOf h s) < due s → After got put h s
+  unfolding all servedIn
   after [] s got put t present _ few less = record { transfer = rw (append-nil, append-nil) t; status = refl; count = add-zero _ }
   after (e ∷ h) s got put t present (f, fs) few less =
       let o = shows e s in
-      let st : Steps w p got put s (accepts e s) (served e s) o = event-steps w p got put (omega (arith, length-append put (o .put ++ putIn h (next e s)))) s t (omega arith) e (f .no-reset) in
-      let falls : due (next e s) + served e s ≡ due s = st .count present (f .full) in
+      let st : StepsBy w p got put e s = event-steps w p got put (omega (arith, length-append put (o .put ++ putIn (historyOf h (next e s))))) s t (omega arith) e (f .no-reset) in
+      let falls : due (next e s) + served e o ≡ due s = st .count present (f .full) in
       let same : next e s .device .status ≡ s .device .status = st .status (f .no-status) in
       let a : After (got ++ o .sent) (put ++ o .put) h (next e s) = after h (next e s) (got ++ o .sent) (put ++ o .put) (st .transfer) (rw same present) fs (rw append-assoc few) (omega arith) in
       record {
-        transfer = rw (← append-assoc got (o .sent) (sentIn h (next e s)), ← append-assoc put (o .put) (putIn h (next e s))) (a .transfer);
+        transfer = rw (← append-assoc got (o .sent) (sentIn (historyOf h (next e s))), ← append-assoc put (o .put) (putIn (historyOf h (next e s)))) (a .transfer);
         status = a .status ∙ same;
         count = omega (arith, a .count);
       }

@@ -2,10 +2,10 @@
 use mathlib.Core.List.{flatten}
 use Rattle.bbb.proofs.Computing as bbb
 use Rattle.calls.proofs.Computing as calls
-use Rattle.readout.specs.History.{shows, run, all, isServed, isPoll, served, servedIn}
+use Rattle.readout.specs.History.{shows, all, isServed, isPoll, served, servedIn}
 use Rattle.readout.specs.Demand.{ceiling, filledWith}
 use Rattle.readout.specs.Account.{filledBy, filledIn}
 
 unfoldable pub computing : Unit {0}
-unfolding flatten shows run all isServed isPoll served servedIn ceiling filledWith filledBy filledIn bbb.computing calls.computing
+unfolding flatten shows all isServed isPoll served servedIn ceiling filledWith filledBy filledIn bbb.computing calls.computing
 computing = tt

@@ -1,5 +1,6 @@
--- The mission's third demand is proved, for every story that meets its premises. Assumes nothing.
-use mathlib.Core.Path.{_≡_, refl, sym, ap, ap₂, _∙_}
+-- The mission's third demand is proved, for every story that happened and that meets its premises. It is proved first for a story that is
+-- computed from its events; every story that happened is such a one. Assumes nothing.
+use mathlib.Core.Path.{_≡_, refl, sym, ap, ap₂, _∙_, subst}
 use mathlib.Core.Bool.{true}
 use mathlib.Core.List.{List, [], _∷_, _++_, append-assoc, append-nil, flatten}
 use Prim.Native.Nat.{ℕ, _+_, _-_, _≤_, _<_}
@@ -25,12 +26,12 @@ use Rattle.bbb.specs.Poll.{Given}
 use Rattle.calls.specs.Checks.{bufferOf}
 use Rattle.calls.specs.Status.{takesStatus, withFigure, setStatusCall}
 use Rattle.calls.proofs.After.{Accepted, status-accepted}
-use Rattle.readout.specs.History.{Socket, Event, poll, status, Shows, shows, next, run, all, sentIn, putIn, takenIn, firstOf, arrivedIn, served, isReset, isStatus, accepts}
-use Rattle.readout.specs.Demand.{Story, toWrapper, toStatus, history, afterWrapper, beforeStatus, afterStatus, ended, message, wrapper, L, P, R, host, firmware, servedSince, crossed, Between, Later, Supposed, pollsDue, dataOf, theData, theStatus, NotYet, Ends, Demand}
+use Rattle.readout.specs.History.{Socket, Event, poll, status, Shows, shows, next, did, historyOf, reached, all, sentIn, putIn, takenIn, firstOf, arrivedIn, ByValue, isServed, isPoll, served, isReset, isStatus, accepts}
+use Rattle.readout.specs.Demand.{Story, toStatus, history, Happened, afterWrapper, beforeStatus, afterStatus, ended, message, wrapper, L, P, R, host, firmware, servedSince, crossed, Between, Later, Supposed, pollsDue, dataOf, theData, theStatus, NotYet, Ends, Demand, Script, played}
 use Rattle.readout.proofs.Filled.{length-filled}
 use Rattle.readout.proofs.Transfer.{Transfer, unreadIn, due}
-use Rattle.readout.proofs.Steps.{Steps, event-steps}
-use Rattle.readout.proofs.Histories.{run-append, all-append}
+use Rattle.readout.proofs.Steps.{StepsBy, event-steps}
+use Rattle.readout.proofs.Histories.{reached-append, all-append, throughout-parts, throughout-map, events, replayed}
 use Rattle.readout.proofs.Carried.{takes-due, some-due, Before, before, After, after}
 use Rattle.readout.proofs.Waiting.{Arriving}
 use Rattle.readout.proofs.Arrival.{Arrived, history-arrives}
@@ -39,16 +40,6 @@ use Rattle.readout.proofs.Willing.{willing-served}
 use Rattle.readout.proofs.Owed.{bytesFor, Owes, owes, Rests, rests}
 
 -- ---- the wrapper
-
--- A history `h`, and one more event `e` after it.
-module _ (h : List Event) (e : Event) (s : Socket) where
-  run-one : run (h ++ (e ∷ [])) s ≡ next e (run h s)
-  unfolding run
-  run-one = run-append h (e ∷ []) s
-
-  all-one : (what : Shows → List ℕ) → all what (h ++ (e ∷ [])) s ≡ all what h s ++ what (shows e (run h s))
-  unfolding all
-  all-one what = all-append what h (e ∷ []) s ∙ ap (λ (l : List ℕ). all what h s ++ l) (append-nil (what (shows e (run h s))))
 
 -- How many bytes of data the host gets.
 abbrev pub dataLength : DataDirection → ℕ → ℕ
@@ -78,55 +69,40 @@ poll-puts : (g : Given) (s : Socket) → shows (poll g) s .put ≡ []
 unfolding shows
 poll-puts g s = refl
 
-module _ (t : Story) (u : Supposed t) where
-  -- The socket before the last packet of the wrapper, and what the poll of that packet showed.
-  abbrev waiting-for : Socket
-  waiting-for = run (t .arrival) (t .start)
+module _ (p : Script) (u : Supposed (played p)) where
+  abbrev t : Story
+  t = played p
 
-  abbrev completing : Shows
-  completing = shows (poll (t .completing)) waiting-for
+  came : Arrived (P t) [] (p .arrival) (p .start)
+  came = history-arrives (P t) (p .arrival) [] (p .start) (waits-arriving (p .start) (u .between)) (u .unfinished)
 
-  came : Arrived (P t) [] (t .arrival) (t .start)
-  came = history-arrives (P t) (t .arrival) [] (t .start) (waits-arriving (t .start) (u .between)) (u .unfinished)
+  -- The poll that takes the last packet of the wrapper.
+  opened : Opened (P t) (message t) (t .completed)
+  opened = opens (P t) (arrivedIn (t .arrival)) (reached (t .arrival) (t .start)) (came .arriving) (u .unfinished) (t .completing) (u .valid)
 
-  message-is : message t ≡ arrivedIn (t .arrival) (t .start) ++ firstOf (completing .taken)
-  message-is = all-one (t .arrival) (poll (t .completing)) (t .start) (λ (o : Shows). firstOf (o .taken))
+  -- Nothing was sent or put in before it.
+  sent-before : sentIn (toStatus t) ≡ t .completed .sent ++ sentIn (t .before)
+  unfolding all
+  sent-before = all-append (λ (o : Shows). o .sent) (t .arrival) _ ∙ rw (came .sent)
 
-  opened : Opened (P t) (message t) completing
-  opened =
-      rw message-is (opens (P t) (arrivedIn (t .arrival) (t .start)) waiting-for (came .arriving) (u .unfinished) (t .completing) (rw message-is at (u .valid)))
-
-  sent-is : sentIn (toWrapper t) (t .start) ≡ completing .sent
-  sent-is = all-one (t .arrival) (poll (t .completing)) (t .start) (λ (o : Shows). o .sent) ∙ rw (came .sent)
-
-  put-is : putIn (toWrapper t) (t .start) ≡ completing .put
-  put-is = all-one (t .arrival) (poll (t .completing)) (t .start) (λ (o : Shows). o .put) ∙ rw (came .put)
-
-  parsed-is : afterWrapper t ≡ completing .socket
-  parsed-is = run-one (t .arrival) (poll (t .completing)) (t .start)
-
-  begun : Transfer (wrapper t) (P t) (sentIn (toWrapper t) (t .start)) (putIn (toWrapper t) (t .start)) (afterWrapper t)
-  begun = rw (sent-is, put-is, parsed-is) (opened .transfer)
+  put-before : putIn (toStatus t) ≡ t .completed .put ++ putIn (t .before)
+  unfolding all
+  put-before = all-append (λ (o : Shows). o .put) (t .arrival) _ ∙ rw (came .put)
 
   -- ---- its status
 
-  earlier-put : putIn (history t) (t .start) ≡ putIn (toStatus t) (t .start) ++ (shows (status (t .lastStatus)) (beforeStatus t) .put ++ putIn (t .after) (afterStatus t))
+  earlier-put : firmware t ≡ putIn (toStatus t) ++ (t .stated .put ++ putIn (t .after))
   unfolding all
-  earlier-put = all-append (λ (o : Shows). o .put) (toStatus t) (status (t .lastStatus) ∷ t .after) (t .start)
+  earlier-put = all-append (λ (o : Shows). o .put) (toStatus t) (did (status (t .lastStatus)) (t .stated) ∷ t .after)
 
-  few-before : length (putIn (toStatus t) (t .start)) ≤ L t
-  few-before =
-      let rest : List ℕ = shows (status (t .lastStatus)) (beforeStatus t) .put ++ putIn (t .after) (afterStatus t) in
-      omega (arith, u .few, ap length earlier-put, length-append (putIn (toStatus t) (t .start)) rest)
+  few-before : length (putIn (toStatus t)) ≤ L t
+  few-before = omega (arith, u .few, ap length earlier-put, length-append (putIn (toStatus t)) (t .stated .put ++ putIn (t .after)))
 
-  met-before : Before (wrapper t) (P t) (sentIn (toWrapper t) (t .start)) (putIn (toWrapper t) (t .start)) (t .before) (afterWrapper t)
-  met-before = before (wrapper t) (P t) (t .before) (afterWrapper t) _ _ begun (rw parsed-is (opened .takes)) (u .earlier) (rw (all-append (λ (o : Shows). o .put) (toWrapper t) (t .before) (t .start)) at few-before)
+  met-before : Before (wrapper t) (P t) (t .completed .sent) (t .completed .put) (p .before) (afterWrapper t)
+  met-before = before (wrapper t) (P t) (p .before) (afterWrapper t) _ _ (opened .transfer) (opened .takes) (u .earlier) (rw put-before at few-before)
 
-  reached-is : beforeStatus t ≡ run (t .before) (afterWrapper t)
-  reached-is = run-append (toWrapper t) (t .before) (t .start)
-
-  arrived-there : Transfer (wrapper t) (P t) (sentIn (toStatus t) (t .start)) (putIn (toStatus t) (t .start)) (beforeStatus t)
-  arrived-there = rw (all-append (λ (o : Shows). o .sent) (toWrapper t) (t .before) (t .start), all-append (λ (o : Shows). o .put) (toWrapper t) (t .before) (t .start), reached-is) (met-before .transfer)
+  arrived-there : Transfer (wrapper t) (P t) (sentIn (toStatus t)) (putIn (toStatus t)) (beforeStatus t)
+  arrived-there = rw (sent-before, put-before) (met-before .transfer)
 
   here : Accepted (beforeStatus t .device) (t .lastStatus) (setStatusCall (beforeStatus t .device) (beforeStatus t .io) (t .lastStatus))
   unfolding accepts isStatus shows
@@ -141,9 +117,6 @@ module _ (t : Story) (u : Supposed t) where
   unfolding withFigure
   told-status = ap (λ (d : Device). d .status) told-is ∙ ap (λ (w : Wrapper). Present (statusOfNumber (t .lastStatus .status)) (residueOf (w .length) (t .lastStatus .figure))) (arrived-there .wrapper)
 
-  takes : takesStatus (stateNumber (beforeStatus t .device .state)) ≡ true
-  takes = rw reached-is (met-before .takes)
-
   -- What is due when the status has come.
   told-due : due (afterStatus t) ≡ pollsDue t
   unfolding withFigure
@@ -152,25 +125,21 @@ module _ (t : Story) (u : Supposed t) where
       let same-state : afterStatus t .device .state ≡ d .state = ap (λ (d : Device). d .state) told-is in
       let same-left : afterStatus t .device .left .0 ≡ R t = ap (λ (d : Device). d .left .0) told-is in
       let same-size : afterStatus t .device .fixed .packetsize ≡ P t = ap (λ (d : Device). d .fixed .packetsize) told-is ∙ arrived-there .packetsize in
-      takes-due (afterStatus t .device .state) (afterStatus t .device .fixed .packetsize) (afterStatus t .device .left .0) (length (unreadIn (afterStatus t))) (rw same-state takes) ∙ rw (same-left, same-size)
+      takes-due (afterStatus t .device .state) (afterStatus t .device .fixed .packetsize) (afterStatus t .device .left .0) (length (unreadIn (afterStatus t))) (rw same-state (met-before .takes)) ∙ rw (same-left, same-size)
 
   -- The invariant of the transfer still holds when the status has come.
-  with-status : Transfer (wrapper t) (P t) (sentIn (toStatus t) (t .start) ++ shows (status (t .lastStatus)) (beforeStatus t) .sent) (putIn (toStatus t) (t .start) ++ shows (status (t .lastStatus)) (beforeStatus t) .put) (afterStatus t)
+  with-status : Transfer (wrapper t) (P t) (sentIn (toStatus t) ++ t .stated .sent) (putIn (toStatus t) ++ t .stated .put) (afterStatus t)
   unfolding isReset
-  with-status = event-steps (wrapper t) (P t) _ _ few-before (beforeStatus t) arrived-there (some-due (wrapper t) (P t) (beforeStatus t) _ _ arrived-there takes) (status (t .lastStatus)) refl .transfer
+  with-status = event-steps (wrapper t) (P t) _ _ few-before (beforeStatus t) arrived-there (some-due (wrapper t) (P t) (beforeStatus t) _ _ arrived-there (met-before .takes)) (status (t .lastStatus)) refl .transfer
 
   -- ---- after it
 
-  ended-is : ended t ≡ run (t .after) (afterStatus t)
-  unfolding run
-  ended-is = run-append (toStatus t) (status (t .lastStatus) ∷ t .after) (t .start)
-
-  host-is : host t ≡ (sentIn (toStatus t) (t .start) ++ shows (status (t .lastStatus)) (beforeStatus t) .sent) ++ sentIn (t .after) (afterStatus t)
+  host-is : host t ≡ (sentIn (toStatus t) ++ t .stated .sent) ++ sentIn (t .after)
   unfolding all
-  host-is = all-append (λ (o : Shows). o .sent) (toStatus t) (status (t .lastStatus) ∷ t .after) (t .start) ∙ sym (append-assoc (sentIn (toStatus t) (t .start)) _ (sentIn (t .after) (afterStatus t)))
+  host-is = all-append (λ (o : Shows). o .sent) (toStatus t) (did (status (t .lastStatus)) (t .stated) ∷ t .after) ∙ sym (append-assoc (sentIn (toStatus t)) (t .stated .sent) (sentIn (t .after)))
 
-  firmware-is : firmware t ≡ (putIn (toStatus t) (t .start) ++ shows (status (t .lastStatus)) (beforeStatus t) .put) ++ putIn (t .after) (afterStatus t)
-  firmware-is = earlier-put ∙ sym (append-assoc (putIn (toStatus t) (t .start)) _ (putIn (t .after) (afterStatus t)))
+  firmware-is : firmware t ≡ (putIn (toStatus t) ++ t .stated .put) ++ putIn (t .after)
+  firmware-is = earlier-put ∙ sym (append-assoc (putIn (toStatus t)) (t .stated .put) (putIn (t .after)))
 
   -- What holds at the end of a story with fewer served polls than the number: the invariant, the status, and what is still due.
   record Sum : Type 0 where
@@ -180,40 +149,35 @@ module _ (t : Story) (u : Supposed t) where
 
   sum : servedSince t < pollsDue t → Sum
   sum less =
-      let a : After (wrapper t) (P t) _ _ (t .after) (afterStatus t) =
-      after (wrapper t) (P t) (t .after) (afterStatus t) _ _ with-status (rw told-status) (u .later) (rw firmware-is at (u .few)) (rw told-due less) in
+      let a : After (wrapper t) (P t) _ _ (p .after) (afterStatus t) =
+      after (wrapper t) (P t) (p .after) (afterStatus t) _ _ with-status (rw told-status) (u .later) (rw firmware-is at (u .few)) (rw told-due less) in
       record {
-        transfer = rw (host-is, firmware-is, ended-is) (a .transfer);
-        status = rw ended-is (a .status ∙ told-status);
-        count = rw ended-is (a .count ∙ told-due);
+        transfer = rw (host-is, firmware-is) (a .transfer);
+        status = a .status ∙ told-status;
+        count = a .count ∙ told-due;
       }
 
   -- ---- what crossed the wire
 
-  wrapper-taken : length (takenIn (toWrapper t) (t .start)) ≡ 31 + length (flatten (drop 1 (completing .taken)))
-  wrapper-taken =
-      let m : List ℕ = arrivedIn (t .arrival) (t .start) in
-      let ps : List (List ℕ) = completing .taken in
-      let last : takenIn (toWrapper t) (t .start) ≡ takenIn (t .arrival) (t .start) ++ flatten ps = all-one (t .arrival) (poll (t .completing)) (t .start) (λ (o : Shows). flatten (o .taken)) in
-      omega (arith, ap length last, length-append (takenIn (t .arrival) (t .start)) (flatten ps), ap length (came .alone), first-rest ps, length-append m (firstOf ps), ap length message-is, u .valid .whole)
-
-  left-is : R t ≡ L t - crossed t
-  left-is =
-      let sent : List ℕ = sentIn (t .before) (afterWrapper t) in
-      let taken : List ℕ = takenIn (t .before) (afterWrapper t) in
-      let begun-left : afterWrapper t .device .left .0 ≡ L t - (length (completing .sent) + length (flatten (drop 1 (completing .taken)))) = ap (λ (z : Socket). z .device .left .0) parsed-is ∙ opened .wire in
-      let reached-left : R t ≡ afterWrapper t .device .left .0 - (length sent + length taken) = ap (λ (z : Socket). z .device .left .0) reached-is ∙ met-before .wire in
+  taken-before : length (takenIn (toStatus t)) ≡ 31 + length (flatten (drop 1 (t .completed .taken))) + length (takenIn (t .before))
+  unfolding all
+  taken-before =
+      let m : List ℕ = arrivedIn (t .arrival) in
+      let ps : List (List ℕ) = t .completed .taken in
+      let parts : takenIn (toStatus t) ≡ takenIn (t .arrival) ++ (flatten ps ++ takenIn (t .before)) = all-append (λ (o : Shows). flatten (o .taken)) (t .arrival) _ in
       omega (
         arith,
-        begun-left,
-        reached-left,
-        wrapper-taken,
-        ap length sent-is,
-        ap length (all-append (λ (o : Shows). o .sent) (toWrapper t) (t .before) (t .start)),
-        length-append (sentIn (toWrapper t) (t .start)) sent,
-        ap length (all-append (λ (o : Shows). flatten (o .taken)) (toWrapper t) (t .before) (t .start)),
-        length-append (takenIn (toWrapper t) (t .start)) taken,
+        ap length parts,
+        length-append (takenIn (t .arrival)) (flatten ps ++ takenIn (t .before)),
+        length-append (flatten ps) (takenIn (t .before)),
+        ap length (came .alone),
+        first-rest ps,
+        length-append m (firstOf ps),
+        u .valid .whole,
       )
+
+  left-is : R t ≡ L t - crossed t
+  left-is = omega (arith, opened .wire, met-before .wire, taken-before, ap length sent-before, length-append (t .completed .sent) (sentIn (t .before)))
 
   -- ---- what is promised
 
@@ -233,15 +197,16 @@ module _ (t : Story) (u : Supposed t) where
       owes (wrapper t) (host t) (firmware t) (k .fixed .packetsize) (rw (z .transfer .packetsize) positive) (k .state) (k .status) (k .left .0) (unreadIn (ended t)) _ _ (z .status) (z .transfer .phase) more in
       record { rest = o .rest; some = o .some; prefix = o .whole ∙ rw (z .status, the-status) }
 
-  ends : servedSince t + 1 ≡ pollsDue t → (g : Given) → Later (poll g) (ended t) → served (poll g) (ended t) ≡ 1 → Ends t g
-  ends last g later one =
+  ends : servedSince t + 1 ≡ pollsDue t → (g : Given) → Later (poll g) (ended t) (shows (poll g) (ended t)) → isServed (shows (poll g) (ended t) .answer) ≡ true → Ends t (shows (poll g) (ended t))
+  unfolding isPoll served
+  ends last g later does =
       let z : Sum = sum (omega arith) in
       let e : Socket = ended t in
-      let st : Steps (wrapper t) (P t) (host t) (firmware t) e (accepts (poll g) e) (served (poll g) e) (shows (poll g) e) =
+      let st : StepsBy (wrapper t) (P t) (host t) (firmware t) (poll g) e =
       event-steps (wrapper t) (P t) (host t) (firmware t) (u .few) e (z .transfer) (omega (arith, z .count)) (poll g) (later .no-reset) in
       let o : Socket = next (poll g) e in
       let same : o .device .status ≡ Present (statusOfNumber (t .lastStatus .status)) (residueOf (L t) (t .lastStatus .figure)) = st .status (later .no-status) ∙ z .status in
-      let none-due : due o ≡ 0 = omega (arith, st .count (rw (z .status)) (later .full), z .count) in
+      let none-due : due o ≡ 0 = omega (arith, rw does at (st .count (rw (z .status)) (later .full)), z .count) in
       let r : Rests (wrapper t) (host t ++ shows (poll g) e .sent) (firmware t ++ shows (poll g) e .put) (o .device .state) (o .device .status) (unreadIn o) =
       rests (wrapper t) _ _ (o .device .fixed .packetsize) (rw (st .transfer .packetsize) positive) (o .device .state) (o .device .status) (o .device .left .0) (unreadIn o) _ _ same (st .transfer .phase) none-due in
       let bytes : host t ++ shows (poll g) e .sent ≡ theData t ++ theStatus t =
@@ -261,6 +226,44 @@ promised-length t few = length-append (theData t) (theStatus t) ∙ ap₂ _+_ (b
     by In = length-filled _ (L t) (firmware t) few
     by NotExpected = refl
 
+-- The mission's third demand, for a story that is computed from its events.
+demand-played : (p : Script) → Supposed (played p) → Demand ByValue (played p)
+demand-played p u = record {
+  left = left-is p u;
+  not-before = not-yet p u;
+  exactly = λ last g o does. subst (λ (o : Shows). Later (poll g) (ended (played p)) o → isServed (o .answer) ≡ true → Ends (played p) o) (sym does) (ends p u last g);
+  reachable = λ less g o does w. rw does (willing-served g (ended (played p)) (sum p u less .transfer .whole) w);
+}
+
+-- ---- every story
+
+-- A story that happened by value is that of its events.
+abbrev scriptOf : Story → Script
+scriptOf t = record { start = t .start; arrival = events (t .arrival); completing = t .completing; before = events (t .before); lastStatus = t .lastStatus; after = events (t .after) }
+
+story-by : (t : Story) (h k l : List Event) → t .arrival ≡ historyOf h (t .start) → t .completed ≡ shows (poll (t .completing)) (reached (t .arrival) (t .start)) → t .before ≡ historyOf k (afterWrapper t)
+    → t .stated ≡ shows (status (t .lastStatus)) (beforeStatus t) → t .after ≡ historyOf l (afterStatus t)
+    → t ≡ played (record { start = t .start; arrival = h; completing = t .completing; before = k; lastStatus = t .lastStatus; after = l })
+story-by t h k l arrives completes goes states last = rw (last, states, goes, completes, arrives)
+
+story-is : (t : Story) → Happened ByValue t → t ≡ played (scriptOf t)
+story-is t h =
+    let (first, (states, last)) = throughout-parts ByValue (toStatus t) (did (status (t .lastStatus)) (t .stated) ∷ t .after) (t .start) h in
+    let (arrives, (completes, goes)) = throughout-parts ByValue (t .arrival) (did (poll (t .completing)) (t .completed) ∷ t .before) (t .start) first in
+    let there : reached (toStatus t) (t .start) ≡ beforeStatus t = reached-append (t .arrival) (did (poll (t .completing)) (t .completed) ∷ t .before) (t .start) in
+    story-by t (events (t .arrival)) (events (t .before)) (events (t .after)) (replayed (t .arrival) (t .start) arrives) completes (replayed (t .before) (afterWrapper t) goes) (rw there at states) (replayed (t .after) (afterStatus t) last)
+
+-- What `Does` says of an event is true.
+abbrev pub Faithful : (Event → Socket → Shows → Type 0) → Type 0
+Faithful Does = (e : Event) (s : Socket) (o : Shows) → Does e s o → ByValue e s o
+
 -- The mission's third demand.
-pub demand : (t : Story) → Supposed t → Demand t
-demand t u = record { left = left-is t u; not-before = not-yet t u; exactly = ends t u; reachable = λ less g w. willing-served g (ended t) (sum t u less .transfer .whole) w }
+pub demand : (Does : Event → Socket → Shows → Type 0) → Faithful Does → (t : Story) → Happened Does t → Supposed t → Demand Does t
+demand Does faithful t h u =
+    let d : Demand ByValue t = subst (λ (t : Story). Supposed t → Demand ByValue t) (sym (story-is t (throughout-map Does ByValue faithful (history t) (t .start) h))) (demand-played (scriptOf t)) u in
+    record {
+      left = d .left;
+      not-before = d .not-before;
+      exactly = λ last g o does. d .exactly last g o (faithful (poll g) (ended t) o does);
+      reachable = λ less g o does. d .reachable less g o (faithful (poll g) (ended t) o does);
+    }

@@ -15,6 +15,8 @@ use Rattle.buffer.specs.Buffer.{unread, unreadBytes, lacksRoom}
 use Rattle.buffer.specs.Inner.Buffer.{Sound}
 use Rattle.answers.specs.declared.Endpoint.{Endpoint}
 use Rattle.answers.specs.declared.Endpoint.the-variants.{Served, Busy, Failed}
+use Rattle.answers.specs.declared.Stalls.{Stalls}
+use Rattle.answers.specs.declared.Stalls.the-variants.{Kept}
 use Rattle.answers.specs.Answers.{Answering, answer, answeredBy}
 use Rattle.ring.specs.declared.State.{State}
 use Rattle.ring.specs.States.{stateNumber}
@@ -35,7 +37,7 @@ use Rattle.calls.specs.Status.{Stating, withFigure}
 use Rattle.calls.specs.Data.{Moving, writeDataCall, writeDataAllCall}
 use Rattle.calls.specs.Bus.{Handling, handlingOfReset}
 use Rattle.calls.proofs.After.{by-status, data-elsewhere, write-counts, write-count, write-unread, write-first, write-all-counts, write-all-answer, write-all-unread, reset-done, by-request}
-use Rattle.readout.specs.History.{Socket, socket, Event, poll, status, write, writeAll, read, reset, control, command, commandStep, Shows, ofStatus, ofBus, shows, isPoll}
+use Rattle.readout.specs.History.{Socket, socket, Event, poll, status, write, writeAll, read, reset, control, command, commandStep, mislent, Shows, quietly, ofStatus, ofBus, shows, isPoll}
 use Rattle.readout.specs.Account.{comesTo6, isRefusal, missingAt, filledBy, isToHost, Lasts}
 use Rattle.readout.proofs.Transfer.{unreadIn}
 use Rattle.readout.proofs.Rules.{bytesOf}
@@ -158,6 +160,10 @@ pub record Flows (s : Socket) (n : ℕ) (o : Shows) : Type 0 where
   pub flow : length (unreadIn (o .socket)) + length (o .sent) ≡ length (unreadIn s) + length (o .put) + n
   pub count : o .socket .device .putin ≡ risen (s .device .putin) (length (o .put))
 
+-- After the event `e` at the socket `s` the device is in 4 or 6.
+abbrev pub LastsBy : Event → Socket → Type 0
+LastsBy e s = Lasts e s (shows e s)
+
 -- In 4 and 6 nothing can be read.
 in-46 : (σ : State) → isToHost σ ≡ true → eqb (stateNumber σ) 7 ≡ false
 in-46 CommandTransfer h = absurd (clash (sym h))
@@ -175,26 +181,26 @@ module _ (s : Socket) (whole : Whole (numbersOf (s .device)) (length (s .io))) (
   unfolding risen
   count-stays = ap (λ (n : ℕ). record { 0 = n }) (omega arith)
 
-  poll-flows : (g : Given) → Lasts (poll g) s → Flows s (filledBy (poll g) s) (shows (poll g) s)
+  poll-flows : (g : Given) → LastsBy (poll g) s → Flows s (filledBy (poll g) s (shows (poll g) s)) (shows (poll g) s)
   unfolding shows filledBy isPoll
   poll-flows g lasts =
       let m = call-moves s whole g in46 lasts in
       record { flow = rw (add-zero (length (unreadIn s))) (m .0); count = m .1 ∙ count-stays }
 
-  unchanged : (a : Answering) → Flows s 0 (record { socket = s; answer = a; taken = []; sent = []; put = [] })
-  unchanged a = record { flow = omega arith; count = count-stays }
+  unchanged : (a : Answering) (stalls : Stalls) (delivered : List ℕ) → Flows s 0 (quietly s a stalls delivered)
+  unchanged a stalls delivered = record { flow = omega arith; count = count-stays }
 
   status-flows : (f : FirmwareStatus) → Flows s 0 (shows (status f) s)
   unfolding shows withFigure
-  status-flows f = by-status (s .device) (s .io) f (λ (o : Stating). Flows s 0 (ofStatus (s .io) o)) (unchanged (answer 10)) (unchanged (answer 12)) (λ _ _. record { flow = omega arith; count = count-stays })
+  status-flows f = by-status (s .device) (s .io) f (λ (o : Stating). Flows s 0 (ofStatus (s .io) o)) (unchanged (answer 10) Kept []) (unchanged (answer 12) Kept []) (λ _ _. record { flow = omega arith; count = count-stays })
 
   read-flows : (dst : List ℕ) → Flows s 0 (shows (read dst) s)
   unfolding shows isIn
-  read-flows dst = rw (data-elsewhere 7 (s .device) (s .io) dst _ whole (in-46 (s .device .state) in46)) (unchanged (answer 3))
+  read-flows dst = rw (data-elsewhere 7 (s .device) (s .io) dst _ whole (in-46 (s .device .state) in46)) (unchanged _ Kept [])
 
   -- The first `n` bytes of the source were put in after the unread ones.
   put-flows : (d : Device) (io src : List ℕ) (n : ℕ) (a : Answering) → n ≤ length src → d .putin ≡ risen (s .device .putin) n → unreadBytes (bufferOf d io) ≡ unreadIn s ++ take n src
-      → Flows s 0 (record { socket = socket d io; answer = a; taken = []; sent = []; put = take n src })
+      → Flows s 0 (record { socket = socket d io; answer = a; stalls = Kept; taken = []; sent = []; put = take n src; delivered = [] })
   put-flows d io src n a most counts behind =
       let long : length (take n src) ≡ n = length-take-le n src most in
       record { flow = omega (arith, ap length behind, length-append (unreadIn s) (take n src)); count = rw long counts }
@@ -208,7 +214,7 @@ module _ (s : Socket) (whole : Whole (numbersOf (s .device)) (length (s .io))) (
       cases (isIn 4 d)
       (λ in4. put-flows (o .device) (o .bytes) src (o .count) _ (omega (arith, write-count d io whole src in4)) (write-counts d io src stored)
       (write-unread d io whole src in4 ∙ ap (λ (l : List ℕ). unreadIn s ++ l) (write-first d io whole src in4)))
-      (λ elsewhere. rw (data-elsewhere 4 d io io _ whole elsewhere) (unchanged (answer 3)))
+      (λ elsewhere. rw (data-elsewhere 4 d io io _ whole elsewhere) (unchanged _ Kept []))
 
   write-all-flows : (src : List ℕ) → Flows s 0 (shows (writeAll src) s)
   unfolding shows
@@ -223,20 +229,20 @@ module _ (s : Socket) (whole : Whole (numbersOf (s .device)) (length (s .io))) (
       (cases (lacksRoom (length src) (bufferOf d io)) (λ full. rw (n, full) zero-le) (λ room. rw (n, room) (omega arith)))
       (write-all-counts d io src stored)
       (write-all-unread d io whole src in4 ∙ cases (lacksRoom (length src) (bufferOf d io)) (λ full. rw (n, full) (sym (append-nil (unreadIn s)))) (λ room. rw (n, room, take-length))))
-      (λ elsewhere. rw (data-elsewhere 4 d io io _ whole elsewhere) (unchanged (answer 3)))
+      (λ elsewhere. rw (data-elsewhere 4 d io io _ whole elsewhere) (unchanged _ Kept []))
 
   -- A reset leaves 4 and 6.
-  reset-flows : Lasts reset s → Flows s 0 (shows reset s)
+  reset-flows : LastsBy reset s → Flows s 0 (shows reset s)
   unfolding shows handlingOfReset
   reset-flows lasts = absurd (clash (sym (rw (reset-done (s .device) (s .io) whole) at lasts)))
 
-  control-flows : (q : Request) → Lasts (control q) s → Flows s 0 (shows (control q) s)
+  control-flows : (q : Request) → LastsBy (control q) s → Flows s 0 (shows (control q) s)
   unfolding shows handlingOfReset
   control-flows q =
       by-request (s .device) (s .io) q (λ (o : Handling). isToHost (o .device .state) ≡ true → Flows s 0 (ofBus (s .io) o))
-      (λ a _ _. unchanged a) (λ _ _ lasts. absurd (clash (sym lasts)))
+      (λ a _ _. unchanged a _ _) (λ _ _ lasts. absurd (clash (sym lasts)))
 
-  pub event-flows : (e : Event) → Lasts e s → Flows s (filledBy e s) (shows e s)
+  pub event-flows : (e : Event) → LastsBy e s → Flows s (filledBy e s (shows e s)) (shows e s)
   unfolding shows filledBy isPoll
   event-flows (poll g) lasts = poll-flows g lasts
   event-flows (status f) lasts = status-flows f
@@ -245,5 +251,6 @@ module _ (s : Socket) (whole : Whole (numbersOf (s .device)) (length (s .io))) (
   event-flows (read dst) lasts = read-flows dst
   event-flows reset lasts = reset-flows lasts
   event-flows (control q) lasts = control-flows q lasts
-  event-flows command lasts = unchanged _
-  event-flows (commandStep extended) lasts = unchanged _
+  event-flows command lasts = unchanged _ _ _
+  event-flows (commandStep extended) lasts = unchanged _ _ _
+  event-flows mislent lasts = unchanged _ _ _

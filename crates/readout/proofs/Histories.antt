@@ -1,15 +1,49 @@
--- What a history leaves and shows where more events follow it. Assumes nothing.
-use mathlib.Core.Path.{_≡_, refl, sym, ap, _∙_}
+-- Histories: one that goes on, and one of which each happening is what its event does. Assumes nothing.
+--     reached-append, all-append    what a history that goes on leaves and shows
+--     throughout-parts, throughout-joined    what holds of a history that goes on holds of its parts, and the other way round
+--     throughout-map                what follows of each happening follows of a history
+--     computed-happened             a history that is computed from its events happened by value
+--     events, replayed              the events of a history; a history by value is that of its events
+use mathlib.Core.Path.{_≡_, refl, sym, ap, ap₂, _∙_, subst}
 use mathlib.Core.List.{List, [], _∷_, _++_, append-assoc}
 use Prim.Native.Nat.{ℕ}
-use Rattle.readout.specs.History.{Socket, Event, Shows, shows, next, run, all}
+use Rattle.readout.specs.History.{Socket, Event, Shows, shows, next, Happening, did, historyOf, reached, all, Throughout, ByValue}
 
-pub run-append : (h k : List Event) (s : Socket) → run (h ++ k) s ≡ run k (run h s)
-unfolding run
-run-append [] k s = refl
-run-append (e ∷ h) k s = run-append h k (next e s)
+pub reached-append : (xs ys : List Happening) (s : Socket) → reached (xs ++ ys) s ≡ reached ys (reached xs s)
+reached-append [] ys s = refl
+reached-append (x ∷ xs) ys s = reached-append xs ys (x .shown .socket)
 
-pub all-append : (what : Shows → List ℕ) (h k : List Event) (s : Socket) → all what (h ++ k) s ≡ all what h s ++ all what k (run h s)
-unfolding run all
-all-append what [] k s = refl
-all-append what (e ∷ h) k s = ap (λ (l : List ℕ). what (shows e s) ++ l) (all-append what h k (next e s)) ∙ sym (append-assoc (what (shows e s)) (all what h (next e s)) (all what k (run h (next e s))))
+pub all-append : (what : Shows → List ℕ) (xs ys : List Happening) → all what (xs ++ ys) ≡ all what xs ++ all what ys
+unfolding all
+all-append what [] ys = refl
+all-append what (x ∷ xs) ys = ap (λ (l : List ℕ). what (x .shown) ++ l) (all-append what xs ys) ∙ sym (append-assoc (what (x .shown)) (all what xs) (all what ys))
+
+module _ (Holds : Event → Socket → Shows → Type 0) where
+  pub throughout-parts : (xs ys : List Happening) (s : Socket) → Throughout Holds (xs ++ ys) s → Throughout Holds xs s × Throughout Holds ys (reached xs s)
+  throughout-parts [] ys s h = (tt, h)
+  throughout-parts (x ∷ xs) ys s (h, hs) =
+      let (front, back) = throughout-parts xs ys (x .shown .socket) hs in
+      ((h, front), back)
+
+  pub throughout-joined : (xs ys : List Happening) (s : Socket) → Throughout Holds xs s → Throughout Holds ys (reached xs s) → Throughout Holds (xs ++ ys) s
+  throughout-joined [] ys s _ back = back
+  throughout-joined (x ∷ xs) ys s (h, hs) back = (h, throughout-joined xs ys (x .shown .socket) hs back)
+
+  pub throughout-map : (Gives : Event → Socket → Shows → Type 0) → ((e : Event) (s : Socket) (o : Shows) → Holds e s o → Gives e s o) → (xs : List Happening) (s : Socket) → Throughout Holds xs s → Throughout Gives xs s
+  throughout-map Gives f [] s h = tt
+  throughout-map Gives f (x ∷ xs) s (h, hs) = (f (x .event) s (x .shown) h, throughout-map Gives f xs (x .shown .socket) hs)
+
+pub computed-happened : (h : List Event) (s : Socket) → Throughout ByValue (historyOf h s) s
+computed-happened [] s = tt
+computed-happened (e ∷ h) s = (refl, computed-happened h (next e s))
+
+pub events : List Happening → List Event
+events [] = []
+events (x ∷ xs) = x .event ∷ events xs
+
+pub replayed : (xs : List Happening) (s : Socket) → Throughout ByValue xs s → xs ≡ historyOf (events xs) s
+unfolding events
+replayed [] s h = refl
+replayed (x ∷ xs) s (h, hs) =
+    ap₂ {C = List Happening} (λ (o : Shows) (ys : List Happening). did (x .event) o ∷ ys) h
+    (subst (λ (o : Shows). xs ≡ historyOf (events xs) (o .socket)) h (replayed xs (x .shown .socket) hs))

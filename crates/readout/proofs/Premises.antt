@@ -23,25 +23,26 @@ use Rattle.device.proofs.Wholly.{is-whole}
 use Rattle.bbb.specs.Poll.{Given}
 use Rattle.calls.specs.Checks.{bufferOf}
 use Rattle.calls.specs.Status.{takesStatus}
-use Rattle.readout.specs.History.{Socket, Event, poll, status, shows, next, arrivedIn, served, isReset, isStatus, accepts, Throughout}
-use Rattle.readout.specs.Demand.{Story, afterWrapper, beforeStatus, afterStatus, ended, message, L, firmware, servedSince, waitsIn, Earlier, Full, Later, Supposed, pollsDue, Ends}
+use Rattle.readout.specs.History.{Socket, Event, poll, status, Shows, shows, Happening, did, arrivedIn, Throughout, ByValue, isServed, isReset, isStatus, accepts}
+use Rattle.readout.specs.Demand.{Story, toStatus, Happened, afterWrapper, afterStatus, ended, message, L, firmware, servedSince, waitsIn, Earlier, Full, Later, Supposed, pollsDue, Ends, Script, played}
 use Rattle.readout.specs.Cases.{sending, read64, bare8, short8, write8, full8}
 use Rattle.readout.proofs.Computing.{computing}
+use Rattle.readout.proofs.Histories.{reached-append, throughout-joined, computed-happened}
 use Rattle.readout.proofs.Demand.{demand}
 
 -- ---- what is supposed of events, as tests that can be computed
 
 -- The event is no reset.
-keeps : Event → Socket → Bool
-keeps e s = not (isReset e)
+keeps : Event → Socket → Shows → Bool
+keeps e s o = not (isReset e)
 
 -- The event leaves the device in a state in which a status is taken.
-stays : Event → Socket → Bool
-stays e s = takesStatus (stateNumber (next e s .device .state))
+stays : Event → Socket → Shows → Bool
+stays e s o = takesStatus (stateNumber (o .socket .device .state))
 
 -- The event is no accepted status.
-leaves : Event → Socket → Bool
-leaves e s = not (accepts e s)
+leaves : Event → Socket → Shows → Bool
+leaves e s o = not (accepts e o)
 
 -- Each packet has `n` bytes.
 isFull : ℕ → List (List ℕ) → Bool
@@ -53,39 +54,39 @@ unfolding isFull
 is-full n [] h = tt
 is-full n (packet ∷ packets) h = (eqb-true _ _ (and-left (eqb (length packet) n) (isFull n packets) h), is-full n packets (and-right (eqb (length packet) n) (isFull n packets) h))
 
-pub fills : Event → Socket → Bool
-fills e s = isFull (min (s .device .fixed .packetsize) (s .device .left .0)) (shows e s .taken)
+pub fills : Event → Socket → Shows → Bool
+fills e s o = isFull (min (s .device .fixed .packetsize) (s .device .left .0)) (o .taken)
 
--- A test holds at each event of a history.
-throughout : (Event → Socket → Bool) → List Event → Socket → Bool
+-- A test holds at each happening of a history.
+throughout : (Event → Socket → Shows → Bool) → List Happening → Socket → Bool
 throughout test [] s = true
-throughout test (e ∷ h) s = test e s && throughout test h (next e s)
+throughout test (x ∷ xs) s = test (x .event) s (x .shown) && throughout test xs (x .shown .socket)
 
-is-throughout : (test : Event → Socket → Bool) (h : List Event) (s : Socket) → throughout test h s ≡ true → Throughout (λ e s. test e s ≡ true) h s
+is-throughout : (test : Event → Socket → Shows → Bool) (xs : List Happening) (s : Socket) → throughout test xs s ≡ true → Throughout (λ e s o. test e s o ≡ true) xs s
 unfolding throughout
 is-throughout test [] s q = tt
-is-throughout test (e ∷ h) s q =
-    let rest = throughout test h (next e s) in
-    (and-left (test e s) rest q, is-throughout test h (next e s) (and-right (test e s) rest q))
+is-throughout test (x ∷ xs) s q =
+    let rest = throughout test xs (x .shown .socket) in
+    (and-left (test (x .event) s (x .shown)) rest q, is-throughout test xs (x .shown .socket) (and-right (test (x .event) s (x .shown)) rest q))
 
-both : {A B C : Event → Socket → Type 0} → ((e : Event) (s : Socket) → A e s → B e s → C e s) → (h : List Event) (s : Socket) → Throughout A h s → Throughout B h s → Throughout C h s
+both : {A B C : Event → Socket → Shows → Type 0} → ((e : Event) (s : Socket) (o : Shows) → A e s o → B e s o → C e s o) → (xs : List Happening) (s : Socket) → Throughout A xs s → Throughout B xs s → Throughout C xs s
 both join [] s _ _ = tt
-both join (e ∷ h) s (a, more) (b, rest) = (join e s a b, both join h (next e s) more rest)
+both join (x ∷ xs) s (a, more) (b, rest) = (join (x .event) s (x .shown) a b, both join xs (x .shown .socket) more rest)
 
-is-earlier : (h : List Event) (s : Socket) → throughout keeps h s ≡ true → throughout stays h s ≡ true → Throughout Earlier h s
+is-earlier : (xs : List Happening) (s : Socket) → throughout keeps xs s ≡ true → throughout stays xs s ≡ true → Throughout Earlier xs s
 unfolding keeps stays
-is-earlier h s kept same = both (λ e s a b. record { no-reset = not-true _ a; same-command = b }) h s (is-throughout keeps h s kept) (is-throughout stays h s same)
+is-earlier xs s kept same = both (λ e s o a b. record { no-reset = not-true _ a; same-command = b }) xs s (is-throughout keeps xs s kept) (is-throughout stays xs s same)
 
-is-later : (h : List Event) (s : Socket) → throughout keeps h s ≡ true → throughout leaves h s ≡ true → throughout fills h s ≡ true → Throughout Later h s
+is-later : (xs : List Happening) (s : Socket) → throughout keeps xs s ≡ true → throughout leaves xs s ≡ true → throughout fills xs s ≡ true → Throughout Later xs s
 unfolding keeps leaves fills
-is-later h s kept left filled =
-    let quiet : Throughout (λ e s. (isReset e ≡ false) × (accepts e s ≡ false)) h s = both (λ e s a b. (not-true _ a, not-true _ b)) h s (is-throughout keeps h s kept) (is-throughout leaves h s left) in
-    both (λ e s a b. record { no-reset = a .0; no-status = a .1; full = is-full _ _ b }) h s quiet (is-throughout fills h s filled)
+is-later xs s kept left filled =
+    let quiet : Throughout (λ e s o. (isReset e ≡ false) × (accepts e o ≡ false)) xs s = both (λ e s o a b. (not-true _ a, not-true _ b)) xs s (is-throughout keeps xs s kept) (is-throughout leaves xs s left) in
+    both (λ e s o a b. record { no-reset = a .0; no-status = a .1; full = is-full _ _ b }) xs s quiet (is-throughout fills xs s filled)
 
 -- A poll is no reset and no status.
-pub poll-later : (g : Given) (s : Socket) → fills (poll g) s ≡ true → Later (poll g) s
+pub poll-later : (g : Given) (s : Socket) (o : Shows) → fills (poll g) s o ≡ true → Later (poll g) s o
 unfolding fills isReset isStatus accepts
-poll-later g s filled = record { no-reset = refl; no-status = refl; full = is-full _ _ filled }
+poll-later g s o filled = record { no-reset = refl; no-status = refl; full = is-full _ _ filled }
 
 -- ---- the premises
 
@@ -112,11 +113,11 @@ test : Story → Premise → Bool
 test t whole = isWhole (numbersOf (t .start .device)) (length (t .start .io))
 test t waits = waitsIn (t .start .device .state)
 test t nothing = eqb (unread (bufferOf (t .start .device) (t .start .io))) 0
-test t unfinished = ltb (length (arrivedIn (t .arrival) (t .start))) 31
+test t unfinished = ltb (length (arrivedIn (t .arrival))) 31
 test t valid = isValid (message t)
 test t no-reset-before = throughout keeps (t .before) (afterWrapper t)
 test t same-command = throughout stays (t .before) (afterWrapper t)
-test t accepted = accepts (status (t .lastStatus)) (beforeStatus t)
+test t accepted = accepts (status (t .lastStatus)) (t .stated)
 test t no-reset = throughout keeps (t .after) (afterStatus t)
 test t no-status = throughout leaves (t .after) (afterStatus t)
 test t full = throughout fills (t .after) (afterStatus t)
@@ -155,8 +156,20 @@ supposed-by : (t : Story) → broken t ≡ [] → Supposed t
 unfolding broken
 supposed-by t none = supposed-of t (meets t premises none)
 
-ends-by : (t : Story) → Supposed t → (g : Given) → servedSince t + 1 ≡ pollsDue t → fills (poll g) (ended t) ≡ true → served (poll g) (ended t) ≡ 1 → Ends t g
-ends-by t met g last filled one = demand t met .exactly last g (poll-later g (ended t) filled) one
+-- The poll that is given `g` at the end of the story of the script `p`.
+abbrev pub lastPoll : Script → Given → Shows
+lastPoll p g = shows (poll g) (ended (played p))
+
+-- Each happening of such a story is what its event does.
+pub happened-by : (p : Script) → Happened ByValue (played p)
+happened-by p =
+    let t : Story = played p in
+    let start : Throughout ByValue (toStatus t) (t .start) = throughout-joined ByValue (t .arrival) _ (t .start) (computed-happened (p .arrival) (p .start)) (refl, computed-happened (p .before) (afterWrapper t)) in
+    throughout-joined ByValue (toStatus t) _ (t .start) start
+    (rw (reached-append (t .arrival) (did (poll (t .completing)) (t .completed) ∷ t .before) (t .start)), computed-happened (p .after) (afterStatus t))
+
+ends-by : (p : Script) → Supposed (played p) → (g : Given) → servedSince (played p) + 1 ≡ pollsDue (played p) → fills (poll g) (ended (played p)) (lastPoll p g) ≡ true → isServed (lastPoll p g .answer) ≡ true → Ends (played p) (lastPoll p g)
+ends-by p met g last filled does = demand ByValue (λ e s o same. same) (played p) (happened-by p) met .exactly last g (lastPoll p g) refl (poll-later g (ended (played p)) (lastPoll p g) filled) does
 
 -- To unfold this is to unfold all the tests.
 unfoldable pub testing : Unit {0}
@@ -165,42 +178,42 @@ testing = tt
 
 -- ---- the stories
 
-pub met-read64 : Supposed read64
+pub met-read64 : Supposed (played read64)
 unfolding testing read64
-met-read64 = supposed-by read64 refl
+met-read64 = supposed-by (played read64) refl
 
-pub ends-read64 : Ends read64 (sending 64)
+pub ends-read64 : Ends (played read64) (lastPoll read64 (sending 64))
 unfolding testing read64
 ends-read64 = ends-by read64 met-read64 (sending 64) refl refl refl
 
-pub met-bare8 : Supposed bare8
+pub met-bare8 : Supposed (played bare8)
 unfolding testing bare8
-met-bare8 = supposed-by bare8 refl
+met-bare8 = supposed-by (played bare8) refl
 
-pub ends-bare8 : Ends bare8 (sending 8)
+pub ends-bare8 : Ends (played bare8) (lastPoll bare8 (sending 8))
 unfolding testing bare8
 ends-bare8 = ends-by bare8 met-bare8 (sending 8) refl refl refl
 
-pub met-short8 : Supposed short8
+pub met-short8 : Supposed (played short8)
 unfolding testing short8
-met-short8 = supposed-by short8 refl
+met-short8 = supposed-by (played short8) refl
 
-pub ends-short8 : Ends short8 (sending 8)
+pub ends-short8 : Ends (played short8) (lastPoll short8 (sending 8))
 unfolding testing short8
 ends-short8 = ends-by short8 met-short8 (sending 8) refl refl refl
 
-pub met-write8 : Supposed write8
+pub met-write8 : Supposed (played write8)
 unfolding testing short8 write8
-met-write8 = supposed-by write8 refl
+met-write8 = supposed-by (played write8) refl
 
-pub ends-write8 : Ends write8 (sending 8)
+pub ends-write8 : Ends (played write8) (lastPoll write8 (sending 8))
 unfolding testing short8 write8
 ends-write8 = ends-by write8 met-write8 (sending 8) refl refl refl
 
-pub met-full8 : Supposed full8
+pub met-full8 : Supposed (played full8)
 unfolding testing full8
-met-full8 = supposed-by full8 refl
+met-full8 = supposed-by (played full8) refl
 
-pub ends-full8 : Ends full8 (sending 8)
+pub ends-full8 : Ends (played full8) (lastPoll full8 (sending 8))
 unfolding testing full8
 ends-full8 = ends-by full8 met-full8 (sending 8) refl refl refl

@@ -20,11 +20,13 @@ use Rattle.device.specs.declared.Status.the-variants.{Absent}
 use Rattle.bbb.specs.Poll.{Given, given}
 use Rattle.device.specs.Create.{fixed}
 use Rattle.calls.specs.Data.{writeAllIn}
-use Rattle.readout.specs.History.{Socket, socket, Event, poll, status, writeAll, shows, next, run, all, sentIn, putIn, isPoll, Throughout}
-use Rattle.readout.specs.Account.{Readout, eventsSince, reachedBy, countSince, putInSince, sentSince, unreadAt, filledBy, filledIn, filledSince, arrivedFor, isToHost, Lasts, SupposedReadout, Account}
+use Rattle.readout.specs.History.{Socket, socket, Event, poll, status, writeAll, Shows, shows, next, historyOf, reached, all, sentIn, putIn, Throughout, ByValue, isPoll}
+use Rattle.readout.specs.Account.{Readout, allSince, readoutOf, reachedBy, countSince, putInSince, sentSince, unreadAt, filledBy, filledIn, filledSince, arrivedFor, isToHost, Lasts, SupposedReadout, Account}
 use Rattle.readout.specs.Demand.{waitsIn}
 use Rattle.readout.specs.Cases.{taking, sending, newSocket, cbwToHost, read2, tooLong, halfFilled}
 use Rattle.readout.proofs.Computing.{computing}
+use Rattle.readout.proofs.Histories.{computed-happened}
+use Rattle.readout.proofs.Flow.{LastsBy}
 use Rattle.readout.proofs.Account.{account}
 
 -- To unfold this is to unfold everything that the read-outs compute with.
@@ -46,13 +48,9 @@ met-halfFilled = record { waits = refl; nothing = refl; lasts = (refl, (refl, (r
 
 -- The device does not wait: it is in 4, where 31 bytes are unread that were put in before.
 unfoldable pub without-waits : Readout
-without-waits = record {
-  start = run (poll (taking 64 (cbwToHost 100)) ∷ writeAll (replicate 31 1) ∷ []) (newSocket 64 64);
-  completing = sending 64;
-  since = [];
-}
+without-waits = readoutOf (next (writeAll (replicate 31 1)) (next (poll (taking 64 (cbwToHost 100))) (newSocket 64 64))) (sending 64) []
 
-pub needed-waits : (length (arrivedFor without-waits) ≡ 31) × Throughout Lasts (eventsSince without-waits) (without-waits .start) × (Account without-waits → ⊥)
+pub needed-waits : (length (arrivedFor without-waits) ≡ 31) × Throughout Lasts (allSince without-waits) (without-waits .start) × (Account without-waits → ⊥)
 unfolding reckoning without-waits
 needed-waits = (refl, (refl, tt), λ a. eqb-false 31 0 refl (a .counted))
 
@@ -62,9 +60,9 @@ takingBusy n packet = given (replicate n 7) packet [] (record { first = 0; secon
 
 -- A byte came behind the wrapper, in the same packet, and it is unread: nobody put it in.
 unfoldable pub without-nothing : Readout
-without-nothing = record { start = newSocket 64 64; completing = takingBusy 64 (cbwToHost 2 ++ (0xAB ∷ [])); since = [] }
+without-nothing = readoutOf (newSocket 64 64) (takingBusy 64 (cbwToHost 2 ++ (0xAB ∷ []))) []
 
-pub needed-nothing : (waitsIn (without-nothing .start .device .state) ≡ true) × Throughout Lasts (eventsSince without-nothing) (without-nothing .start) × (Account without-nothing → ⊥)
+pub needed-nothing : (waitsIn (without-nothing .start .device .state) ≡ true) × Throughout Lasts (allSince without-nothing) (without-nothing .start) × (Account without-nothing → ⊥)
 unfolding reckoning without-nothing
 needed-nothing = (refl, (refl, tt), λ a. eqb-false 1 0 refl (a .flow))
 
@@ -115,7 +113,7 @@ module _ (left : ℕ) (c : PutIn) where
   abbrev filledUp : Socket
   filledUp = next (writeAll zeros) (between left c)
 
-  write-lasts : Lasts (writeAll zeros) (between left c)
+  write-lasts : LastsBy (writeAll zeros) (between left c)
   unfolding reckoning
   write-lasts = refl
 
@@ -124,23 +122,23 @@ module _ (left : ℕ) (c : PutIn) where
   write-shows = (refl, refl)
 
   module _ (h : 64 ≤ left) where
-    poll-lasts : Lasts (poll (sending 64)) filledUp
+    poll-lasts : LastsBy (poll (sending 64)) filledUp
     poll-lasts = ap (λ (s : Socket). isToHost (s .device .state)) (round left c h)
 
     poll-shows : (shows (poll (sending 64)) filledUp .put ≡ []) × (length (shows (poll (sending 64)) filledUp .sent) ≡ 64)
     unfolding reckoning
     poll-shows = (refl, rw (ne-eqb left 0 (λ e. omega arith), le-leb 64 left h))
 
-    none-filled : filledBy (poll (sending 64)) filledUp ≡ 0
+    none-filled : filledBy (poll (sending 64)) filledUp (shows (poll (sending 64)) filledUp) ≡ 0
     unfolding reckoning
     none-filled = rw (ne-eqb left 0 (λ e. omega arith), le-leb 64 left h)
 
 -- What all of them show.
 record Runs (k left : ℕ) (c : PutIn) : Type 0 where
-  lasts : Throughout Lasts (rounds k) (between left c)
-  put : length (putIn (rounds k) (between left c)) ≡ 64 * k + 64
-  out : length (sentIn (rounds k) (between left c)) ≡ 64 * k
-  none : filledIn (rounds k) (between left c) ≡ 0
+  lasts : Throughout Lasts (historyOf (rounds k) (between left c)) (between left c)
+  put : length (putIn (historyOf (rounds k) (between left c))) ≡ 64 * k + 64
+  out : length (sentIn (historyOf (rounds k) (between left c))) ≡ 64 * k
+  none : filledIn (historyOf (rounds k) (between left c)) (between left c) ≡ 0
 
 runs : (k left : ℕ) (c : PutIn) → 64 * k ≤ left → Runs k left c
 unfolding rounds all filledIn filledBy isPoll
@@ -152,15 +150,15 @@ runs (suc k) left c h =
     let wrote = write-shows left c in
     let polled = poll-shows left c room in
     record {
-      lasts = (write-lasts left c, (poll-lasts left c room, subst (Throughout Lasts (rounds k)) (sym there) (more .lasts)));
-      put = rw (wrote .0, polled .0, there) (omega (arith, more .put, length-append zeros (putIn (rounds k) (between (left - 64) (risen c 64)))));
-      out = rw (wrote .1, there) (omega (arith, more .out, polled .1, length-append (shows (poll (sending 64)) (filledUp left c) .sent) (sentIn (rounds k) (between (left - 64) (risen c 64)))));
+      lasts = (write-lasts left c, (poll-lasts left c room, subst (λ (s : Socket). Throughout Lasts (historyOf (rounds k) s) s) (sym there) (more .lasts)));
+      put = rw (wrote .0, polled .0, there) (omega (arith, more .put, length-append zeros (putIn (historyOf (rounds k) (between (left - 64) (risen c 64))))));
+      out = rw (wrote .1, there) (omega (arith, more .out, polled .1, length-append (shows (poll (sending 64)) (filledUp left c) .sent) (sentIn (historyOf (rounds k) (between (left - 64) (risen c 64))))));
       none = rw (none-filled left c room, there, more .none);
     }
 
 -- 2^26 packets are put in, and all but the last are sent: the bytes are 2^32, one more than the count can hold.
 unfoldable pub stopped : Readout
-stopped = record { start = newSocket 64 64; completing = taking 64 longest; since = writeAll zeros ∷ poll (sending 64) ∷ rounds 67108862 }
+stopped = readoutOf (newSocket 64 64) (taking 64 longest) (writeAll zeros ∷ poll (sending 64) ∷ rounds 67108862)
 
 -- The socket after the wrapper, and after the first packet.
 abbrev opened : Socket
@@ -176,7 +174,7 @@ once-is = refl
 rest : Runs 67108862 4294967231 (record { 0 = 64 })
 rest = runs 67108862 4294967231 (record { 0 = 64 }) (leb-true _ _ refl)
 
-first-lasts : Lasts (poll (taking 64 longest)) (newSocket 64 64) × Lasts (writeAll zeros) opened × Lasts (poll (sending 64)) (next (writeAll zeros) opened)
+first-lasts : LastsBy (poll (taking 64 longest)) (newSocket 64 64) × LastsBy (writeAll zeros) opened × LastsBy (poll (sending 64)) (next (writeAll zeros) opened)
 unfolding reckoning
 first-lasts = (refl, refl, refl)
 
@@ -189,8 +187,12 @@ unfolding stopped
 met-stopped = record {
   waits = refl;
   nothing = first-arrived;
-  lasts = (first-lasts .0, (first-lasts .1, (first-lasts .2, subst (Throughout Lasts (rounds 67108862)) (sym once-is) (rest .lasts))));
+  lasts = (first-lasts .0, (first-lasts .1, (first-lasts .2, subst (λ (s : Socket). Throughout Lasts (historyOf (rounds 67108862) s) s) (sym once-is) (rest .lasts))));
 }
+
+happened-stopped : Throughout ByValue (allSince stopped) (stopped .start)
+unfolding stopped
+happened-stopped = computed-happened (poll (taking 64 longest) ∷ writeAll zeros ∷ poll (sending 64) ∷ rounds 67108862) (newSocket 64 64)
 
 -- The bytes of the read-out: those of the first packet, and those of the rest.
 first-shows : (shows (poll (taking 64 longest)) (newSocket 64 64) .put ≡ []) × (shows (poll (taking 64 longest)) (newSocket 64 64) .sent ≡ [])
@@ -198,7 +200,11 @@ first-shows : (shows (poll (taking 64 longest)) (newSocket 64 64) .put ≡ []) �
 unfolding reckoning
 first-shows = (refl, refl, refl, refl, refl, refl)
 
-first-filled : (filledBy (poll (taking 64 longest)) (newSocket 64 64) ≡ 0) × (filledBy (writeAll zeros) opened ≡ 0) × (filledBy (poll (sending 64)) (next (writeAll zeros) opened) ≡ 0)
+-- How much the event `e` fills in at the socket `s`.
+abbrev fillsIn : Event → Socket → ℕ
+fillsIn e s = filledBy e s (shows e s)
+
+first-filled : (fillsIn (poll (taking 64 longest)) (newSocket 64 64) ≡ 0) × (fillsIn (writeAll zeros) opened ≡ 0) × (fillsIn (poll (sending 64)) (next (writeAll zeros) opened) ≡ 0)
 unfolding reckoning
 first-filled = (refl, refl, refl)
 
@@ -206,13 +212,13 @@ accepted-stopped : putInSince stopped ≡ 4294967296
 unfolding stopped all
 accepted-stopped =
     rw (first-shows .0, first-shows .2, first-shows .4, once-is)
-    (length-append zeros (putIn (rounds 67108862) (between 4294967231 (record { 0 = 64 }))) ∙ ap (λ (n : ℕ). 64 + n) (rest .put))
+    (length-append zeros (putIn (historyOf (rounds 67108862) (between 4294967231 (record { 0 = 64 })))) ∙ ap (λ (n : ℕ). 64 + n) (rest .put))
 
 sent-stopped : sentSince stopped ≡ 4294967232
 unfolding stopped all
 sent-stopped =
     rw (first-shows .1, first-shows .3, first-shows .5, once-is)
-    (length-append zeros (sentIn (rounds 67108862) (between 4294967231 (record { 0 = 64 }))) ∙ ap (λ (n : ℕ). 64 + n) (rest .out))
+    (length-append zeros (sentIn (historyOf (rounds 67108862) (between 4294967231 (record { 0 = 64 })))) ∙ ap (λ (n : ℕ). 64 + n) (rest .out))
 
 filled-stopped : filledSince stopped ≡ 0
 unfolding stopped filledIn
@@ -221,5 +227,5 @@ filled-stopped = rw (first-filled .0, first-filled .1, first-filled .2, once-is,
 -- 64 bytes are unread, and the count is 63 above what was sent.
 pub below-needed : SupposedReadout stopped × (filledSince stopped ≡ 0) × (Less stopped → ⊥)
 below-needed =
-    let a : Account stopped = account stopped met-stopped in
+    let a : Account stopped = account ByValue (λ e s o same. same) stopped happened-stopped met-stopped in
     (met-stopped, filled-stopped, λ less. omega (arith, a .counted, a .flow, less, accepted-stopped, sent-stopped, filled-stopped))

@@ -23,6 +23,8 @@ use Rattle.device.specs.declared.Status.{Status}
 use Rattle.device.specs.Device.{numbersOf, isPresent, withMarks, withPutIn}
 use Rattle.device.specs.Broken.{Whole}
 use Rattle.device.proofs.Wholly.{whole-sound, wrapper-fits, packet-fits, packet-known, packet-bounds}
+use Rattle.answers.specs.declared.Stalls.{Stalls}
+use Rattle.answers.specs.declared.Stalls.the-variants.{Kept}
 use Rattle.answers.specs.Answers.{Answering, answer}
 use Rattle.bbb.specs.Poll.{Given, Polling, Point, point, bufferOfPoint, sendStatus, statusTransferRule, ruleIn, pollRule, Fits, refusing, pollCall}
 use Rattle.bbb.proofs.Keeping.{by-call, call-whole, call-sizes, packet-is}
@@ -33,7 +35,7 @@ use Rattle.calls.specs.Status.{Stating, takesStatus, withFigure}
 use Rattle.calls.specs.Data.{Moving, limited, readDataCall, writeDataCall, writeDataAllCall}
 use Rattle.calls.specs.Bus.{Handling}
 use Rattle.calls.proofs.After.{by-status, status-whole, data-elsewhere, read-keeps, read-whole, write-keeps, write-whole, write-most, write-unread, write-all-keeps, write-all-whole, write-all-answer, write-all-unread, by-request}
-use Rattle.readout.specs.History.{Socket, socket, Event, poll, status, write, writeAll, read, reset, control, command, commandStep, Shows, ofStatus, ofBus, shows, isServed, isPoll, served, isReset, isStatus, accepts}
+use Rattle.readout.specs.History.{Socket, socket, Event, poll, status, write, writeAll, read, reset, control, command, commandStep, mislent, Shows, quietly, ofStatus, ofBus, shows, isServed, isPoll, served, isReset, isStatus, accepts}
 use Rattle.readout.specs.Demand.{Full, ceiling}
 use Rattle.readout.proofs.Ceiling.{ceiling-none}
 use Rattle.readout.proofs.Transfer.{Phase, toHost, waiting, toHostEnding, fromHost, fromHostEnding, sending, Transfer, unreadIn, due, dueIn}
@@ -47,6 +49,10 @@ pub record Steps (w : Wrapper) (p : ℕ) (got put : List ℕ) (s : Socket) (acce
   pub status : accepted ≡ false → o .socket .device .status ≡ s .device .status
   pub count : isPresent (s .device .status) ≡ true → Full (min (s .device .fixed .packetsize) (s .device .left .0)) (o .taken) → due (o .socket) + k ≡ due s
   pub wire : takesStatus (stateNumber (o .socket .device .state)) ≡ true → o .socket .device .left .0 ≡ s .device .left .0 - (length (o .sent) + length (flatten (o .taken)))
+
+-- The same of the event `e` at the socket `s`.
+abbrev pub StepsBy : Wrapper → ℕ → List ℕ → List ℕ → Event → Socket → Type 0
+StepsBy w p got put e s = Steps w p got put s (accepts e (shows e s)) (served e (shows e s)) (shows e s)
 
 -- Where nothing crosses the wire, left stays.
 nothing-moved : (l : ℕ) → l ≡ l - (0 + length {A = ℕ} (flatten []))
@@ -120,8 +126,8 @@ module _ (w : Wrapper) (p : ℕ) (got put : List ℕ) (few : length put ≤ w .l
   unfolding isServed
   call-leads = by-call (s .device) (s .io) g GoesOn (refused-leads 10 refl) (refused-leads 11 refl) (λ _. poll-leads)
 
-  poll-steps : Steps w p got put s (accepts (poll g) s) (served (poll g) s) (shows (poll g) s)
-  unfolding shows served isPoll
+  poll-steps : StepsBy w p got put (poll g) s
+  unfolding shows served isPoll isServed
   poll-steps =
       let l : GoesOn (pollCall (s .device) (s .io) g) = call-leads in
       record {
@@ -140,8 +146,8 @@ module _ (w : Wrapper) (p : ℕ) (got put : List ℕ) (few : length put ≤ w .l
 
 module _ (w : Wrapper) (p : ℕ) (got put : List ℕ) (s : Socket) (t : Transfer w p got put s) where
   -- A call that changes nothing.
-  unchanged : (n : Answering) (accepted : Bool) → Steps w p got put s accepted 0 (record { socket = s; answer = n; taken = []; sent = []; put = [] })
-  unchanged n accepted = record { transfer = rw (append-nil, append-nil) t; status = λ _. refl; count = λ _ _. add-zero _; wire = λ _. nothing-moved (s .device .left .0) }
+  unchanged : (n : Answering) (stalls : Stalls) (delivered : List ℕ) (accepted : Bool) → Steps w p got put s accepted 0 (quietly s n stalls delivered)
+  unchanged n stalls delivered accepted = record { transfer = rw (append-nil, append-nil) t; status = λ _. refl; count = λ _ _. add-zero _; wire = λ _. nothing-moved (s .device .left .0) }
 
   -- In 3 no status is taken. In the states in which one is taken, the phase does not depend on the status.
   restated : (σ : State) (st : Status) → takesStatus (stateNumber σ) ≡ true → Phase w got put σ (s .device .status) (s .device .left .0) (unreadIn s) → Phase w got put σ st (s .device .left .0) (unreadIn s)
@@ -153,12 +159,12 @@ module _ (w : Wrapper) (p : ℕ) (got put : List ℕ) (s : Socket) (t : Transfer
   restated σ st takes (fromHostEnding e dir none) = fromHostEnding e dir none
   restated σ st takes (sending c r e here all) = absurd (clash (sym (rw e at takes)))
 
-  status-steps : (f : FirmwareStatus) → Steps w p got put s (accepts (status f) s) (served (status f) s) (shows (status f) s)
+  status-steps : (f : FirmwareStatus) → StepsBy w p got put (status f) s
   unfolding shows served isPoll accepts isStatus withFigure
   status-steps f =
       by-status (s .device) (s .io) f
       (λ (o : Stating). Whole (numbersOf (o .device)) (length (s .io)) → Steps w p got put s (eqb (o .answer .number) 0) 0 (ofStatus (s .io) o))
-      (λ _. unchanged (answer 10) false) (λ _. unchanged (answer 12) false)
+      (λ _. unchanged (answer 10) Kept [] false) (λ _. unchanged (answer 12) Kept [] false)
       (λ takes _ whole. record {
         transfer = record { whole = whole; packetsize = t .packetsize; wrapper = t .wrapper; phase = rw (append-nil, append-nil) (restated (s .device .state) _ takes (t .phase)) };
         status = λ refused. absurd (clash refused);
@@ -167,11 +173,11 @@ module _ (w : Wrapper) (p : ℕ) (got put : List ℕ) (s : Socket) (t : Transfer
       })
       (status-whole (s .device) (s .io) f (t .whole))
 
-  control-steps : (q : Request) → isReset (control q) ≡ false → Steps w p got put s (accepts (control q) s) (served (control q) s) (shows (control q) s)
+  control-steps : (q : Request) → isReset (control q) ≡ false → StepsBy w p got put (control q) s
   unfolding shows served isPoll accepts isStatus isReset
   control-steps q kept =
       by-request (s .device) (s .io) q (λ (o : Handling). Steps w p got put s false 0 (ofBus (s .io) o))
-      (λ n _. unchanged n false)
+      (λ n _. unchanged n _ _ false)
       (λ counts ff. absurd (clash (sym (ap₂ _&&_ counts ff) ∙ kept)))
 
   -- A call that changes only the marks of the record, and the count of what was put in.
@@ -188,9 +194,9 @@ module _ (w : Wrapper) (p : ℕ) (got put : List ℕ) (s : Socket) (t : Transfer
     same-packetsize : d .fixed .packetsize ≡ s .device .fixed .packetsize
     same-packetsize = ap (λ (x : Device). x .fixed .packetsize) keeps
 
-    marked : (σ : State) → s .device .state ≡ σ → (n : Answering) (ys : List ℕ) → Phase w got (put ++ ys) σ (s .device .status) (s .device .left .0) (unreadBytes (bufferOf d io)) → ((k m : ℕ) → dueIn σ p (s .device .left .0) k ≡ dueIn σ p (s .device .left .0) m)
-        → Steps w p got put s false 0 (record { socket = socket d io; answer = n; taken = []; sent = []; put = ys })
-    marked σ at-σ n ys phase level = record {
+    marked : (σ : State) → s .device .state ≡ σ → (n : Answering) (ys delivered : List ℕ) → Phase w got (put ++ ys) σ (s .device .status) (s .device .left .0) (unreadBytes (bufferOf d io)) → ((k m : ℕ) → dueIn σ p (s .device .left .0) k ≡ dueIn σ p (s .device .left .0) m)
+        → Steps w p got put s false 0 (record { socket = socket d io; answer = n; stalls = Kept; taken = []; sent = []; put = ys; delivered = delivered })
+    marked σ at-σ n ys delivered phase level = record {
       transfer = record {
         whole = whole;
         packetsize = same-packetsize ∙ t .packetsize;
@@ -204,10 +210,10 @@ module _ (w : Wrapper) (p : ℕ) (got put : List ℕ) (s : Socket) (t : Transfer
 
     -- In 4 the bytes `ys` are put in after the unread ones.
     put-in : isIn 4 (s .device) ≡ true → (n : Answering) (ys : List ℕ) → unreadBytes (bufferOf d io) ≡ unreadIn s ++ ys → (σ : State) → s .device .state ≡ σ → Phase w got put σ (s .device .status) (s .device .left .0) (unreadIn s)
-        → Steps w p got put s false 0 (record { socket = socket d io; answer = n; taken = []; sent = []; put = ys })
+        → Steps w p got put s false 0 (record { socket = socket d io; answer = n; stalls = Kept; taken = []; sent = []; put = ys; delivered = [] })
     unfolding isIn
     put-in in4 n ys behind σ at-σ (toHost e dir same sum) =
-        marked DataTransferToHost (at-σ ∙ e) n ys (toHost refl dir (ap (λ (l : List ℕ). got ++ l) behind ∙ sym (append-assoc got (unreadIn s) ys) ∙ ap (λ (l : List ℕ). l ++ ys) same) sum) (λ _ _. refl)
+        marked DataTransferToHost (at-σ ∙ e) n ys [] (toHost refl dir (ap (λ (l : List ℕ). got ++ l) behind ∙ sym (append-assoc got (unreadIn s) ys) ∙ ap (λ (l : List ℕ). l ++ ys) same) sum) (λ _ _. refl)
     put-in in4 n ys behind σ at-σ (waiting e none all) = absurd (clash (sym (rw (at-σ, e) at in4)))
     put-in in4 n ys behind σ at-σ (toHostEnding e dir all few) = absurd (clash (sym (rw (at-σ, e) at in4)))
     put-in in4 n ys behind σ at-σ (fromHost e dir none) = absurd (clash (sym (rw (at-σ, e) at in4)))
@@ -215,26 +221,26 @@ module _ (w : Wrapper) (p : ℕ) (got put : List ℕ) (s : Socket) (t : Transfer
     put-in in4 n ys behind σ at-σ (sending c r e here all) = absurd (clash (sym (rw (at-σ, e) at in4)))
 
     -- In 7 the unread bytes do not matter.
-    read-off : isIn 7 (s .device) ≡ true → (n : Answering) → (σ : State) → s .device .state ≡ σ → Phase w got put σ (s .device .status) (s .device .left .0) (unreadIn s)
-        → Steps w p got put s false 0 (record { socket = socket d io; answer = n; taken = []; sent = []; put = [] })
+    read-off : isIn 7 (s .device) ≡ true → (n : Answering) (delivered : List ℕ) (σ : State) → s .device .state ≡ σ → Phase w got put σ (s .device .status) (s .device .left .0) (unreadIn s)
+        → Steps w p got put s false 0 (quietly (socket d io) n Kept delivered)
     unfolding isIn
-    read-off in7 n σ at-σ (toHost e dir same sum) = absurd (clash (sym (rw (at-σ, e) at in7)))
-    read-off in7 n σ at-σ (waiting e none all) = absurd (clash (sym (rw (at-σ, e) at in7)))
-    read-off in7 n σ at-σ (toHostEnding e dir all few) = absurd (clash (sym (rw (at-σ, e) at in7)))
-    read-off in7 n σ at-σ (fromHost e dir none) = marked DataTransferFromHost (at-σ ∙ e) n [] (fromHost refl dir none) (λ _ _. refl)
-    read-off in7 n σ at-σ (fromHostEnding e dir none) = absurd (clash (sym (rw (at-σ, e) at in7)))
-    read-off in7 n σ at-σ (sending c r e here all) = absurd (clash (sym (rw (at-σ, e) at in7)))
+    read-off in7 n delivered σ at-σ (toHost e dir same sum) = absurd (clash (sym (rw (at-σ, e) at in7)))
+    read-off in7 n delivered σ at-σ (waiting e none all) = absurd (clash (sym (rw (at-σ, e) at in7)))
+    read-off in7 n delivered σ at-σ (toHostEnding e dir all few) = absurd (clash (sym (rw (at-σ, e) at in7)))
+    read-off in7 n delivered σ at-σ (fromHost e dir none) = marked DataTransferFromHost (at-σ ∙ e) n [] delivered (fromHost refl dir none) (λ _ _. refl)
+    read-off in7 n delivered σ at-σ (fromHostEnding e dir none) = absurd (clash (sym (rw (at-σ, e) at in7)))
+    read-off in7 n delivered σ at-σ (sending c r e here all) = absurd (clash (sym (rw (at-σ, e) at in7)))
 
-  read-steps : (dst : List ℕ) → Steps w p got put s (accepts (read dst) s) (served (read dst) s) (shows (read dst) s)
+  read-steps : (dst : List ℕ) → StepsBy w p got put (read dst) s
   unfolding shows served isPoll accepts isStatus
   read-steps dst =
       let d : Device = s .device in
       let io : List ℕ = s .io in
       cases (isIn 7 d)
-      (λ in7. read-off (readDataCall d io dst .device) io (ap (withPutIn (d .putin)) (read-keeps d io dst)) (read-whole d io (t .whole) dst) in7 _ (d .state) refl (t .phase))
-      (λ elsewhere. rw (data-elsewhere 7 d io dst _ (t .whole) elsewhere) (unchanged (answer 3) false))
+      (λ in7. read-off (readDataCall d io dst .device) io (ap (withPutIn (d .putin)) (read-keeps d io dst)) (read-whole d io (t .whole) dst) in7 _ _ (d .state) refl (t .phase))
+      (λ elsewhere. rw (data-elsewhere 7 d io dst _ (t .whole) elsewhere) (unchanged _ Kept [] false))
 
-  write-steps : (src : List ℕ) → Steps w p got put s (accepts (write src) s) (served (write src) s) (shows (write src) s)
+  write-steps : (src : List ℕ) → StepsBy w p got put (write src) s
   unfolding shows served isPoll accepts isStatus limited
   write-steps src =
       let d : Device = s .device in
@@ -245,9 +251,9 @@ module _ (w : Wrapper) (p : ℕ) (got put : List ℕ) (s : Socket) (t : Transfer
       let within : n ≤ d .left .0 = write-most d io (t .whole) src in4 in
       put-in (writeDataCall d io src .device) (writeDataCall d io src .bytes) (write-keeps d io src) (write-whole d io (t .whole) src) in4 _ (take n src)
       (write-unread d io (t .whole) src in4 ∙ ap (λ (l : List ℕ). unreadIn s ++ l) (take-take n (d .left .0) src within)) (d .state) refl (t .phase))
-      (λ elsewhere. rw (data-elsewhere 4 d io io _ (t .whole) elsewhere) (unchanged (answer 3) false))
+      (λ elsewhere. rw (data-elsewhere 4 d io io _ (t .whole) elsewhere) (unchanged _ Kept [] false))
 
-  write-all-steps : (src : List ℕ) → Steps w p got put s (accepts (writeAll src) s) (served (writeAll src) s) (shows (writeAll src) s)
+  write-all-steps : (src : List ℕ) → StepsBy w p got put (writeAll src) s
   unfolding shows served isPoll accepts isStatus
   write-all-steps src =
       let d : Device = s .device in
@@ -258,10 +264,10 @@ module _ (w : Wrapper) (p : ℕ) (got put : List ℕ) (s : Socket) (t : Transfer
       let counted : o .count ≡ cond (lacksRoom (length src) (bufferOf d io)) 0 (length src) = write-all-answer d io (t .whole) src in4 .1 in
       put-in (o .device) (o .bytes) (write-all-keeps d io src) (write-all-whole d io (t .whole) src) in4 _ (take (o .count) src)
       (write-all-unread d io (t .whole) src in4 ∙ cases (lacksRoom (length src) (bufferOf d io)) (λ full. rw (counted, full) (sym (append-nil (unreadIn s)))) (λ room. rw (counted, room, take-length))) (d .state) refl (t .phase))
-      (λ elsewhere. rw (data-elsewhere 4 d io io _ (t .whole) elsewhere) (unchanged (answer 3) false))
+      (λ elsewhere. rw (data-elsewhere 4 d io io _ (t .whole) elsewhere) (unchanged _ Kept [] false))
 
 -- This holds for every event but a reset.
-pub event-steps : (w : Wrapper) (p : ℕ) (got put : List ℕ) → length put ≤ w .length → (s : Socket) → Transfer w p got put s → 0 < due s → (e : Event) → isReset e ≡ false → Steps w p got put s (accepts e s) (served e s) (shows e s)
+pub event-steps : (w : Wrapper) (p : ℕ) (got put : List ℕ) → length put ≤ w .length → (s : Socket) → Transfer w p got put s → 0 < due s → (e : Event) → isReset e ≡ false → StepsBy w p got put e s
 unfolding isReset shows served isPoll accepts isStatus
 event-steps w p got put few s t unfinished (poll g) kept = poll-steps w p got put few s t g unfinished
 event-steps w p got put few s t unfinished (status f) kept = status-steps w p got put s t f
@@ -270,5 +276,6 @@ event-steps w p got put few s t unfinished (writeAll src) kept = write-all-steps
 event-steps w p got put few s t unfinished (read dst) kept = read-steps w p got put s t dst
 event-steps w p got put few s t unfinished reset kept = absurd (clash kept)
 event-steps w p got put few s t unfinished (control q) kept = control-steps w p got put s t q kept
-event-steps w p got put few s t unfinished command kept = unchanged w p got put s t _ false
-event-steps w p got put few s t unfinished (commandStep extended) kept = unchanged w p got put s t _ false
+event-steps w p got put few s t unfinished command kept = unchanged w p got put s t _ _ _ false
+event-steps w p got put few s t unfinished (commandStep extended) kept = unchanged w p got put s t _ _ _ false
+event-steps w p got put few s t unfinished mislent kept = unchanged w p got put s t _ _ _ false

@@ -19,7 +19,7 @@ use Rattle.device.specs.Broken.{Whole}
 use Rattle.bbb.specs.Poll.{Given, Polling, Point, point, bufferOfPoint, reaching, leaving, counting, sendStatus, sendData, offeredBy, takeBy, takeData, enterStatus, statusAwaitRule, noDataRule, toHostEndingRule, fallsShort, toHostRule, fromHostEndingRule, fromHostRule, starting, startRule, messageAt, parsing, parseRule, readBy, readOneBy, readCbwRule, entering, statusTransferRule, invalidRule, ruleIn, pollRule, pollCall}
 use Rattle.bbb.proofs.Keeping.{by-direction, call-done}
 use Rattle.bbb.proofs.After.{P, firstFor, outFor, topped, stated, send-answer}
-use Rattle.readout.specs.History.{Socket, poll, shows, isServed, isPoll, served}
+use Rattle.readout.specs.History.{Socket, poll, shows, isServed}
 use Rattle.readout.specs.Demand.{Willing}
 
 -- The poll is served.
@@ -105,8 +105,7 @@ module _ (g : Given) (first : serves (endpointOf (g .turn .first)) ≡ true) (se
   rule-does DataTransferFromHost x = from-does x
   rule-does DataTransferFromHostEnding x = from-ending-does x
 
-pub willing-served : (g : Given) (s : Socket) → Whole (numbersOf (s .device)) (length (s .io)) → Willing g s → served (poll g) s ≡ 1
-unfolding served isPoll shows pollRule
+pub willing-served : (g : Given) (s : Socket) → Whole (numbersOf (s .device)) (length (s .io)) → Willing g s → isServed (shows (poll g) s .answer) ≡ true
+unfolding isServed shows pollRule
 willing-served g s whole w =
-    let does : Does (pollCall (s .device) (s .io) g) = rw (call-done (s .device) (s .io) g whole (w .fits)) (rule-does g (w .first) (w .second) (w .write) (s .device .state) (point (s .device) (s .io) 0 false)) in
-    rw does
+    rw (call-done (s .device) (s .io) g whole (w .fits)) (rule-does g (w .first) (w .second) (w .write) (s .device .state) (point (s .device) (s .io) 0 false))

@@ -7,9 +7,9 @@ use lib.ListN.{length, replicate, take, drop}
 use Rattle.fields.specs.Case.{Case, case}
 use Rattle.device.specs.Create.{fixed, newDevice}
 use Rattle.bbb.specs.Poll.{Given, given}
-use Rattle.readout.specs.History.{Socket, socket, Event, poll, status, write, writeAll, read, commandStep, Shows, shows, next, all}
-use Rattle.readout.specs.Demand.{Story, afterStatus, ended, L, R, pollsDue, firmware, host, servedSince, crossed, ceiling, theData, theStatus}
-use Rattle.readout.specs.Account.{Readout, reachedBy, countSince, putInSince, sentSince, unreadAt, filledSince}
+use Rattle.readout.specs.History.{Socket, socket, Event, poll, status, write, writeAll, read, commandStep, Shows, shows, next, Happening, historyOf, all}
+use Rattle.readout.specs.Demand.{Story, ended, L, R, pollsDue, firmware, host, servedSince, crossed, ceiling, theData, theStatus, Script, played}
+use Rattle.readout.specs.Account.{Readout, readoutOf, reachedBy, countSince, putInSince, sentSince, unreadAt, filledSince}
 
 -- ---- the polls
 
@@ -57,7 +57,7 @@ fourth bytes = taking 8 (drop 24 bytes)
 -- one of them IN is busy, and in the other the packet buffer is one byte shorter than P.
 
 -- P is 64 and L is 130, and the firmware puts nothing in.
-unfoldable pub read64 : Story
+unfoldable pub read64 : Script
 read64 = record {
   start = newSocket 64 64;
   arrival = [];
@@ -68,7 +68,7 @@ read64 = record {
 }
 
 -- P is 8, and the command has no data.
-unfoldable pub bare8 : Story
+unfoldable pub bare8 : Script
 bare8 = record {
   start = newSocket 8 40;
   arrival = three (cbwToHost 0);
@@ -79,7 +79,7 @@ bare8 = record {
 }
 
 -- P is 8 and L is 10, and the firmware puts four bytes in.
-unfoldable pub short8 : Story
+unfoldable pub short8 : Script
 short8 = record {
   start = newSocket 8 40;
   arrival = three (cbwToHost 10);
@@ -95,9 +95,9 @@ cbwFromHost l = cbw 9 0 l
 
 -- This one is ours: the command after `short8`, from where that ended. P is 8, and it is a write of L = 20, whose first data packet comes
 -- in the same poll as the last packet of the wrapper. The firmware reads two bytes, and its second status replaces the first.
-unfoldable pub write8 : Story
+unfoldable pub write8 : Script
 write8 = record {
-  start = next (poll (sending 8)) (ended short8);
+  start = next (poll (sending 8)) (ended (played short8));
   arrival = poll (taking 8 (take 8 (cbwFromHost 20))) ∷ poll (taking 8 (take 8 (drop 8 (cbwFromHost 20)))) ∷ commandStep true ∷ poll (sending 8) ∷ poll (taking 8 (take 8 (drop 16 (cbwFromHost 20)))) ∷ [];
   completing = takingTwo 8 (drop 24 (cbwFromHost 20)) (replicate 8 3);
   before = read (0 ∷ 0 ∷ []) ∷ status (record { status = 2; figure = 5 }) ∷ [];
@@ -107,7 +107,7 @@ write8 = record {
 
 -- This one is ours: a plain read of all that L asks for. P is 8 and L is 20. The firmware puts 8 bytes in, a poll sends them, and the
 -- same happens once more. It puts its last 4 bytes in after the status, which says that nothing is missing.
-unfoldable pub full8 : Story
+unfoldable pub full8 : Script
 full8 = record {
   start = newSocket 8 40;
   arrival = three (cbwToHost 20);
@@ -121,7 +121,7 @@ full8 = record {
 
 -- A read-out of a new device with P 64 and an IO buffer of 128 bytes, whose wrapper declares L = 2.
 abbrev pub read2 : List Event → Readout
-read2 since = record { start = newSocket 64 128; completing = taking 64 (cbwToHost 2); since = since }
+read2 since = readoutOf (newSocket 64 128) (taking 64 (cbwToHost 2)) since
 
 -- The firmware puts in 70 bytes at once, 68 more than L. A packet goes out.
 unfoldable pub tooLong : Readout
@@ -155,23 +155,23 @@ accounts =
 
 -- ---- what they show
 
--- The answer of each event of the history `h`, where it starts at the socket `s`.
-unfoldable pub answersIn : List Event → Socket → List ℕ
-answersIn h s = all (λ (o : Shows). o .answer .number ∷ []) h s
+-- The answer of each happening of a history.
+unfoldable pub answersIn : List Happening → List ℕ
+answersIn xs = all (λ (o : Shows). o .answer .number ∷ []) xs
 
 -- The list of `packets` with one packet in front of it, unless that has no bytes.
 unfoldable pub unlessEmpty : List ℕ → List (List ℕ) → List (List ℕ)
 unlessEmpty [] packets = packets
 unlessEmpty (b ∷ bs) packets = (b ∷ bs) ∷ packets
 
--- What each poll of a history sent that sent something, where the history starts at the socket `s`.
-unfoldable pub packetsIn : List Event → Socket → List (List ℕ)
-packetsIn [] s = []
-packetsIn (e ∷ h) s = unlessEmpty (shows e s .sent) (packetsIn h (next e s))
+-- What each poll of a history sent that sent something.
+unfoldable pub packetsIn : List Happening → List (List ℕ)
+packetsIn [] = []
+packetsIn (x ∷ xs) = unlessEmpty (x .shown .sent) (packetsIn xs)
 
 -- The packets sent since the status of the story `t`, with those of one more poll at its end, which is given `g`.
 unfoldable pub packets : Story → Given → List (List ℕ)
-packets t g = packetsIn (t .after ++ (poll g ∷ [])) (afterStatus t)
+packets t g = packetsIn (t .after ++ historyOf (poll g ∷ []) (ended t))
 
 -- All that the host got in the story `t`, and in one more poll at its end, which is given `g`.
 unfoldable pub hostWith : Story → Given → List ℕ
@@ -181,54 +181,54 @@ hostWith t g = host t ++ shows (poll g) (ended t) .sent
 unfoldable pub starred : List Case
 starred =
     -- "P 64, R 130: 4 served polls*.": three are over, with a busy poll (6) and a refused poll (11) between them, and the fourth ends it.
-    case (R read64) 130
-    ∷ case (pollsDue read64) 4
-    ∷ case (servedSince read64) 3
-    ∷ case (answersIn (read64 .after) (afterStatus read64)) (0 ∷ 6 ∷ 0 ∷ 11 ∷ 0 ∷ [])
+    case (R (played read64)) 130
+    ∷ case (pollsDue (played read64)) 4
+    ∷ case (servedSince (played read64)) 3
+    ∷ case (answersIn (played read64 .after)) (0 ∷ 6 ∷ 0 ∷ 11 ∷ 0 ∷ [])
     -- All that L = 130 asks for is filler; then come 13 status bytes, with a residue of 130.
-    ∷ case (packets read64 (sending 64)) (replicate 64 0xFF ∷ replicate 64 0xFF ∷ (0xFF ∷ 0xFF ∷ []) ∷ (0x55 ∷ 0x53 ∷ 0x42 ∷ 0x53 ∷ 1 ∷ 0 ∷ 0 ∷ 0 ∷ 130 ∷ 0 ∷ 0 ∷ 0 ∷ 0 ∷ []) ∷ [])
-    ∷ case (hostWith read64 (sending 64)) (replicate 130 0xFF ++ (0x55 ∷ 0x53 ∷ 0x42 ∷ 0x53 ∷ 1 ∷ 0 ∷ 0 ∷ 0 ∷ 130 ∷ 0 ∷ 0 ∷ 0 ∷ 0 ∷ []))
-    ∷ case (theData read64 ++ theStatus read64) (replicate 130 0xFF ++ (0x55 ∷ 0x53 ∷ 0x42 ∷ 0x53 ∷ 1 ∷ 0 ∷ 0 ∷ 0 ∷ 130 ∷ 0 ∷ 0 ∷ 0 ∷ 0 ∷ []))
+    ∷ case (packets (played read64) (sending 64)) (replicate 64 0xFF ∷ replicate 64 0xFF ∷ (0xFF ∷ 0xFF ∷ []) ∷ (0x55 ∷ 0x53 ∷ 0x42 ∷ 0x53 ∷ 1 ∷ 0 ∷ 0 ∷ 0 ∷ 130 ∷ 0 ∷ 0 ∷ 0 ∷ 0 ∷ []) ∷ [])
+    ∷ case (hostWith (played read64) (sending 64)) (replicate 130 0xFF ++ (0x55 ∷ 0x53 ∷ 0x42 ∷ 0x53 ∷ 1 ∷ 0 ∷ 0 ∷ 0 ∷ 130 ∷ 0 ∷ 0 ∷ 0 ∷ 0 ∷ []))
+    ∷ case (theData (played read64) ++ theStatus (played read64)) (replicate 130 0xFF ++ (0x55 ∷ 0x53 ∷ 0x42 ∷ 0x53 ∷ 1 ∷ 0 ∷ 0 ∷ 0 ∷ 130 ∷ 0 ∷ 0 ∷ 0 ∷ 0 ∷ []))
     -- "P 8, R 0: 2*."
-    ∷ case (R bare8) 0
-    ∷ case (pollsDue bare8) 2
-    ∷ case (servedSince bare8) 1
-    ∷ case (answersIn (bare8 .after) (afterStatus bare8)) (6 ∷ 0 ∷ 11 ∷ [])
+    ∷ case (R (played bare8)) 0
+    ∷ case (pollsDue (played bare8)) 2
+    ∷ case (servedSince (played bare8)) 1
+    ∷ case (answersIn (played bare8 .after)) (6 ∷ 0 ∷ 11 ∷ [])
     -- There is no data. The status goes out as 8 bytes and 5.
-    ∷ case (packets bare8 (sending 8)) ((0x55 ∷ 0x53 ∷ 0x42 ∷ 0x53 ∷ 1 ∷ 0 ∷ 0 ∷ 0 ∷ []) ∷ (0 ∷ 0 ∷ 0 ∷ 0 ∷ 0 ∷ []) ∷ [])
-    ∷ case (hostWith bare8 (sending 8)) (0x55 ∷ 0x53 ∷ 0x42 ∷ 0x53 ∷ 1 ∷ 0 ∷ 0 ∷ 0 ∷ 0 ∷ 0 ∷ 0 ∷ 0 ∷ 0 ∷ [])
-    ∷ case (theData bare8 ++ theStatus bare8) (0x55 ∷ 0x53 ∷ 0x42 ∷ 0x53 ∷ 1 ∷ 0 ∷ 0 ∷ 0 ∷ 0 ∷ 0 ∷ 0 ∷ 0 ∷ 0 ∷ [])
+    ∷ case (packets (played bare8) (sending 8)) ((0x55 ∷ 0x53 ∷ 0x42 ∷ 0x53 ∷ 1 ∷ 0 ∷ 0 ∷ 0 ∷ []) ∷ (0 ∷ 0 ∷ 0 ∷ 0 ∷ 0 ∷ []) ∷ [])
+    ∷ case (hostWith (played bare8) (sending 8)) (0x55 ∷ 0x53 ∷ 0x42 ∷ 0x53 ∷ 1 ∷ 0 ∷ 0 ∷ 0 ∷ 0 ∷ 0 ∷ 0 ∷ 0 ∷ 0 ∷ [])
+    ∷ case (theData (played bare8) ++ theStatus (played bare8)) (0x55 ∷ 0x53 ∷ 0x42 ∷ 0x53 ∷ 1 ∷ 0 ∷ 0 ∷ 0 ∷ 0 ∷ 0 ∷ 0 ∷ 0 ∷ 0 ∷ [])
     -- "P 8, L 10, four bytes put in, then status": 10 bytes are left then, and they take 2 polls.
-    ∷ case (R short8) 10
-    ∷ case (pollsDue short8) 4
-    ∷ case (servedSince short8) 3
-    ∷ case (answersIn (short8 .after) (afterStatus short8)) (0 ∷ 6 ∷ 0 ∷ 11 ∷ 0 ∷ [])
+    ∷ case (R (played short8)) 10
+    ∷ case (pollsDue (played short8)) 4
+    ∷ case (servedSince (played short8)) 3
+    ∷ case (answersIn (played short8 .after)) (0 ∷ 6 ∷ 0 ∷ 11 ∷ 0 ∷ [])
     -- "4 bytes and four FF, two FF, 8 status bytes, 5*.": The residue is 6.
-    ∷ case (packets short8 (sending 8)) ((1 ∷ 2 ∷ 3 ∷ 4 ∷ 0xFF ∷ 0xFF ∷ 0xFF ∷ 0xFF ∷ []) ∷ (0xFF ∷ 0xFF ∷ []) ∷ (0x55 ∷ 0x53 ∷ 0x42 ∷ 0x53 ∷ 1 ∷ 0 ∷ 0 ∷ 0 ∷ []) ∷ (6 ∷ 0 ∷ 0 ∷ 0 ∷ 0 ∷ []) ∷ [])
-    ∷ case (hostWith short8 (sending 8)) (1 ∷ 2 ∷ 3 ∷ 4 ∷ 0xFF ∷ 0xFF ∷ 0xFF ∷ 0xFF ∷ 0xFF ∷ 0xFF ∷ 0x55 ∷ 0x53 ∷ 0x42 ∷ 0x53 ∷ 1 ∷ 0 ∷ 0 ∷ 0 ∷ 6 ∷ 0 ∷ 0 ∷ 0 ∷ 0 ∷ [])
-    ∷ case (theData short8 ++ theStatus short8) (1 ∷ 2 ∷ 3 ∷ 4 ∷ 0xFF ∷ 0xFF ∷ 0xFF ∷ 0xFF ∷ 0xFF ∷ 0xFF ∷ 0x55 ∷ 0x53 ∷ 0x42 ∷ 0x53 ∷ 1 ∷ 0 ∷ 0 ∷ 0 ∷ 6 ∷ 0 ∷ 0 ∷ 0 ∷ 0 ∷ [])
+    ∷ case (packets (played short8) (sending 8)) ((1 ∷ 2 ∷ 3 ∷ 4 ∷ 0xFF ∷ 0xFF ∷ 0xFF ∷ 0xFF ∷ []) ∷ (0xFF ∷ 0xFF ∷ []) ∷ (0x55 ∷ 0x53 ∷ 0x42 ∷ 0x53 ∷ 1 ∷ 0 ∷ 0 ∷ 0 ∷ []) ∷ (6 ∷ 0 ∷ 0 ∷ 0 ∷ 0 ∷ []) ∷ [])
+    ∷ case (hostWith (played short8) (sending 8)) (1 ∷ 2 ∷ 3 ∷ 4 ∷ 0xFF ∷ 0xFF ∷ 0xFF ∷ 0xFF ∷ 0xFF ∷ 0xFF ∷ 0x55 ∷ 0x53 ∷ 0x42 ∷ 0x53 ∷ 1 ∷ 0 ∷ 0 ∷ 0 ∷ 6 ∷ 0 ∷ 0 ∷ 0 ∷ 0 ∷ [])
+    ∷ case (theData (played short8) ++ theStatus (played short8)) (1 ∷ 2 ∷ 3 ∷ 4 ∷ 0xFF ∷ 0xFF ∷ 0xFF ∷ 0xFF ∷ 0xFF ∷ 0xFF ∷ 0x55 ∷ 0x53 ∷ 0x42 ∷ 0x53 ∷ 1 ∷ 0 ∷ 0 ∷ 0 ∷ 6 ∷ 0 ∷ 0 ∷ 0 ∷ 0 ∷ [])
     ∷ []
 
 -- Cases of ours: those of the stories `write8` and `full8`, and the number of polls for the largest L.
 unfoldable pub ours : List Case
 ours =
     -- 12 of 20 bytes are left at the second status. They come in packets of 8 and 4 bytes, with a busy OUT between.
-    case (R write8) 12
-    ∷ case (crossed write8) 8
-    ∷ case (pollsDue write8) 4
-    ∷ case (servedSince write8) 3
-    ∷ case (answersIn (write8 .after) (afterStatus write8)) (0 ∷ 6 ∷ 0 ∷ 0 ∷ [])
+    case (R (played write8)) 12
+    ∷ case (crossed (played write8)) 8
+    ∷ case (pollsDue (played write8)) 4
+    ∷ case (servedSince (played write8)) 3
+    ∷ case (answersIn (played write8 .after)) (0 ∷ 6 ∷ 0 ∷ 0 ∷ [])
     -- The status has byte 1, the tag of this wrapper and a residue of 12.
-    ∷ case (hostWith write8 (sending 8)) (0x55 ∷ 0x53 ∷ 0x42 ∷ 0x53 ∷ 9 ∷ 0 ∷ 0 ∷ 0 ∷ 12 ∷ 0 ∷ 0 ∷ 0 ∷ 1 ∷ [])
-    ∷ case (theData write8 ++ theStatus write8) (0x55 ∷ 0x53 ∷ 0x42 ∷ 0x53 ∷ 9 ∷ 0 ∷ 0 ∷ 0 ∷ 12 ∷ 0 ∷ 0 ∷ 0 ∷ 1 ∷ [])
+    ∷ case (hostWith (played write8) (sending 8)) (0x55 ∷ 0x53 ∷ 0x42 ∷ 0x53 ∷ 9 ∷ 0 ∷ 0 ∷ 0 ∷ 12 ∷ 0 ∷ 0 ∷ 0 ∷ 1 ∷ [])
+    ∷ case (theData (played write8) ++ theStatus (played write8)) (0x55 ∷ 0x53 ∷ 0x42 ∷ 0x53 ∷ 9 ∷ 0 ∷ 0 ∷ 0 ∷ 12 ∷ 0 ∷ 0 ∷ 0 ∷ 1 ∷ [])
     -- 16 of 20 bytes are over before the status. The 4 that are left take one poll, and the status takes two; the residue is 0.
-    ∷ case (R full8) 4
-    ∷ case (crossed full8) 16
-    ∷ case (length (firmware full8)) (L full8)
-    ∷ case (pollsDue full8) 3
-    ∷ case (servedSince full8) 2
-    ∷ case (answersIn (full8 .after) (afterStatus full8)) (0 ∷ 0 ∷ 6 ∷ 0 ∷ [])
-    ∷ case (hostWith full8 (sending 8)) ((1 ∷ 2 ∷ 3 ∷ 4 ∷ 5 ∷ 6 ∷ 7 ∷ 8 ∷ 9 ∷ 10 ∷ 11 ∷ 12 ∷ 13 ∷ 14 ∷ 15 ∷ 16 ∷ 17 ∷ 18 ∷ 19 ∷ 20 ∷ []) ++ (0x55 ∷ 0x53 ∷ 0x42 ∷ 0x53 ∷ 1 ∷ 0 ∷ 0 ∷ 0 ∷ 0 ∷ 0 ∷ 0 ∷ 0 ∷ 0 ∷ []))
+    ∷ case (R (played full8)) 4
+    ∷ case (crossed (played full8)) 16
+    ∷ case (length (firmware (played full8))) (L (played full8))
+    ∷ case (pollsDue (played full8)) 3
+    ∷ case (servedSince (played full8)) 2
+    ∷ case (answersIn (played full8 .after)) (0 ∷ 0 ∷ 6 ∷ 0 ∷ [])
+    ∷ case (hostWith (played full8) (sending 8)) ((1 ∷ 2 ∷ 3 ∷ 4 ∷ 5 ∷ 6 ∷ 7 ∷ 8 ∷ 9 ∷ 10 ∷ 11 ∷ 12 ∷ 13 ∷ 14 ∷ 15 ∷ 16 ∷ 17 ∷ 18 ∷ 19 ∷ 20 ∷ []) ++ (0x55 ∷ 0x53 ∷ 0x42 ∷ 0x53 ∷ 1 ∷ 0 ∷ 0 ∷ 0 ∷ 0 ∷ 0 ∷ 0 ∷ 0 ∷ 0 ∷ []))
     -- The largest L, with all of it left, takes this many polls, at P 64 and at P 8.
     ∷ case (ceiling 4294967295 64 + ceiling 13 64) 67108865
     ∷ case (ceiling 4294967295 8 + ceiling 13 8) 536870914

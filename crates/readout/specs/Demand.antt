@@ -22,52 +22,56 @@ use Rattle.bbb.specs.Poll.{Given, Fits}
 use Rattle.calls.specs.declared.FirmwareStatus.{FirmwareStatus}
 use Rattle.calls.specs.Checks.{bufferOf}
 use Rattle.calls.specs.Status.{takesStatus}
-use Rattle.readout.specs.History.{Socket, Event, poll, status, shows, next, run, sentIn, putIn, takenIn, arrivedIn, served, servedIn, isReset, accepts, Throughout}
+use Rattle.readout.specs.History.{Socket, Event, poll, status, Shows, shows, Happening, did, historyOf, reached, sentIn, putIn, takenIn, firstOf, arrivedIn, isServed, servedIn, isReset, accepts, Throughout}
 
 -- ---- a command's story
 
--- The story of one command, from the socket `start` on. In `arrival` its wrapper arrives, all but the last packet, with any events
--- between the packets. The poll that is given `completing` takes the last packet. The events `before` follow. Then `lastStatus` is the last
--- status that is accepted for this command. The events `after` follow it.
+-- The story of one command: what happened from the socket `start` on. In `arrival` its wrapper arrives, all but the last packet, with any
+-- happenings between the packets. The poll that is given `completing` takes the last packet; `completed` is what it left and showed. The
+-- happenings `before` follow. Then `lastStatus` is the last status that is accepted for this command; `stated` is what that call left and
+-- showed. The happenings `after` follow it.
 pub record Story : Type 0 where
   pub start : Socket
-  pub arrival : List Event
+  pub arrival : List Happening
   pub completing : Given
-  pub before : List Event
+  pub completed : Shows
+  pub before : List Happening
   pub lastStatus : FirmwareStatus
-  pub after : List Event
+  pub stated : Shows
+  pub after : List Happening
 
--- The events of the story `t` up to the poll that completes its wrapper.
-abbrev pub toWrapper : Story → List Event
-toWrapper t = t .arrival ++ (poll (t .completing) ∷ [])
+-- The happenings of the story `t` up to its last accepted status, which is not among them.
+abbrev pub toStatus : Story → List Happening
+toStatus t = t .arrival ++ (did (poll (t .completing)) (t .completed) ∷ t .before)
 
--- The events of the story `t` up to its last accepted status, which is not among them.
-abbrev pub toStatus : Story → List Event
-toStatus t = toWrapper t ++ t .before
+-- All happenings of the story `t`.
+abbrev pub history : Story → List Happening
+history t = toStatus t ++ (did (status (t .lastStatus)) (t .stated) ∷ t .after)
 
--- All events of the story `t`.
-abbrev pub history : Story → List Event
-history t = toStatus t ++ (status (t .lastStatus) ∷ t .after)
+-- The story `t` happened: `Does` is true of each of its happenings. What `Does` says of an event, the socket at which it happens and what it
+-- left and showed is that the event does this: by the definitions (`ByValue`), or since a call returned it.
+abbrev pub Happened : (Event → Socket → Shows → Type 0) → Story → Type 0
+Happened Does t = Throughout Does (history t) (t .start)
 
 -- The socket of the story `t` right after the poll that completes its wrapper.
 abbrev pub afterWrapper : Story → Socket
-afterWrapper t = run (toWrapper t) (t .start)
+afterWrapper t = t .completed .socket
 
 -- The socket of the story `t` right before its last accepted status.
 abbrev pub beforeStatus : Story → Socket
-beforeStatus t = run (toStatus t) (t .start)
+beforeStatus t = reached (t .before) (afterWrapper t)
 
 -- The socket of the story `t` right after its last accepted status.
 abbrev pub afterStatus : Story → Socket
-afterStatus t = next (status (t .lastStatus)) (beforeStatus t)
+afterStatus t = t .stated .socket
 
 -- The socket of the story `t` at its end.
 abbrev pub ended : Story → Socket
-ended t = run (history t) (t .start)
+ended t = reached (t .after) (afterStatus t)
 
 -- The bytes of the packets that brought the wrapper of the story `t`.
 abbrev pub message : Story → List ℕ
-message t = arrivedIn (toWrapper t) (t .start)
+message t = arrivedIn (t .arrival) ++ firstOf (t .completed .taken)
 
 -- The wrapper that these bytes hold.
 abbrev pub wrapper : Story → Wrapper
@@ -88,20 +92,20 @@ R t = beforeStatus t .device .left .0
 
 -- All bytes that the host got in the story `t`.
 abbrev pub host : Story → List ℕ
-host t = sentIn (history t) (t .start)
+host t = sentIn (history t)
 
 -- All bytes that the firmware put in during the story `t`, by `write_data` and by `try_write_data_all`.
 abbrev pub firmware : Story → List ℕ
-firmware t = putIn (history t) (t .start)
+firmware t = putIn (history t)
 
 -- How many served polls the story `t` has since its last accepted status.
 abbrev pub servedSince : Story → ℕ
-servedSince t = servedIn (t .after) (afterStatus t)
+servedSince t = servedIn (t .after)
 
 -- How many data bytes crossed the wire in the story `t` before its last accepted status: the bytes sent, and the bytes taken less the 31
 -- of the wrapper.
 abbrev pub crossed : Story → ℕ
-crossed t = length (sentIn (toStatus t) (t .start)) + (length (takenIn (toStatus t) (t .start)) - 31)
+crossed t = length (sentIn (toStatus t)) + (length (takenIn (toStatus t)) - 31)
 
 -- ---- what is supposed
 
@@ -125,11 +129,11 @@ pub record Between (s : Socket) : Type 0 where
   pub waits : waitsIn (s .device .state) ≡ true
   pub nothing : unread (bufferOf (s .device) (s .io)) ≡ 0
 
--- What is supposed of the event `e` at the socket `s` where it stands between the wrapper and its last accepted status. It is no reset.
+-- What is supposed of the event `e`, which showed `o`, where it stands between the wrapper and its last accepted status. It is no reset.
 -- It leaves the device in a state in which a status is accepted, so that "its status" is the status of this wrapper and of no later one.
-pub record Earlier (e : Event) (s : Socket) : Type 0 where
+pub record Earlier (e : Event) (s : Socket) (o : Shows) : Type 0 where
   pub no-reset : isReset e ≡ false
-  pub same-command : takesStatus (stateNumber (next e s .device .state)) ≡ true
+  pub same-command : takesStatus (stateNumber (o .socket .device .state)) ≡ true
 
 -- Each packet of a list has `n` bytes. "the host sending what is left in full packets, the last perhaps short" means that `n` is the
 -- smaller one of P and left.
@@ -137,22 +141,22 @@ abbrev pub Full : ℕ → List (List ℕ) → Type 0
 Full n [] = Unit {0}
 Full n (packet ∷ packets) = (length packet ≡ n) × Full n packets
 
--- What is supposed of the event `e` at the socket `s` where it stands after the last accepted status. It is no reset and no accepted
--- status. Each packet that it takes has min(P, left) bytes, with left as it is before the event.
-pub record Later (e : Event) (s : Socket) : Type 0 where
+-- What is supposed of the event `e`, which at the socket `s` showed `o`, where it stands after the last accepted status. It is no reset and
+-- no accepted status. Each packet that it takes has min(P, left) bytes, with left as it is before the event.
+pub record Later (e : Event) (s : Socket) (o : Shows) : Type 0 where
   pub no-reset : isReset e ≡ false
-  pub no-status : accepts e s ≡ false
-  pub full : Full (min (s .device .fixed .packetsize) (s .device .left .0)) (shows e s .taken)
+  pub no-status : accepts e o ≡ false
+  pub full : Full (min (s .device .fixed .packetsize) (s .device .left .0)) (o .taken)
 
 -- What is supposed of the story `t`: it starts between two commands, and the following holds.
 pub record Supposed (t : Story) : Type 0 where
   pub between : Between (t .start)
   -- "a valid wrapper of exactly 31 bytes": it is whole with its last packet, and not before.
-  pub unfinished : length (arrivedIn (t .arrival) (t .start)) < 31
+  pub unfinished : length (arrivedIn (t .arrival)) < 31
   pub valid : Valid (message t)
-  -- "No reset follows", and "its status is accepted": `Earlier` and `Later` say what is supposed of the events before and after it.
+  -- "No reset follows", and "its status is accepted": `Earlier` and `Later` say what is supposed of what happens before and after it.
   pub earlier : Throughout Earlier (t .before) (afterWrapper t)
-  pub accepted : accepts (status (t .lastStatus)) (beforeStatus t) ≡ true
+  pub accepted : accepts (status (t .lastStatus)) (t .stated) ≡ true
   pub later : Throughout Later (t .after) (afterStatus t)
   -- "the firmware puts in at most L bytes": in the whole story.
   pub few : length (firmware t) ≤ L t
@@ -197,13 +201,13 @@ pub record NotYet (t : Story) : Type 0 where
   pub some : 0 < length rest
   pub prefix : host t ++ rest ≡ theData t ++ theStatus t
 
--- The poll that is given `g`, made where the story `t` ends, sends the last status byte. What the host got in `t` and what this poll
--- sends are together all that is promised to it. After the data the host got the status and nothing else. And the device is between two
--- commands again.
-pub record Ends (t : Story) (g : Given) : Type 0 where
-  pub bytes : host t ++ shows (poll g) (ended t) .sent ≡ theData t ++ theStatus t
-  pub status : drop (length (theData t)) (host t ++ shows (poll g) (ended t) .sent) ≡ theStatus t
-  pub again : Between (next (poll g) (ended t))
+-- A poll that showed `o`, made where the story `t` ends, sent the last status byte. What the host got in `t` and what this poll sent are
+-- together all that is promised to it. After the data the host got the status and nothing else. And the device is between two commands
+-- again.
+pub record Ends (t : Story) (o : Shows) : Type 0 where
+  pub bytes : host t ++ o .sent ≡ theData t ++ theStatus t
+  pub status : drop (length (theData t)) (host t ++ o .sent) ≡ theStatus t
+  pub again : Between (o .socket)
 
 -- In a poll that is given `g` at the socket `s`, the packets and the packet buffer fit, and both OUT reads and the IN write are answered
 -- with 0: each endpoint would do its part.
@@ -213,15 +217,44 @@ pub record Willing (g : Given) (s : Socket) : Type 0 where
   pub second : serves (endpointOf (g .turn .second)) ≡ true
   pub write : serves (endpointOf (g .turn .write)) ≡ true
 
--- What is promised of the story `t`.
-pub record Demand (t : Story) : Type 0 where
+-- What is promised of the story `t`. `Does` says what a poll does that is made at its end.
+pub record Demand (Does : Event → Socket → Shows → Type 0) (t : Story) : Type 0 where
   -- "R data bytes left": R is L less the data bytes that crossed the wire, never below 0. (A difference of ℕ is 0 where it would be
   -- below.)
   pub left : R t ≡ L t - crossed t
   -- "the last status byte goes out after exactly R/P plus 13/P served polls": with fewer served polls it is not out, whatever else
   -- happened.
   pub not-before : servedSince t < pollsDue t → NotYet t
-  -- It goes out in the served poll that makes the number full, which must meet what is supposed of every later event.
-  pub exactly : servedSince t + 1 ≡ pollsDue t → (g : Given) → Later (poll g) (ended t) → served (poll g) (ended t) ≡ 1 → Ends t g
+  -- It goes out in the served poll that makes the number full, which must meet what is supposed of everything later.
+  pub exactly : servedSince t + 1 ≡ pollsDue t → (g : Given) (o : Shows) → Does (poll g) (ended t) o → Later (poll g) (ended t) o → isServed (o .answer) ≡ true → Ends t o
   -- The number can be made full: until then each willing poll is served.
-  pub reachable : servedSince t < pollsDue t → (g : Given) → Willing g (ended t) → served (poll g) (ended t) ≡ 1
+  pub reachable : servedSince t < pollsDue t → (g : Given) (o : Shows) → Does (poll g) (ended t) o → Willing g (ended t) → isServed (o .answer) ≡ true
+
+-- ---- stories by their events
+
+-- The events of a story, from the socket `start` on; what they leave and show is computed.
+pub record Script : Type 0 where
+  pub start : Socket
+  pub arrival : List Event
+  pub completing : Given
+  pub before : List Event
+  pub lastStatus : FirmwareStatus
+  pub after : List Event
+
+-- The story of the script `p`: each event is given what the event before it left.
+abbrev pub played : Script → Story
+played p =
+    let arrival : List Happening = historyOf (p .arrival) (p .start) in
+    let completed : Shows = shows (poll (p .completing)) (reached arrival (p .start)) in
+    let before : List Happening = historyOf (p .before) (completed .socket) in
+    let stated : Shows = shows (status (p .lastStatus)) (reached before (completed .socket)) in
+    record {
+      start = p .start;
+      arrival = arrival;
+      completing = p .completing;
+      completed = completed;
+      before = before;
+      lastStatus = p .lastStatus;
+      stated = stated;
+      after = historyOf (p .after) (stated .socket);
+    }

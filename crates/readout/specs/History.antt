@@ -1,11 +1,15 @@
 -- Polls and calls as events, and what a history of them leaves and shows. What an event does is taken from the definition that the
 -- contract of its call cites; there is no second model of the device. Assumes nothing: these are definitions.
+use mathlib.Core.Path.{_≡_}
 use mathlib.Core.Bool.{Bool, true, false, cond, not, _&&_, _||_}
 use mathlib.Core.List.{List, [], _∷_, _++_, flatten}
-use Prim.Native.Nat.{ℕ, _+_}
+use Prim.Native.Nat.{ℕ, _+_, min}
 use lib.Dec.{eqb}
 use lib.ListN.{take}
-use Rattle.answers.specs.Answers.{Answering}
+use Rattle.answers.specs.declared.Stalls.{Stalls}
+use Rattle.answers.specs.declared.Stalls.the-variants.{Kept}
+use Rattle.answers.specs.Answers.{Answering, answer}
+use Rattle.scsi.specs.Numbers.{commandNumbers}
 use Rattle.device.specs.declared.Device.{Device}
 use Rattle.bbb.specs.Poll.{Given, Polling, pollCall}
 use Rattle.calls.specs.declared.FirmwareStatus.{FirmwareStatus}
@@ -13,7 +17,7 @@ use Rattle.calls.specs.declared.Request.{Request}
 use Rattle.calls.specs.Status.{Stating, setStatusCall}
 use Rattle.calls.specs.Data.{Moving, readDataCall, writeDataCall, writeDataAllCall}
 use Rattle.calls.specs.Bus.{Handling, resetCall, controlCall}
-use Rattle.calls.specs.Command.{commandCall, commandStepToldCall}
+use Rattle.calls.specs.Command.{Showing, commandCall, Offered, Stepping, commandStepToldCall}
 
 -- The recorder's socket: `device` is the device record, and `io` is the IO buffer that is lent with it. `socket d io` is the socket made
 -- of the two.
@@ -41,43 +45,84 @@ pub data Event : Type 0 where
   -- `plainIsExtended` has it.
   command : Event
   commandStep : Bool → Event
+  -- A call of the library was lent something that it refuses before it looks at the record: a place of a wrong length for the command, or a
+  -- number for no flag. By value there is no such call.
+  mislent : Event
 
--- What an event leaves and shows: `socket` is the socket after it, `answer` is its answer, `taken` are the OUT packets that it took,
--- `sent` are the bytes that it sent to the host, and `put` are the bytes that the firmware put in.
+-- What an event leaves and shows. `socket` is the socket after it. `answer` is its answer, and `stalls` is what it asks of both endpoints.
+-- `taken` are the OUT packets that it took, and `sent` are the bytes that it sent to the host. `put` are the bytes that the firmware put
+-- in, and `delivered` are the bytes and numbers that the firmware got.
 pub record Shows : Type 0 where
   pub socket : Socket
   pub answer : Answering
+  pub stalls : Stalls
   pub taken : List (List ℕ)
   pub sent : List ℕ
   pub put : List ℕ
+  pub delivered : List ℕ
+
+-- The answer `a` as firmware reads it: of the bytes missing it is told 2^32 - 1 at most.
+abbrev pub narrowed : Answering → Answering
+narrowed a = record { number = a .number; carried = a .carried; missing = min (a .missing) 4294967295 }
+
+-- What an event shows that moves no byte over the wire and has none put in. It leaves the socket `s`, with the answer `a`; it asks `stalls`
+-- of both endpoints, and the firmware gets `delivered`.
+abbrev pub quietly : Socket → Answering → Stalls → List ℕ → Shows
+quietly s a stalls delivered = record { socket = s; answer = a; stalls = stalls; taken = []; sent = []; put = []; delivered = delivered }
 
 -- What a poll shows that was given `g`; `o` is what it returned and left. Of the two packets offered it took none, the first one or both:
 -- `o .taken` says how many. "The packet buffer holds the sent bytes in front": `o .sent` says how many they are.
 abbrev pub ofPoll : Given → Polling → Shows
-ofPoll g o = record { socket = socket (o .device) (o .io); answer = o .answer; taken = take (o .taken) (g .one ∷ g .two ∷ []); sent = take (o .sent) (o .packet); put = [] }
+ofPoll g o = record {
+  socket = socket (o .device) (o .io);
+  answer = narrowed (o .answer);
+  stalls = o .stalls;
+  taken = take (o .taken) (g .one ∷ g .two ∷ []);
+  sent = take (o .sent) (o .packet);
+  put = [];
+  delivered = [];
+}
 
--- What a status shows; `o` is what the call returned and left. The IO buffer `io` stays, and no byte moves.
+-- What a status shows; `o` is what the call returned and left. The IO buffer `io` stays.
 abbrev pub ofStatus : List ℕ → Stating → Shows
-ofStatus io o = record { socket = socket (o .device) io; answer = o .answer; taken = []; sent = []; put = [] }
+ofStatus io o = quietly (socket (o .device) io) (o .answer) Kept []
 
 -- What a write of the source `src` shows; `o` is what the call returned and left. The first `o .count` bytes of `src` were put in. The IO
 -- buffer after it is `o .bytes`.
 abbrev pub ofWrite : List ℕ → Moving → Shows
-ofWrite src o = record { socket = socket (o .device) (o .bytes); answer = o .answer; taken = []; sent = []; put = take (o .count) src }
+ofWrite src o = record {
+  socket = socket (o .device) (o .bytes);
+  answer = narrowed (o .answer);
+  stalls = Kept;
+  taken = [];
+  sent = [];
+  put = take (o .count) src;
+  delivered = [];
+}
 
--- What a read shows; `o` is what the call returned and left. The IO buffer `io` stays. The bytes that the firmware read are not shown
--- here.
+-- What a read shows; `o` is what the call returned and left. The IO buffer `io` stays. The firmware got the first `o .count` bytes of the
+-- destination.
 abbrev pub ofRead : List ℕ → Moving → Shows
-ofRead io o = record { socket = socket (o .device) io; answer = o .answer; taken = []; sent = []; put = [] }
+ofRead io o = quietly (socket (o .device) io) (o .answer) Kept (take (o .count) (o .bytes))
 
--- What a reset or a control request shows; `o` is what the call returned and left. The IO buffer `io` stays. The byte that answers a
--- control request goes over the control endpoint, so it is not one of the bytes sent.
+-- What a reset or a control request shows; `o` is what the call returned and left. The IO buffer `io` stays. The firmware gets the byte
+-- that answers a control request; it goes over the control endpoint, so it is not one of the bytes sent.
 abbrev pub ofBus : List ℕ → Handling → Shows
-ofBus io o = record { socket = socket (o .device) io; answer = o .answer; taken = []; sent = []; put = [] }
+ofBus io o = quietly (socket (o .device) io) (o .answer) (o .stalls) (o .bytes)
 
--- What it shows to look at the command or to have it offered, at the socket `s` and with the answer `a`: the socket stays as it was.
-abbrev pub ofLook : Socket → Answering → Shows
-ofLook s a = record { socket = s; answer = a; taken = []; sent = []; put = [] }
+-- What it shows to look at the command at the socket `s`; `o` is what the call returned. Where a command is shown the firmware gets its
+-- LUN, the length of its block, and the 16 bytes that the record keeps of the block.
+abbrev pub ofCommand : Socket → Showing → Shows
+ofCommand s o = quietly s (o .answer) Kept (cond (o .shown) (o .lun ∷ o .blocklength ∷ o .block) [])
+
+-- Of the command that is offered the firmware gets the LUN and the six numbers.
+abbrev pub offeredNumbers : List Offered → List ℕ
+offeredNumbers [] = []
+offeredNumbers (o ∷ os) = o .lun ∷ commandNumbers (o .command)
+
+-- What the command step shows at the socket `s`; `o` is what the call returned.
+abbrev pub ofStep : Socket → Stepping → Shows
+ofStep s o = quietly s (o .answer) Kept (offeredNumbers (o .offers))
 
 -- What an event leaves and shows that happens at the socket `s`. `g`, `f`, `src`, `dst`, `q` and `extended` are what the
 -- events are given.
@@ -89,8 +134,9 @@ shows (writeAll src) s = ofWrite src (writeDataAllCall (s .device) (s .io) src)
 shows (read dst) s = ofRead (s .io) (readDataCall (s .device) (s .io) dst)
 shows reset s = ofBus (s .io) (resetCall (s .device) (s .io))
 shows (control q) s = ofBus (s .io) (controlCall (s .device) (s .io) q)
-shows command s = ofLook s (commandCall (s .device) (s .io) .answer)
-shows (commandStep extended) s = ofLook s (commandStepToldCall extended (s .device) (s .io) .answer)
+shows command s = ofCommand s (commandCall (s .device) (s .io))
+shows (commandStep extended) s = ofStep s (commandStepToldCall extended (s .device) (s .io))
+shows mislent s = quietly s (answer 10) Kept []
 
 -- The socket that the event `e` leaves where it happens at the socket `s`.
 abbrev pub next : Event → Socket → Socket
@@ -98,38 +144,60 @@ next e s = shows e s .socket
 
 -- ---- histories
 
--- The socket that the history `h` leaves where it starts at the socket `s`: each event is given what the event before it left.
-unfoldable pub run : List Event → Socket → Socket
-run [] s = s
-run (e ∷ h) s = run h (next e s)
+-- What happened once: the event `event`, and `shown` is what it left and showed. `did` makes it of the two.
+pub record Happening : Type 0 where
+  pub event : Event
+  pub shown : Shows
 
--- What the events of the history `h` show, one after the other, where it starts at the socket `s`. `what` says which bytes are picked of
--- each event.
-unfoldable pub all : (Shows → List ℕ) → List Event → Socket → List ℕ
-all what [] s = []
-all what (e ∷ h) s = what (shows e s) ++ all what h (next e s)
+abbrev pub did : Event → Shows → Happening
+did e o = record { event = e; shown = o }
 
--- The bytes that the history `h` sent to the host, where it starts at the socket `s`.
-abbrev pub sentIn : List Event → Socket → List ℕ
-sentIn h s = all (λ (o : Shows). o .sent) h s
+-- A history is a list of what happened. This is the history of the events `h` where they start at the socket `s`: each event is given what
+-- the event before it left.
+abbrev pub historyOf : List Event → Socket → List Happening
+historyOf [] s = []
+historyOf (e ∷ h) s = did e (shows e s) ∷ historyOf h (next e s)
 
--- The bytes that the firmware put in during the history `h`, where it starts at the socket `s`.
-abbrev pub putIn : List Event → Socket → List ℕ
-putIn h s = all (λ (o : Shows). o .put) h s
+-- The socket that a history leaves where it starts at the socket `s`.
+abbrev pub reached : List Happening → Socket → Socket
+reached [] s = s
+reached (x ∷ xs) s = reached xs (x .shown .socket)
 
--- The bytes of all OUT packets that the history `h` took, where it starts at the socket `s`.
-abbrev pub takenIn : List Event → Socket → List ℕ
-takenIn h s = all (λ (o : Shows). flatten (o .taken)) h s
+-- What is shown in a history, one after the other. `what` says which bytes are picked of each happening.
+unfoldable pub all : (Shows → List ℕ) → List Happening → List ℕ
+all what [] = []
+all what (x ∷ xs) = what (x .shown) ++ all what xs
+
+-- The bytes that a history sent to the host.
+abbrev pub sentIn : List Happening → List ℕ
+sentIn xs = all (λ (o : Shows). o .sent) xs
+
+-- The bytes that the firmware put in during a history.
+abbrev pub putIn : List Happening → List ℕ
+putIn xs = all (λ (o : Shows). o .put) xs
+
+-- The bytes of all OUT packets that a history took.
+abbrev pub takenIn : List Happening → List ℕ
+takenIn xs = all (λ (o : Shows). flatten (o .taken)) xs
 
 -- The first packet of a list of packets, or no bytes where the list is empty.
 abbrev pub firstOf : List (List ℕ) → List ℕ
 firstOf [] = []
 firstOf (packet ∷ packets) = packet
 
--- The bytes of the packet that each poll of the history `h` took first, where it starts at the socket `s`. A second packet of the same
--- poll is not among them.
-abbrev pub arrivedIn : List Event → Socket → List ℕ
-arrivedIn h s = all (λ (o : Shows). firstOf (o .taken)) h s
+-- The bytes of the packet that each poll of a history took first. A second packet of the same poll is not among them.
+abbrev pub arrivedIn : List Happening → List ℕ
+arrivedIn xs = all (λ (o : Shows). firstOf (o .taken)) xs
+
+-- `Holds` is true of each happening of a history that starts at the socket `s`: of its event, of the socket at which it happens, and of
+-- what it left and showed.
+abbrev pub Throughout : (Event → Socket → Shows → Type 0) → List Happening → Socket → Type 0
+Throughout Holds [] s = Unit {0}
+Throughout Holds (x ∷ xs) s = Holds (x .event) s (x .shown) × Throughout Holds xs (x .shown .socket)
+
+-- At the socket `s` the event `e` left and showed `o`: by the definitions that the contracts cite.
+abbrev pub ByValue : Event → Socket → Shows → Type 0
+ByValue e s o = o ≡ shows e s
 
 -- ---- served polls
 
@@ -150,15 +218,16 @@ isPoll reset = false
 isPoll (control q) = false
 isPoll command = false
 isPoll (commandStep extended) = false
+isPoll mislent = false
 
--- This is 1 where the event `e` is a served poll at the socket `s`, and 0 otherwise.
-unfoldable pub served : Event → Socket → ℕ
-served e s = cond (isPoll e && isServed (shows e s .answer)) 1 0
+-- This is 1 where the event `e`, which showed `o`, was a served poll, and 0 otherwise.
+unfoldable pub served : Event → Shows → ℕ
+served e o = cond (isPoll e && isServed (o .answer)) 1 0
 
--- How many served polls the history `h` has, where it starts at the socket `s`.
-unfoldable pub servedIn : List Event → Socket → ℕ
-servedIn [] s = 0
-servedIn (e ∷ h) s = served e s + servedIn h (next e s)
+-- How many served polls a history has.
+unfoldable pub servedIn : List Happening → ℕ
+servedIn [] = 0
+servedIn (x ∷ xs) = served (x .event) (x .shown) + servedIn xs
 
 -- ---- resets and accepted statuses
 
@@ -174,6 +243,7 @@ isReset reset = true
 isReset (control q) = eqb (q .requesttype) 0xA1 && eqb (q .request) 0xFF
 isReset command = false
 isReset (commandStep extended) = false
+isReset mislent = false
 
 -- Whether an event is a status, accepted or not.
 unfoldable pub isStatus : Event → Bool
@@ -186,15 +256,8 @@ isStatus reset = false
 isStatus (control q) = false
 isStatus command = false
 isStatus (commandStep extended) = false
+isStatus mislent = false
 
--- Whether the event `e` is a status that the socket `s` accepts: its answer is 0.
-unfoldable pub accepts : Event → Socket → Bool
-accepts e s = isStatus e && eqb (shows e s .answer .number) 0
-
--- ---- what holds at each event of a history
-
--- `Holds` is true of each event of a history that starts at the socket `s`: of the event `e` with the socket at which it happens, and of
--- the events `h` after it.
-abbrev pub Throughout : (Event → Socket → Type 0) → List Event → Socket → Type 0
-Throughout Holds [] s = Unit {0}
-Throughout Holds (e ∷ h) s = Holds e s × Throughout Holds h (next e s)
+-- Whether the event `e`, which showed `o`, was an accepted status: its answer is 0.
+unfoldable pub accepts : Event → Shows → Bool
+accepts e o = isStatus e && eqb (o .answer .number) 0
