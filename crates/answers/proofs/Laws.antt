@@ -1,10 +1,11 @@
 -- These laws say what each way through a function owes. Assumes nothing.
 use mathlib.Core.Path.{_≡_, refl}
 use mathlib.Core.Bool.{false}
-use Prim.Native.Nat.{ℕ, _≤_}
+use Prim.Native.Nat.{ℕ, _≤_, _<_}
+use native.Mathlib.Nat.{mod-eq-of-lt}
 use native.Mathlib.Omega.{arith}
 use lib.Dec.{eqb}
-use borrow.Author.Tests.{eq-eqb, ne-eqb, eqb-true, eqb-false}
+use borrow.Author.Tests.{ne-eqb, eqb-true, eqb-false}
 use borrow.Table.Steps.{cases}
 use Rattle.answers.specs.declared.Endpoint.{Endpoint}
 use Rattle.answers.specs.declared.Endpoint.the-variants.{Served, Busy, Failed}
@@ -15,15 +16,15 @@ use Rattle.answers.specs.Answers.{Answering, answer, failing, answerOf, 
 module _ (byte : ℕ) where
   pub byte-serves : byte ≡ 0 → Served ≡ endpointOf byte
   unfolding endpointOf
-  byte-serves p = rw (eq-eqb _ _ p)
+  byte-serves p = rw p
 
-  pub byte-busy : (byte ≡ 0 → ⊥) → byte ≡ 1 → Busy ≡ endpointOf byte
+  pub byte-busy : byte ≡ 1 → Busy ≡ endpointOf byte
   unfolding endpointOf
-  byte-busy n p = rw (ne-eqb _ _ n, eq-eqb _ _ p)
+  byte-busy p = rw p
 
-  pub byte-fails : (byte ≡ 0 → ⊥) → (byte ≡ 1 → ⊥) → Failed byte ≡ endpointOf byte
+  pub byte-fails : byte < 256 → (byte ≡ 0 → ⊥) → (byte ≡ 1 → ⊥) → Failed byte ≡ endpointOf byte
   unfolding endpointOf
-  byte-fails n k = rw (ne-eqb _ _ n, ne-eqb _ _ k)
+  byte-fails small n k = rw (mod-eq-of-lt small, ne-eqb _ _ n, ne-eqb _ _ k)
 
 pub answers-failed : (e : Endpoint) (n : ℕ) → e ≡ Failed n → answerOf (EndpointError n) ≡ answeredBy e
 answers-failed e n p = rw p

@@ -1,7 +1,7 @@
 -- Document 01, 'Answer numbers': each answer by its number, with what it carries and what is missing. Assumes nothing: these are
 -- definitions.
 use mathlib.Core.Path.{_≡_}
-use Prim.Native.Nat.{ℕ, _-_, _≤_}
+use Prim.Native.Nat.{ℕ, _-_, _%_, _≤_}
 use mathlib.Core.Bool.{Bool, true, false, cond}
 use lib.Dec.{eqb, ltb}
 use Rattle.answers.specs.declared.Endpoint.{Endpoint}
@@ -60,9 +60,10 @@ pub record Lacks (wanted room : ℕ) (a : Answering) : Type 0 where
 unfoldable pub again : ℕ → ℕ → Answering → Answering
 again m k done = cond (ltb k m) (lacking (m - k)) done
 
--- "Endpoint answers: 0 does its part, 1 busy, others errors": this is what the answer `byte` stands for.
+-- "Endpoint answers: 0 does its part, 1 busy, others errors": this is what the answer `byte` stands for. An endpoint's answer is a byte, so
+-- of any other number only what a byte holds is read.
 unfoldable pub endpointOf : ℕ → Endpoint
-endpointOf byte = cond (eqb byte 0) Served (cond (eqb byte 1) Busy (Failed byte))
+endpointOf byte = cond (eqb (byte % 256) 0) Served (cond (eqb (byte % 256) 1) Busy (Failed (byte % 256)))
 
 -- This tests whether an endpoint does its part, as in "each endpoint asked does its part".
 abbrev pub serves : Endpoint → Bool

@@ -2,6 +2,8 @@
 --     poll-whole, call-whole    a whole record stays whole, over the IO buffer that a poll leaves
 --     poll-sizes, call-sizes    what creation fixed and the lengths of both buffers stay; two packets taken, P bytes sent at most (Sizes)
 --     call-lacks                with answer 1, what is missing is P less the room that the poll leaves; else nothing is
+--     call-narrow               a narrow device stays narrow
+--     call-legible              a result word can show the answer and the bytes sent
 --     Follows, follows-..       the buffer that a step leaves has sound marks, and is as long as before
 --     packet-is                 if creation fixed the same, the packet size is the same
 --     call-done                 on a whole record, with packets that fit, the call is the poll
@@ -11,21 +13,24 @@
 use mathlib.Core.Path.{_≡_, refl, sym, ap, _∙_}
 use mathlib.Core.Bool.{Bool, true, false, _&&_}
 use mathlib.Core.List.{List}
-use Prim.Native.Nat.{ℕ, _/_, _^_, _≤_, zero-le}
+use Prim.Native.Nat.{ℕ, _/_, _^_, _≤_, _<_, zero-le}
 use native.Mathlib.Nat.{min-le-left, min-le-right, mod-lt}
 use native.Mathlib.Omega.{arith}
 use lib.Dec.{eqb, leb, lit<}
 use lib.ListN.{length, getD, length-take}
 use borrow.Author.Tests.{leb-true, le-leb}
-use Rattle.fields.specs.Field.{getBits}
+use Rattle.fields.specs.Field.{bytesAt, getBits}
 use Rattle.fields.proofs.Bools.{and-right, not-true, of-picked}
+use Rattle.fields.proofs.Field.{get-below}
 use Rattle.fields.proofs.Overlay.{length-overlay}
+use Rattle.fields.proofs.Seq.{length-part}
 use Rattle.buffer.specs.Buffer.{Buffer, buffer, at, unread, unreadBytes, roomInAll, emptied, ready, readyBytes, readOff}
 use Rattle.buffer.specs.Inner.Buffer.{Sound}
 use Rattle.buffer.proofs.Kept.{length-written, sound-written, length-filled, sound-filled, length-writtenAll, sound-writtenAll, sound-readOff, sound-emptied}
 use Rattle.answers.specs.declared.Endpoint.{Endpoint}
 use Rattle.answers.specs.Answers.{Answering, answer, Lacks, endpointOf}
 use Rattle.answers.proofs.Laws.{lacks-else}
+use Rattle.answers.proofs.Legible.{Legible, legible-plain}
 use Rattle.ring.specs.declared.State.{State}
 use Rattle.ring.specs.declared.State.the-variants.{CommandTransfer, CommandTransferInvalid, DataTransferNoData, StatusTransfer, DataTransferToHost, DataTransferToHostStatusAwait, DataTransferToHostEnding, DataTransferFromHost, DataTransferFromHostEnding}
 use Rattle.ring.specs.States.{byDirection}
@@ -33,20 +38,23 @@ use Rattle.wrapper.specs.declared.DataDirection.{DataDirection}
 use Rattle.wrapper.specs.declared.DataDirection.the-variants.{Out, In, NotExpected}
 use Rattle.wrapper.specs.declared.Wrapper.{Wrapper}
 use Rattle.wrapper.specs.declared.counters.Left.{Left}
+use Rattle.wrapper.specs.declared.counters.PutIn.{PutIn}
+use Rattle.wrapper.specs.Counters.{fallen}
 use Rattle.wrapper.specs.Status.{statusNumber, statusBytes}
-use Rattle.wrapper.specs.Wrapper.{isValid, wrapperOf}
+use Rattle.wrapper.specs.Wrapper.{dCBWTag, dCBWDataTransferLength, isValid, wrapperOf}
 use Rattle.wrapper.proofs.Cbw.{is-valid}
 use Rattle.packets.specs.Packets.{handed, readAnswer, takesOne, brought, received, accepted, sendAnswer, sentCount, sentOff, sentInto, filledUp, statusWritten}
-use Rattle.packets.proofs.Laws.{moves-most, read-lacks, send-lacks}
+use Rattle.packets.proofs.Laws.{moves-most, read-lacks, read-legible, send-lacks, send-legible}
 use Rattle.device.specs.declared.Status.{Status}
 use Rattle.device.specs.declared.Status.the-variants.{Absent, Present}
 use Rattle.device.specs.declared.Fixed.{Fixed}
 use Rattle.device.specs.declared.Device.{Device}
-use Rattle.device.specs.Device.{isPresent, numbersOf, withMarks, withLeft, withWrapper, entering0}
+use Rattle.device.specs.Device.{isPresent, numbersOf, withMarks, withLeft, withWrapper, countedAnew}
 use Rattle.device.specs.Create.{creationChecks}
 use Rattle.device.specs.Broken.{statusFits, Whole}
 use Rattle.device.proofs.Wholly.{passes, either, whole-sound}
-use Rattle.bbb.specs.Poll.{Given, Polling, Point, point, bufferOfPoint, reaching, leaving, leftThen, lowered, counting, ending, sendBy, send, offeredPacket, offeredBy, takeBy, takeData, statusPut, enterStatus, statusAwaitRule, noDataRule, toHostEndingRule, fallsShort, toHostRule, fromHostEndingRule, fromHostRule, startRule, messageAt, past31, parsing, parseRule, readBy, readOneBy, readCbwRule, statusTransferRule, invalidRule, ruleIn, pollRule, Fits, isFitting, refusing, pollCall}
+use Rattle.device.proofs.Narrow.{NarrowParts, Narrow, narrow-left, narrow-put-in, narrow-entered, narrow-started}
+use Rattle.bbb.specs.Poll.{Given, Polling, Point, point, bufferOfPoint, reaching, leaving, leftThen, lowered, counting, ending, sendBy, send, offeredPacket, offeredBy, takeBy, takeData, statusPut, enterStatus, statusAwaitRule, noDataRule, toHostEndingRule, fallsShort, toHostRule, fromHostEndingRule, fromHostRule, starting, startRule, messageAt, past31, parsing, parseRule, readBy, readOneBy, readCbwRule, entering, statusTransferRule, invalidRule, ruleIn, pollRule, Fits, isFitting, refusing, pollCall}
 use Rattle.bbb.proofs.Polling.{fits-all, is-fitting}
 
 -- ---- the buffer that a step leaves: its marks are sound, and it is as long as before
@@ -108,18 +116,30 @@ lun-most : (m : List ℕ) → wrapperOf m .lun ≤ 15
 unfolding wrapperOf getBits
 lun-most m = omega (arith, mod-lt (getD m 13 0 / 2 ^ 0) {m = 2 ^ 4} (lit< tt))
 
--- ---- the points of a poll of d, over an IO buffer of len bytes: what never changes, and all that makes a record whole except the status,
--- which depends on the state in which the poll ends
+-- Its numbers have their places in a record.
+valid-narrow : (m : List ℕ) → isValid m ≡ true → (d : Device) → Narrow d → Narrow (withLeft (record { 0 = wrapperOf m .length }) (withWrapper (wrapperOf m) d))
+unfolding wrapperOf bytesAt
+valid-narrow m v d n =
+    narrow-started d n (wrapperOf m) (get-below dCBWTag m) (get-below dCBWDataTransferLength m) (length-part 15 16 m (omega (arith, is-valid m v .whole)))
 
-record Standing (d : Device) (len : ℕ) (f : Fixed) (s : Buffer) (unit blocklength : ℕ) : Type 0 where
+-- ---- the points of a poll of d, over an IO buffer of len bytes: what never changes, all that makes a record whole except the status,
+-- which depends on the state in which the poll ends, and that a narrow device stays narrow
+
+record Standing (d : Device) (len : ℕ) (f : Fixed) (s : Buffer) (v : Wrapper) (l : Left) (t : Status) (c : PutIn) : Type 0 where
   fixed : f ≡ d .fixed
   long : length (s .bytes) ≡ len
   sound : Sound s
-  lun : unit ≤ 15
-  block : blocklength ≤ 16
+  lun : v .lun ≤ 15
+  block : v .blocklength ≤ 16
+  narrow : Narrow d → NarrowParts v l t c
 
 abbrev Stands : Device → ℕ → Point → Type 0
-Stands d len x = Standing d len (x .device .fixed) (bufferOfPoint x) (x .device .wrapper .lun) (x .device .wrapper .blocklength)
+Stands d len x = Standing d len (x .device .fixed) (bufferOfPoint x) (x .device .wrapper) (x .device .left) (x .device .status) (x .device .putin)
+
+left-falls : (counts : Bool) (l : Left) (n : ℕ) → leftThen counts l n .0 ≤ l .0
+unfolding fallen
+left-falls true l n = omega arith
+left-falls false l n = omega arith
 
 -- If what creation fixed is the same, so is each part of it.
 pub packet-is : {f g : Fixed} → f ≡ g → f .packetsize ≡ g .packetsize
@@ -141,25 +161,45 @@ pub record Sizes (d : Device) (len n : ℕ) (o : Polling) : Type 0 where
   pub taken : o .taken ≤ 2
   pub sent : o .sent ≤ d .fixed .packetsize
 
+-- What the answer `t` says is true of the buffer `s` that the poll leaves, and a result word can show it beside the bytes sent.
+record Says (p : ℕ) (s : Buffer) (t : Answering) (sent : ℕ) : Type 0 where
+  lacks : Lacks p (roomInAll s) t
+  legible : Legible t sent
+
+says-plain : {p : ℕ} {s : Buffer} (n : ℕ) → n < 256 → eqb n 1 ≡ false → Says p s (answer n) 0
+says-plain n small other = record { lacks = lacks-else (answer n) other refl; legible = legible-plain n 0 small other }
+
 -- Every rule keeps these.
 record Kept (d : Device) (len n : ℕ) (o : Polling) : Type 0 where
   whole : Whole (numbersOf (o .device)) (length (o .io))
   sizes : d .fixed .packetsize ≤ n → Sizes d len n o
-  lacks : Lacks (d .fixed .packetsize) (roomInAll (buffer (o .io) (o .device .marks))) (o .answer)
+  narrow : Narrow d → Narrow (o .device)
+  says : Says (d .fixed .packetsize) (buffer (o .io) (o .device .marks)) (o .answer) (o .sent)
 
 module _ (d : Device) (len : ℕ) (w : Whole (numbersOf d) len) (g : Given) where
   abbrev Keeps : Polling → Type 0
   Keeps o = Kept d len (length (g .packet)) o
 
   stands-left : (x : Point) (b : Buffer) → Stands d len x → Follows b (bufferOfPoint x) → Stands d len (leaving b x)
-  stands-left x b h f = record { fixed = h .fixed; long = f .long ∙ h .long; sound = f .sound; lun = h .lun; block = h .block }
+  stands-left x b h f = record { fixed = h .fixed; long = f .long ∙ h .long; sound = f .sound; lun = h .lun; block = h .block; narrow = h .narrow }
+
+  -- No more is left.
+  stands-lowered : (x : Point) (l : Left) → Stands d len x → l .0 ≤ x .device .left .0 → Stands d len (point (withLeft l (x .device)) (x .io) (x .taken) (x .unstalled))
+  stands-lowered x l h less = record { fixed = h .fixed; long = h .long; sound = h .sound; lun = h .lun; block = h .block; narrow = λ n. narrow-left (x .device) (h .narrow n) l less }
+
+  -- What was put in is counted anew.
+  stands-anew : (x : Point) → Stands d len x → Stands d len (point (countedAnew (x .device)) (x .io) (x .taken) (x .unstalled))
+  stands-anew x h = record { fixed = h .fixed; long = h .long; sound = h .sound; lun = h .lun; block = h .block; narrow = λ n. narrow-put-in (x .device) (h .narrow n) (record { 0 = 0 }) (lit< tt) }
+
+  stands-entered : (x : Point) → Stands d len x → Stands d len (entering x)
+  stands-entered x h = record { fixed = h .fixed; long = h .long; sound = h .sound; lun = h .lun; block = h .block; narrow = λ n. narrow-entered (x .device) (h .narrow n) }
 
   -- ---- the ends
 
   -- The poll ends with an answer and `k` bytes sent.
-  kept-end : (x : Point) → Stands d len x → Fitting x → x .taken ≤ 2 → (t : Answering) → Lacks (d .fixed .packetsize) (roomInAll (bufferOfPoint x)) t → (k : ℕ) → k ≤ d .fixed .packetsize → (stalled : Bool) (packet : List ℕ)
+  kept-end : (x : Point) → Stands d len x → Fitting x → x .taken ≤ 2 → (t : Answering) (k : ℕ) → Says (d .fixed .packetsize) (bufferOfPoint x) t k → k ≤ d .fixed .packetsize → (stalled : Bool) (packet : List ℕ)
       → (d .fixed .packetsize ≤ length (g .packet) → length packet ≡ length (g .packet)) → Keeps (ending x t k stalled packet)
-  kept-end x h f taken t told k sent stalled packet same = record {
+  kept-end x h f taken t k says sent stalled packet same = record {
     whole = record {
       lent = size-is (h .fixed) ∙ w .lent ∙ sym (h .long);
       created = ap creationChecks (h .fixed) ∙ w .created;
@@ -170,38 +210,44 @@ module _ (d : Device) (len : ℕ) (w : Whole (numbersOf d) len) (g : Given) wher
       status = f;
     };
     sizes = λ into. record { fixed = h .fixed; io = h .long; packet = same into; taken = taken; sent = sent };
-    lacks = told;
+    narrow = h .narrow;
+    says = says;
   }
 
-  kept-rest : (x : Point) → Stands d len x → Fitting x → x .taken ≤ 2 → (t : Answering) → Lacks (d .fixed .packetsize) (roomInAll (bufferOfPoint x)) t → (stalled : Bool) → Keeps (ending x t 0 stalled (g .packet))
-  kept-rest x h f taken t told stalled = kept-end x h f taken t told 0 zero-le stalled (g .packet) (λ _. refl)
+  kept-rest : (x : Point) → Stands d len x → Fitting x → x .taken ≤ 2 → (t : Answering) → Says (d .fixed .packetsize) (bufferOfPoint x) t 0 → (stalled : Bool) → Keeps (ending x t 0 stalled (g .packet))
+  kept-rest x h f taken t says stalled = kept-end x h f taken t 0 says zero-le stalled (g .packet) (λ _. refl)
 
   module _ (x : Point) (h : Stands d len x) (f : Fitting x) (once : x .taken ≤ 1) where
     -- This is the point after a packet was sent, with `l` left.
     abbrev behind : Endpoint → Left → Point
     behind e l = point (withLeft l (withMarks (sentOff (x .device .fixed .packetsize) e (bufferOfPoint x) .marks) (x .device))) (sentOff (x .device .fixed .packetsize) e (bufferOfPoint x) .bytes) (x .taken) (x .unstalled)
 
-    sends : (e : Endpoint) (l : Left) → Keeps (ending (behind e l) (sendAnswer e (unread (bufferOfPoint x))) (sentCount (x .device .fixed .packetsize) e (bufferOfPoint x)) false (sentInto (x .device .fixed .packetsize) e (bufferOfPoint x) (g .packet)))
-    sends e l =
+    sends : (byte : ℕ) (l : Left) → l .0 ≤ x .device .left .0
+        → Keeps (ending (behind (endpointOf byte) l) (sendAnswer (endpointOf byte) (unread (bufferOfPoint x))) (sentCount (x .device .fixed .packetsize) (endpointOf byte) (bufferOfPoint x)) false (sentInto (x .device .fixed .packetsize) (endpointOf byte) (bufferOfPoint x) (g .packet)))
+    sends byte l less =
         let p : ℕ = x .device .fixed .packetsize in
-        kept-end (behind e l) (stands-left x (sentOff p e (bufferOfPoint x)) h (follows-sent p e (bufferOfPoint x) (h .sound))) f (omega arith) _ (send-lacks e (unread (bufferOfPoint x))) _
-        (rw (← packet-is (h .fixed)) (sent-most p e (bufferOfPoint x))) false _
-        (rw (← packet-is (h .fixed)) (sent-length p e (bufferOfPoint x) (g .packet)))
+        let e : Endpoint = endpointOf byte in
+        let s : Buffer = bufferOfPoint x in
+        kept-end (behind e l) (stands-lowered (leaving (sentOff p e s) x) l (stands-left x (sentOff p e s) h (follows-sent p e s (h .sound))) less) f (omega arith) _ _
+        (record { lacks = send-lacks e (unread s); legible = send-legible byte (unread s) (sentCount p e s) })
+        (rw (← packet-is (h .fixed)) (sent-most p e s)) false _
+        (rw (← packet-is (h .fixed)) (sent-length p e s (g .packet)))
 
     kept-send : (counts : Bool) → Keeps (send counts g x)
     unfolding send sendBy
-    kept-send counts = sends (endpointOf (g .turn .write)) (leftThen counts (x .device .left) _)
+    kept-send counts = sends (g .turn .write) (leftThen counts (x .device .left) _) (left-falls counts (x .device .left) _)
 
     kept-take : Keeps (takeData g x)
-    unfolding takeData takeBy
+    unfolding takeData takeBy offeredBy
     kept-take =
         let p : ℕ = x .device .fixed .packetsize in
         let e : Endpoint = offeredBy (x .taken) (g .turn) in
         let packet : List ℕ = offeredPacket (x .taken) (g .one) (g .two) in
         let s : Buffer = bufferOfPoint x in
         kept-rest (counting (takesOne p e s) (lowered true (brought p e packet s) (leaving (received p e packet s) x)))
-        (stands-left x _ h (follows-received p e packet s (h .sound))) f
-        (of-picked (λ (n : ℕ). n ≤ 2) (takesOne p e s) (λ _. omega arith) (λ _. omega arith)) _ (rw (← packet-is (h .fixed)) (read-lacks p e packet s (h .sound))) false
+        (stands-lowered (leaving (received p e packet s) x) _ (stands-left x _ h (follows-received p e packet s (h .sound))) (left-falls true (x .device .left) (brought p e packet s))) f
+        (of-picked (λ (n : ℕ). n ≤ 2) (takesOne p e s) (λ _. omega arith) (λ _. omega arith)) _
+        (record { lacks = rw (← packet-is (h .fixed)) (read-lacks p e packet s (h .sound)); legible = read-legible p _ s }) false
 
   -- ---- the states
 
@@ -214,7 +260,7 @@ module _ (d : Device) (len : ℕ) (w : Whole (numbersOf d) len) (g : Given) wher
 
     kept-await : Keeps (statusAwaitRule g x)
     unfolding statusAwaitRule
-    kept-await = of-picked Keeps (isPresent (x .device .status)) kept-enter (λ _. kept-rest (reaching DataTransferToHostStatusAwait x) h refl (omega arith) (answer 0) (lacks-else (answer 0) refl refl) false)
+    kept-await = of-picked Keeps (isPresent (x .device .status)) kept-enter (λ _. kept-rest (reaching DataTransferToHostStatusAwait x) h refl (omega arith) (answer 0) (says-plain 0 (lit< tt) refl) false)
 
     kept-to-ending : isPresent (x .device .status) ≡ true → Keeps (toHostEndingRule g x)
     unfolding toHostEndingRule
@@ -229,7 +275,7 @@ module _ (d : Device) (len : ℕ) (w : Whole (numbersOf d) len) (g : Given) wher
         of-picked Keeps (eqb (x .device .left .0) 0) (λ _. kept-await)
         (λ _. of-picked Keeps (isPresent (x .device .status)) kept-to-ending
         (λ _. of-picked Keeps (fallsShort (x .device .fixed .packetsize) (x .device .left) (unread (bufferOfPoint x)))
-        (λ _. kept-rest (reaching DataTransferToHost x) h refl (omega arith) (answer 4) (lacks-else (answer 4) refl refl) false)
+        (λ _. kept-rest (reaching DataTransferToHost x) h refl (omega arith) (answer 4) (says-plain 4 (lit< tt) refl) false)
         (λ _. kept-send (reaching DataTransferToHost x) h refl once true)))
 
     kept-from-ending : isPresent (x .device .status) ≡ true → Keeps (fromHostEndingRule g x)
@@ -247,12 +293,12 @@ module _ (d : Device) (len : ℕ) (w : Whole (numbersOf d) len) (g : Given) wher
 
   -- ---- after a packet that brought a wrapper
 
-  kept-start : (v : Wrapper) → v .lun ≤ 15 → v .blocklength ≤ 16 → (x : Point) → Stands d len x → x .taken ≤ 1 → Keeps (startRule v g x)
+  kept-start : (m : List ℕ) → isValid m ≡ true → (x : Point) → Stands d len x → x .taken ≤ 1 → Keeps (startRule (wrapperOf m) g x)
   unfolding startRule noDataRule
-  kept-start v lun block x h once =
-      let y : Point = point (withLeft (record { 0 = v .length }) (withWrapper v (x .device))) (x .io) (x .taken) (x .unstalled) in
-      let k : Stands d len y = record { fixed = h .fixed; long = h .long; sound = h .sound; lun = lun; block = block } in
-      by-direction Keeps (v .direction) (kept-from y k once) (kept-to y k once) (kept-await y k once)
+  kept-start m v x h once =
+      let y : Point = starting (wrapperOf m) x in
+      let k : Stands d len y = record { fixed = h .fixed; long = h .long; sound = h .sound; lun = lun-most m; block = block-most m v; narrow = λ n. valid-narrow m v (x .device) (h .narrow n) } in
+      by-direction Keeps (wrapperOf m .direction) (kept-from y k once) (kept-to y k once) (kept-await y k once)
 
   module _ (x : Point) (h : Stands d len x) (absent : isPresent (x .device .status) ≡ false) where
     kept-parse : x .taken ≤ 1 → 31 ≤ unread (bufferOfPoint x) → Keeps (parseRule g x)
@@ -260,16 +306,16 @@ module _ (d : Device) (len : ℕ) (w : Whole (numbersOf d) len) (g : Given) wher
     kept-parse once ripe =
         let m : List ℕ = messageAt (bufferOfPoint x) in
         let t : Buffer = past31 (bufferOfPoint x) in
-        let k : Stands d len (parsing x) = stands-left x t h (follows-31 (bufferOfPoint x) (h .sound) ripe) in
+        let k : Stands d len (parsing x) = stands-anew (leaving t x) (stands-left x t h (follows-31 (bufferOfPoint x) (h .sound) ripe)) in
         of-picked Keeps (isValid m)
-        (λ v. kept-start (wrapperOf m) (lun-most m) (block-most m v) (parsing x) k once)
-        (λ _. kept-rest (reaching CommandTransferInvalid (parsing x)) k (rw absent) (omega arith) (answer 0) (lacks-else (answer 0) refl refl) true)
+        (λ v. kept-start m v (parsing x) k once)
+        (λ _. kept-rest (reaching CommandTransferInvalid (parsing x)) k (rw absent) (omega arith) (answer 0) (says-plain 0 (lit< tt) refl) true)
 
-    kept-by : Fitting x → x .taken ≤ 1 → (took : Bool) (t : Answering) → Lacks (d .fixed .packetsize) (roomInAll (bufferOfPoint x)) t → Keeps (readBy took t g x)
+    kept-by : Fitting x → x .taken ≤ 1 → (took : Bool) (t : Answering) → Says (d .fixed .packetsize) (bufferOfPoint x) t 0 → Keeps (readBy took t g x)
     unfolding readBy
-    kept-by f once took t told =
+    kept-by f once took t says =
         let ripe : Bool = leb 31 (unread (bufferOfPoint x)) in
-        of-picked Keeps (took && ripe) (λ e. kept-parse once (leb-true _ _ (and-right took ripe e))) (λ _. kept-rest x h f (omega arith) t told false)
+        of-picked Keeps (took && ripe) (λ e. kept-parse once (leb-true _ _ (and-right took ripe e))) (λ _. kept-rest x h f (omega arith) t says false)
 
   kept-read : (x : Point) → Stands d len x → isPresent (x .device .status) ≡ false → Fitting x → x .taken ≡ 0 → Keeps (readCbwRule g x)
   unfolding readCbwRule readOneBy
@@ -280,18 +326,18 @@ module _ (d : Device) (len : ℕ) (w : Whole (numbersOf d) len) (g : Given) wher
       let t : Buffer = received p e (g .one) (bufferOfPoint x) in
       kept-by (counting took (leaving t x)) (stands-left x t h (follows-received p e (g .one) (bufferOfPoint x) (h .sound))) absent f
       (of-picked (λ (n : ℕ). n ≤ 1) took (λ _. omega arith) (λ _. omega arith)) took (readAnswer p e (bufferOfPoint x))
-      (rw (← packet-is (h .fixed)) (read-lacks p e (g .one) (bufferOfPoint x) (h .sound)))
+      (record { lacks = rw (← packet-is (h .fixed)) (read-lacks p e (g .one) (bufferOfPoint x) (h .sound)); legible = read-legible p (g .turn .first) (bufferOfPoint x) })
 
   -- ---- all states
 
   kept-in : (s : State) (x : Point) → Stands d len x → Fitting x → x .device .state ≡ s → x .taken ≡ 0 → Keeps (ruleIn s g x)
   unfolding ruleIn invalidRule noDataRule statusTransferRule
   kept-in CommandTransfer x h f e none = kept-read x h (not-true _ (rw e at f)) f none
-  kept-in CommandTransferInvalid x h f e none = kept-rest x h f (omega arith) (answer 0) (lacks-else (answer 0) refl refl) true
+  kept-in CommandTransferInvalid x h f e none = kept-rest x h f (omega arith) (answer 0) (says-plain 0 (lit< tt) refl) true
   kept-in DataTransferNoData x h f e none = kept-await x h (omega arith)
   kept-in StatusTransfer x h f e none =
       of-picked Keeps (eqb (unread (bufferOfPoint x)) 0)
-      (λ _. kept-read (point (entering0 (x .device)) (x .io) (x .taken) true) h refl refl none)
+      (λ _. kept-read (entering x) (stands-entered x h) refl refl none)
       (λ _. kept-send x h f (omega arith) false)
   kept-in DataTransferToHost x h f e none = kept-to x h (omega arith)
   kept-in DataTransferToHostStatusAwait x h f e none = kept-await x h (omega arith)
@@ -306,7 +352,7 @@ module _ (d : Device) (io : List ℕ) (g : Given) where
   unfolding pollRule
   kept w =
       kept-in d (length io) w g (d .state) (point d io 0 false)
-      (record { fixed = refl; long = refl; sound = whole-sound (numbersOf d) io w; lun = w .lun; block = w .block })
+      (record { fixed = refl; long = refl; sound = whole-sound (numbersOf d) io w; lun = w .lun; block = w .block; narrow = λ n. n })
       (w .status) refl refl
 
   -- A poll of a whole record leaves a whole record, over the IO buffer that it leaves.
@@ -348,4 +394,14 @@ pub call-lacks : (d : Device) (io : List ℕ) (g : Given)
     → Lacks (d .fixed .packetsize) (roomInAll (buffer (pollCall d io g .io) (pollCall d io g .device .marks))) (pollCall d io g .answer)
 call-lacks d io g =
     by-call d io g (λ (o : Polling). Lacks (d .fixed .packetsize) (roomInAll (buffer (o .io) (o .device .marks))) (o .answer))
-    (lacks-else (answer 10) refl refl) (lacks-else (answer 11) refl refl) (λ w _. kept d io g w .lacks)
+    (lacks-else (answer 10) refl refl) (lacks-else (answer 11) refl refl) (λ w _. kept d io g w .says .lacks)
+
+-- A narrow device stays narrow.
+pub call-narrow : (d : Device) (io : List ℕ) (g : Given) → Narrow d → Narrow (pollCall d io g .device)
+call-narrow d io g n = by-call d io g (λ (o : Polling). Narrow (o .device)) n n (λ w _. kept d io g w .narrow n)
+
+-- A result word can show the answer and the bytes sent.
+pub call-legible : (d : Device) (io : List ℕ) (g : Given) → Legible (pollCall d io g .answer) (pollCall d io g .sent)
+call-legible d io g =
+    by-call d io g (λ (o : Polling). Legible (o .answer) (o .sent)) (legible-plain 10 0 (lit< tt) refl) (legible-plain 11 0 (lit< tt) refl)
+    (λ w _. kept d io g w .says .legible)

@@ -1,14 +1,14 @@
--- The verdict: what each way through `magic`, `closes` and `good` owes (`judges`). Assumes nothing.
+-- The verdict: what each way through `magic` (`magic-0` and those beside it), `closes` and `good` (`judges`) owes. Assumes nothing.
 use mathlib.Core.Path.{_≡_, sym, ap, _∙_}
 use mathlib.Core.Bool.{Bool, true, false, not}
 use mathlib.Core.List.{List, _++_}
 use Prim.Native.Nat.{ℕ, _-_, _≤_, _<_}
 use native.Mathlib.Omega.{arith}
-use lib.Dec.{eqb}
+use lib.Dec.{eqb, lit<}
 use lib.ListN.{length, take, drop, getD, take-append-drop, length-append, length-drop, drop-of-length-le}
 use lib.Seq.{drop-cons, take-all, take-at, drop-at, length-take-le}
 use borrow.Author.Tests.{eq-eqb, ne-eqb, eqb-true}
-use Rattle.fields.specs.Field.{oneByte, get, bytesAt, ordered, counted}
+use Rattle.fields.specs.Field.{oneByte, get}
 use Rattle.fields.proofs.Bools.{and-left, and-right, not-true, not-false, clash}
 use Rattle.fields.proofs.Field.{byte-read}
 use Rattle.benchfile.specs.declared.Tally.{Tally}
@@ -17,41 +17,46 @@ use Rattle.benchfile.specs.Inner.Walk.{tallyOf, Tallies, isMagic, agrees
 
 -- ---- `BOT1`
 
-module _ (m : List ℕ) {a : ℕ} (ha : a ≡ get (oneByte 0) m) where
-  pub magic-0 : (a ≡ 0x42 → ⊥) → false ≡ isMagic m
-  unfolding isMagic
-  magic-0 n = rw (← ha, ne-eqb _ _ n)
+-- These are no rules for a search: they ask that every element is a byte, so that it stands there as it was read.
+module _ (m : List ℕ) (four : length m ≡ 4) (bytes : (i : ℕ) → getD m i 0 < 256) where
+  read-as-is : (k : ℕ) {x : ℕ} → k < 4 → x ≡ get (oneByte k) m → getD m k 0 ≡ x
+  read-as-is k h e = byte-read m k (omega (arith, four)) (bytes k) ∙ sym e
 
-  module _ (ea : a ≡ 0x42) {b : ℕ} (hb : b ≡ get (oneByte 1) m) where
-    pub magic-1 : (b ≡ 0x4F → ⊥) → false ≡ isMagic m
+  module _ {a : ℕ} (ha : a ≡ get (oneByte 0) m) where
+    pub magic-0 : (a ≡ 0x42 → ⊥) → false ≡ isMagic m
     unfolding isMagic
-    magic-1 n = rw (← ha, eq-eqb _ _ ea, ← hb, ne-eqb _ _ n)
+    magic-0 n = rw (read-as-is 0 (lit< tt) ha, ne-eqb _ _ n)
 
-    module _ (eb : b ≡ 0x4F) {c : ℕ} (hc : c ≡ get (oneByte 2) m) where
-      pub magic-2 : (c ≡ 0x54 → ⊥) → false ≡ isMagic m
+    module _ (ea : a ≡ 0x42) {b : ℕ} (hb : b ≡ get (oneByte 1) m) where
+      pub magic-1 : (b ≡ 0x4F → ⊥) → false ≡ isMagic m
       unfolding isMagic
-      magic-2 n = rw (← ha, eq-eqb _ _ ea, ← hb, eq-eqb _ _ eb, ← hc, ne-eqb _ _ n)
+      magic-1 n = rw (read-as-is 0 (lit< tt) ha, eq-eqb _ _ ea, read-as-is 1 (lit< tt) hb, ne-eqb _ _ n)
 
-      pub magic-3 : c ≡ 0x54 → {d : ℕ} → d ≡ get (oneByte 3) m → eqb d 0x31 ≡ isMagic m
-      unfolding isMagic
-      magic-3 ec hd = rw (← ha, eq-eqb _ _ ea, ← hb, eq-eqb _ _ eb, ← hc, eq-eqb _ _ ec, ← hd)
+      module _ (eb : b ≡ 0x4F) {c : ℕ} (hc : c ≡ get (oneByte 2) m) where
+        pub magic-2 : (c ≡ 0x54 → ⊥) → false ≡ isMagic m
+        unfolding isMagic
+        magic-2 n = rw (read-as-is 0 (lit< tt) ha, eq-eqb _ _ ea, read-as-is 1 (lit< tt) hb, eq-eqb _ _ eb, read-as-is 2 (lit< tt) hc, ne-eqb _ _ n)
+
+        pub magic-3 : c ≡ 0x54 → {d : ℕ} → d ≡ get (oneByte 3) m → eqb d 0x31 ≡ isMagic m
+        unfolding isMagic
+        magic-3 ec hd =
+            rw (read-as-is 0 (lit< tt) ha, eq-eqb _ _ ea, read-as-is 1 (lit< tt) hb, eq-eqb _ _ eb, read-as-is 2 (lit< tt) hc, eq-eqb _ _ ec, read-as-is 3 (lit< tt) hd)
 
 -- The test and the four bytes say the same, in both directions.
 magic-tested : (m : List ℕ) → m ≡ magic → isMagic m ≡ true
-unfolding isMagic get bytesAt ordered counted
+unfolding isMagic
 magic-tested m e = rw e
 
 magic-found : (m : List ℕ) → length m ≡ 4 → isMagic m ≡ true → m ≡ magic
 unfolding isMagic
 magic-found m h q =
-    let at : (k : ℕ) → k < 4 → getD m k 0 ≡ get (oneByte k) m = λ k i. byte-read m k (omega (arith, h, i)) in
-    let behind0 = and-right (eqb (get (oneByte 0) m) 0x42) _ q in
-    let behind1 = and-right (eqb (get (oneByte 1) m) 0x4F) _ behind0 in
-    let behind2 = and-right (eqb (get (oneByte 2) m) 0x54) _ behind1 in
-    let byte0 : getD m 0 0 ≡ 0x42 = at 0 (omega arith) ∙ eqb-true _ _ (and-left _ _ q) in
-    let byte1 : getD m 1 0 ≡ 0x4F = at 1 (omega arith) ∙ eqb-true _ _ (and-left _ _ behind0) in
-    let byte2 : getD m 2 0 ≡ 0x54 = at 2 (omega arith) ∙ eqb-true _ _ (and-left _ _ behind1) in
-    let byte3 : getD m 3 0 ≡ 0x31 = at 3 (omega arith) ∙ eqb-true _ _ behind2 in
+    let behind0 = and-right (eqb (getD m 0 0) 0x42) _ q in
+    let behind1 = and-right (eqb (getD m 1 0) 0x4F) _ behind0 in
+    let behind2 = and-right (eqb (getD m 2 0) 0x54) _ behind1 in
+    let byte0 : getD m 0 0 ≡ 0x42 = eqb-true _ _ (and-left _ _ q) in
+    let byte1 : getD m 1 0 ≡ 0x4F = eqb-true _ _ (and-left _ _ behind0) in
+    let byte2 : getD m 2 0 ≡ 0x54 = eqb-true _ _ (and-left _ _ behind1) in
+    let byte3 : getD m 3 0 ≡ 0x31 = eqb-true _ _ behind2 in
     let long : (k : ℕ) → k < 4 → k < length m = λ k i. omega (arith, h, i) in
     rw (drop-cons m 0 0 (long 0 (omega arith)), drop-cons m 1 0 (long 1 (omega arith)), drop-cons m 2 0 (long 2 (omega arith)), drop-cons m 3 0 (long 3 (omega arith)), drop-of-length-le m {i = 4} (omega (arith, h)), byte0, byte1, byte2, byte3)
 
@@ -156,7 +161,7 @@ module _ (file : List ℕ) (short : length file ≤ 65536) (enough : 12 ≤ leng
   pub judges-by : {r : Bool} → r ≡ agreesWith t trailer → Judges r file
   judges-by e = record { accepted = λ q. accepts-only (sym e ∙ q); accepts = λ events g. e ∙ accepts-each events g }
 
-pub ruleset judges = (magic-0, magic-1, magic-2, magic-3, closes-unfilled, closes-miscounted, closes-misplaced, closes-by, judges-long, judges-short, cut-before, cut-behind, judges-by)
+pub ruleset judges = (closes-unfilled, closes-miscounted, closes-misplaced, closes-by, judges-long, judges-short, cut-before, cut-behind, judges-by)
 
 -- ---- for callers: a good file has its trailer
 

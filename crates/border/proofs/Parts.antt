@@ -1,14 +1,12 @@
 -- A result determines each of its parts: at bits 0 to 7, 8 to 15, 16 to 23, 24 to 31 and 32 to 63 a caller reads the answer, the number
 -- carried, what is asked of both endpoints, the flag and the count. So results that differ in a part differ. Assumes nothing.
 use mathlib.Core.Path.{_≡_, refl, sym, ap, _∙_}
-use mathlib.Core.Bool.{cond}
 use Prim.Native.Nat.{ℕ, _+_, _*_, _/_, _%_, _<_}
 use native.Mathlib.Nat.{div-div-eq-div-mul}
 use native.Mathlib.Omega.{arith}
-use lib.Dec.{eqb}
 use Rattle.answers.specs.declared.Stalls.{Stalls}
 use Rattle.answers.specs.declared.Stalls.the-variants.{Kept, Stalled, Unstalled, UnstalledStalled}
-use Rattle.border.specs.Word.{word, stallsNumber}
+use Rattle.border.specs.Word.{word, stallsNumber, stallsOfNumber}
 
 -- One part stands below the others: % reads it, and / takes it off.
 module _ (part rest : ℕ) (h : part < 256) where
@@ -93,9 +91,6 @@ pub parts-once : (p q : Parts) → Bytes p → Bytes q → wordOf p ≡ wordOf q
 parts-once p q hp hq e = sym (parts-read p hp) ∙ ap read e ∙ parts-read q hq
 
 -- The number of what is asked of both endpoints determines what is asked.
-pub stallsOfNumber : ℕ → Stalls
-stallsOfNumber n = cond (eqb n 0) Kept (cond (eqb n 1) Stalled (cond (eqb n 2) Unstalled UnstalledStalled))
-
 pub stalls-told : (s : Stalls) → stallsOfNumber (stallsNumber s) ≡ s
 unfolding stallsOfNumber
 stalls-told Kept = refl

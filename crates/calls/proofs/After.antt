@@ -125,9 +125,12 @@ status-later d f g = refl
 -- ---- data
 
 module _ (P : Moving → Type 0) (state : ℕ) (d : Device) (io bytes : List ℕ) (done : Moving) where
-  by-data : ((a : Answering) → P (moving a 0 d bytes)) → P done → P (worksIn state d io bytes done)
+  pub by-refusals : P (moving (answer 10) 0 d bytes) → P (moving (answer 3) 0 d bytes) → P done → P (worksIn state d io bytes done)
   unfolding worksIn
-  by-data p q = either d io P (p (answer 10)) (λ _. of-picked P (isIn state d) (λ _. q) (λ _. p (answer 3)))
+  by-refusals broken elsewhere q = either d io P broken (λ _. of-picked P (isIn state d) (λ _. q) (λ _. elsewhere))
+
+  pub by-data : ((a : Answering) → P (moving a 0 d bytes)) → P done → P (worksIn state d io bytes done)
+  by-data p q = by-refusals (p (answer 10)) (p (answer 3)) q
 
 module _ (state : ℕ) (d : Device) (io bytes : List ℕ) (done : Moving) (w : Whole (numbersOf d) (length io)) where
   pub data-done : isIn state d ≡ true → worksIn state d io bytes done ≡ done
@@ -204,7 +207,7 @@ module _ (d : Device) (io src : List ℕ) (stored : d .putin .0 ≤ 4294967295) 
 Storable : Device → Moving → Type 0
 Storable d o = (d .putin .0 ≡ o .device .putin .0 → ⊥) → o .device .putin .0 < 2 ^ 32
 
-risen-small : (c : PutIn) (n : ℕ) → risen c n .0 < 2 ^ 32
+pub risen-small : (c : PutIn) (n : ℕ) → risen c n .0 < 2 ^ 32
 unfolding risen
 risen-small c n = omega (arith, min-le-right (c .0 + n) 4294967295)
 
@@ -357,13 +360,17 @@ module _ (d : Device) (io : List ℕ) where
   reset-whole w = either d io (λ (o : Handling). Whole (numbersOf (o .device)) (length io)) w (whole-entered d io)
 
   module _ (q : Request) where
-    pub by-request : (P : Handling → Type 0) → ((a : Answering) (bytes : List ℕ) → P (handling a Kept bytes d)) → (eqb (q .requesttype) 0xA1 ≡ true → eqb (q .request) 0xFF ≡ true → P (handlingOfReset d)) → P (controlCall d io q)
+    pub by-control : (P : Handling → Type 0) → P (handling (answer 10) Kept [] d) → P (handling (answer 0) Kept (d .fixed .maxlun ∷ []) d) → P (handling (answer 0) Kept [] d)
+        → (eqb (q .requesttype) 0xA1 ≡ true → eqb (q .request) 0xFF ≡ true → P (handlingOfReset d)) → P (controlCall d io q)
     unfolding controlCall handlingOfRequest
-    by-request P p e =
-        either d io P (p (answer 10) [])
+    by-control P broken lun nothing e =
+        either d io P broken
         (λ _. of-picked P (eqb (q .requesttype) 0xA1)
-        (λ counts. of-picked P (eqb (q .request) 0xFF) (e counts) (λ _. of-picked P (eqb (q .request) 0xFE) (λ _. p (answer 0) (d .fixed .maxlun ∷ [])) (λ _. p (answer 0) [])))
-        (λ _. p (answer 0) []))
+        (λ counts. of-picked P (eqb (q .request) 0xFF) (e counts) (λ _. of-picked P (eqb (q .request) 0xFE) (λ _. lun) (λ _. nothing)))
+        (λ _. nothing))
+
+    pub by-request : (P : Handling → Type 0) → ((a : Answering) (bytes : List ℕ) → P (handling a Kept bytes d)) → (eqb (q .requesttype) 0xA1 ≡ true → eqb (q .request) 0xFF ≡ true → P (handlingOfReset d)) → P (controlCall d io q)
+    by-request P p e = by-control P (p (answer 10) []) (p (answer 0) (d .fixed .maxlun ∷ [])) (p (answer 0) []) e
 
     pub control-keeps : bufferOf (controlCall d io q .device) io ≡ bufferOf d io
     unfolding handlingOfReset

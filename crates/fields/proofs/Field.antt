@@ -1,5 +1,7 @@
 -- These are laws of fields: one for each fact, at every width.
---     byte-read, one-order           a field of one byte is that byte, in either order
+--     byte-held, byte-read           a field of one byte is what a byte holds of that element; of a byte it is the byte
+--     one-order                      one byte has no order
+--     get-below                      what a field holds has its place there, in any list
 --     little-doubled, big-doubled    two fields side by side are one of twice the width
 --     get-append, get-front          what follows the message does not count
 --     put-stored, four-stored, byte-stored    stores in order write a field
@@ -13,12 +15,12 @@
 use mathlib.Core.Path.{_≡_, refl, sym, ap, _∙_}
 use mathlib.Core.List.{List, [], _∷_, _++_, reverse, reverseAux, reverse-append, reverse-reverse}
 use Prim.Native.Nat.{ℕ, zero, suc, _+_, _*_, _^_, _/_, _%_, _≤_, _<_}
-use native.Mathlib.Nat.{add-comm, one-mul, mul-assoc, mul-comm, pow-suc, mod-add-div, mod-eq-of-lt, div-lt-iff-lt-mul, zero-lt-suc}
+use native.Mathlib.Nat.{add-comm, one-mul, mul-assoc, mul-comm, pow-suc, mod-add-div, mod-lt, mod-eq-of-lt, div-lt-iff-lt-mul, zero-lt-suc}
 use native.Mathlib.Omega.{arith}
 use native.Mathlib.Numerals.{unary-clauses}
 use lib.Dec.{lit<}
 use lib.Pow.{shl-exact}
-use lib.ListN.{length, take, drop, getD, set, take-append-drop, length-drop}
+use lib.ListN.{length, take, drop, getD, set, take-append-drop, length-take, length-drop}
 use lib.Seq.{drop-cons, drop-drop, take-append-le, drop-append-le, take-add, length-take-le, sets, sets-eq}
 use Rattle.fields.specs.Overlay.{overlay}
 use Rattle.fields.specs.Field.{Order, little, big, Field, littleEndian, bigEndian, oneByte, bytesAt, counted, digits, ordered, get, put}
@@ -39,8 +41,16 @@ counted-digits : (w n : ℕ) → n < 256 ^ w → counted (digits w n) ≡ n
 unfolding counted digits
 counted-digits zero n h = omega arith
 counted-digits (suc w) n h =
-    ap (λ (c : ℕ). n % 256 + 256 * c) (counted-digits w (n / 256) (div-lt-iff-lt-mul (zero-lt-suc 255) .1 (rw pow-suc at h)))
+    ap (λ (c : ℕ). n % 256 % 256 + 256 * c) (counted-digits w (n / 256) (div-lt-iff-lt-mul (zero-lt-suc 255) .1 (rw pow-suc at h)))
+    ∙ ap (λ (b : ℕ). b + 256 * (n / 256)) (mod-eq-of-lt (mod-lt n {m = 256} (zero-lt-suc 255)))
     ∙ mod-add-div n 256
+
+counted-below : (w : ℕ) (bs : List ℕ) → length bs ≤ w → counted bs < 256 ^ w
+unfolding counted
+counted-below zero [] h = lit< tt
+counted-below zero (b ∷ bs) h = absurd (omega arith)
+counted-below (suc w) [] h = rw (pow-suc 256 w) (omega (arith, counted-below w [] (omega arith)))
+counted-below (suc w) (b ∷ bs) h = rw (pow-suc 256 w) (omega (arith, mod-lt b {m = 256} (zero-lt-suc 255), counted-below w bs (omega arith)))
 
 -- ---- order
 
@@ -64,9 +74,18 @@ length-written o w n = length-ordered o (digits w n) ∙ length-digits w n
 
 -- ---- reading
 
-pub byte-read : (m : List ℕ) (at : ℕ) → at < length m → getD m at 0 ≡ get (oneByte at) m
+pub byte-held : (m : List ℕ) (at : ℕ) → at < length m → getD m at 0 % 256 ≡ get (oneByte at) m
 unfolding get bytesAt counted ordered
-byte-read m at h = rw (drop-cons m at 0 h) (omega arith)
+byte-held m at h = rw (drop-cons m at 0 h) (omega arith)
+
+pub byte-read : (m : List ℕ) (at : ℕ) → at < length m → getD m at 0 < 256 → getD m at 0 ≡ get (oneByte at) m
+byte-read m at h k = sym (mod-eq-of-lt k) ∙ byte-held m at h
+
+pub get-below : (f : Field) (m : List ℕ) → get f m < 256 ^ f .width
+unfolding get bytesAt
+get-below f m =
+    let bs : List ℕ = take (f .width) (drop (f .start) m) in
+    counted-below (f .width) (ordered (f .order) bs) (omega (arith, length-ordered (f .order) bs, length-take (f .width) (drop (f .start) m)))
 
 pub one-order : (m : List ℕ) (at : ℕ) {x : ℕ} → at < length m → x ≡ get (oneByte at) m → x ≡ get (bigEndian at 1) m
 unfolding get bytesAt ordered
@@ -162,10 +181,10 @@ abbrev pub Bytes : List ℕ → Type 0
 Bytes [] = Unit {0}
 Bytes (b ∷ bs) = (b < 256) × Bytes bs
 
-lowest : (b c : ℕ) → b < 256 → (b + 256 * c) % 256 ≡ b
+lowest : (b c : ℕ) → b < 256 → (b % 256 + 256 * c) % 256 ≡ b
 lowest b c h = omega arith
 
-others : (b c : ℕ) → b < 256 → (b + 256 * c) / 256 ≡ c
+others : (b c : ℕ) → b < 256 → (b % 256 + 256 * c) / 256 ≡ c
 others b c h = omega arith
 
 digits-counted : (bs : List ℕ) → Bytes bs → digits (length bs) (counted bs) ≡ bs
@@ -186,9 +205,9 @@ bytes-listed : (m : List ℕ) → ((i : ℕ) → getD m i 0 < 256) → (at w : �
 bytes-listed m h at zero = tt
 bytes-listed m h at (suc w) = (h at, bytes-listed m h (suc at) w)
 
-pub one-byte : (m : List ℕ) (at : ℕ) → at < length m → get (oneByte at) m < 256 → Bytes (bytesAt (oneByte at) m)
+pub one-byte : (m : List ℕ) (at : ℕ) → at < length m → getD m at 0 < 256 → Bytes (bytesAt (oneByte at) m)
 unfolding bytesAt
-one-byte m at h k = rw (part-listed m at 1 (omega arith), byte-read m at h) (k, tt)
+one-byte m at h k = rw (part-listed m at 1 (omega arith)) (k, tt)
 
 module _ (f : Field) (m : List ℕ) (fits : f .start + f .width ≤ length m) where
   pub all-bytes : ((i : ℕ) → getD m i 0 < 256) → Bytes (bytesAt f m)

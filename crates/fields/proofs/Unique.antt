@@ -17,6 +17,8 @@ use Rattle.fields.proofs.be64.Kinds as be64-kinds
 use Rattle.fields.proofs.be64.Reads as be64
 use Rattle.fields.proofs.bits_of.Kinds as bits-of-kinds
 use Rattle.fields.proofs.bits_of.Reads as bits-of
+use Rattle.fields.proofs.put_byte.Kinds as put-byte-kinds
+use Rattle.fields.proofs.put_byte.Reads as put-byte
 use Rattle.fields.proofs.put_le32.Kinds as put-le32-kinds
 use Rattle.fields.proofs.put_le32.Reads as put-le32
 use Rattle.fields.proofs.least.Kinds as least-kinds
@@ -42,6 +44,9 @@ be64-only κs a x y s t p q = (p ∙ sym q, refl)
 
 pub bits-of-only : Only 1 bits-of-kinds.ps bits-of-kinds.r bits-of.Post (λ κs s. tt {0})
 bits-of-only κs a x y s t p q = (p ∙ sym q, refl)
+
+pub put-byte-only : Only 1 put-byte-kinds.ps put-byte-kinds.r put-byte.Post (λ κs s. now (s .0))
+put-byte-only κs a x y s t p q = (refl, p ∙ sym q)
 
 pub put-le32-only : Only 1 put-le32-kinds.ps put-le32-kinds.r put-le32.Post (λ κs s. now (s .0))
 put-le32-only κs a x y s t p q = (refl, p ∙ sym q)

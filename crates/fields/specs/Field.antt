@@ -35,10 +35,11 @@ unfoldable pub bytesAt : Field → List ℕ → List ℕ
 bytesAt f m = take (f .width) (drop (f .start) m)
 
 -- This is the number that bytes stand for, with the least significant byte first: the first byte, `b`, counts once, and
--- what the others, `bs`, stand for counts 256 times.
+-- what the others, `bs`, stand for counts 256 times. A list of a definition may hold any numbers; of each of them only what a byte holds
+-- counts, so that any list stands for a number below 256 to the power of its length.
 unfoldable pub counted : List ℕ → ℕ
 counted [] = 0
-counted (b ∷ bs) = b + 256 * counted bs
+counted (b ∷ bs) = b % 256 + 256 * counted bs
 
 -- These are the least significant bytes of the number `n`, with the least significant one first. The first argument is how many they are.
 unfoldable pub digits : ℕ → ℕ → List ℕ

@@ -64,6 +64,14 @@ pub fn be64(m: &[u8], at: usize) -> u64
     4294967296 * high + low
 }
 
+// Writes `n` to the byte of `m` at index `at`.
+pub fn put_byte(m: &mut [u8], at: usize, n: u8)
+    requires { ⌜ at < length (now m) ⌝ }
+    ensures { λ _. ⌜ now (m .exit) ≡ put (oneByte at) n (now (m .entry)) ⌝ }
+{
+    m[at] = n;
+}
+
 // Writes `n` to the 4 bytes of `m` from index `at` on, the least significant byte first.
 pub fn put_le32(m: &mut [u8], at: usize, n: u32)
     requires { ⌜ at + 4 ≤ length (now m) ⌝ }

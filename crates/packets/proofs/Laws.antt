@@ -5,7 +5,7 @@ use mathlib.Core.List.{List, []}
 use Prim.Native.Nat.{ℕ, _-_, _≤_, min, max, zero-le}
 use native.Mathlib.Omega.{arith}
 use native.Mathlib.Nat.{add-zero, le-max-left, max-eq-left, min-zero, min-le-left, sub-zero, zero-add}
-use lib.Dec.{eqb, ltb}
+use lib.Dec.{eqb, ltb, lit<}
 use lib.ListN.{length, take, length-take}
 use lib.Seq.{take-length, take-take}
 use borrow.Author.Tests.{eq-eqb, ne-eqb, eqb-true, eqb-false, ltb-true}
@@ -24,8 +24,9 @@ use Rattle.answers.specs.declared.Answer.the-variants.{Done, IoBufferOverflow}
 use Rattle.answers.specs.declared.Endpoint.{Endpoint}
 use Rattle.answers.specs.declared.Endpoint.the-variants.{Served, Busy, Failed}
 use Rattle.answers.specs.declared.Answer.{Answer}
-use Rattle.answers.specs.Answers.{Answering, answerOf, answer, Lacks, serves, answeredBy}
+use Rattle.answers.specs.Answers.{Answering, answerOf, answer, Lacks, endpointOf, serves, answeredBy}
 use Rattle.answers.proofs.Laws.{lacks-else, lacks-asked}
+use Rattle.answers.proofs.Legible.{Legible, legible-plain, legible-lacking, legible-asked}
 use Rattle.wrapper.specs.declared.counters.Left.{Left}
 use Rattle.wrapper.specs.declared.counters.Residue.{Residue}
 use Rattle.wrapper.specs.Status.{statusBytes}
@@ -104,12 +105,22 @@ read-lacks p e packet s g =
     })
     (λ _. lacks-asked e)
 
+-- A result word can show it, for a read sends nothing.
+pub read-legible : (p byte : ℕ) (s : Buffer) → Legible (readAnswer p (endpointOf byte) s) 0
+unfolding readAnswer
+read-legible p byte s = of-picked (λ (a : Answering). Legible a 0) (lacksRoom p s) (λ _. legible-lacking (missing p s)) (λ _. legible-asked byte 0)
+
 -- ---- a send
 
 -- It wants no room.
 pub send-lacks : {p room : ℕ} (e : Endpoint) (n : ℕ) → Lacks p room (sendAnswer e n)
 unfolding sendAnswer
 send-lacks {p} {room} e n = of-picked (Lacks p room) (eqb n 0) (λ _. lacks-else (answer 0) refl refl) (λ _. lacks-asked e)
+
+-- A result word can show its answer, whatever is sent.
+pub send-legible : (byte n count : ℕ) → Legible (sendAnswer (endpointOf byte) n) count
+unfolding sendAnswer
+send-legible byte n count = of-picked (λ (a : Answering). Legible a count) (eqb n 0) (λ _. legible-plain 0 count (lit< tt) refl) (λ _. legible-asked byte count)
 
 module _ (e : Endpoint) (n : ℕ) where
   pub sends-nothing : n ≡ 0 → answerOf Done ≡ sendAnswer e n

@@ -15,12 +15,11 @@ use borrow.Author.Tests.{eqb-true}
 use borrow.Table.Steps.{cases}
 use Rattle.fields.proofs.Bools.{of-picked, clash}
 use Rattle.fields.proofs.Seq.{none-of}
-use Rattle.buffer.specs.Buffer.{buffer, at, unread, unreadBytes}
+use Rattle.buffer.specs.Buffer.{at, unread, unreadBytes}
 use Rattle.buffer.specs.Inner.Buffer.{Sound}
 use Rattle.buffer.proofs.Kept.{length-unread}
 use Rattle.ring.specs.declared.State.{State}
 use Rattle.ring.specs.declared.State.the-variants.{StatusTransfer}
-use Rattle.wrapper.specs.declared.Wrapper.{Wrapper}
 use Rattle.wrapper.specs.declared.counters.PutIn.{PutIn}
 use Rattle.wrapper.specs.Counters.{risen}
 use Rattle.wrapper.specs.Wrapper.{isValid, wrapperOf}
@@ -39,7 +38,7 @@ use Rattle.readout.proofs.Rules.{bytesOf, packetsOf}
 use Rattle.readout.proofs.Waiting.{waits-by, apart, From, Reads, idle, short, ripe, ripe-first, by-reading}
 use Rattle.readout.proofs.Histories.{throughout-map, events, replayed}
 use Rattle.readout.proofs.Demand.{Faithful}
-use Rattle.readout.proofs.Enough.{WholeIn, stays-whole}
+use Rattle.readout.proofs.Keeping.{WholeIn, stays-whole}
 use Rattle.readout.proofs.Flow.{await-leaves, enter-leaves, to-goes, Flows, event-flows}
 
 -- ---- through a history

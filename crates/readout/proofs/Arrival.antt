@@ -15,7 +15,6 @@ use Rattle.answers.specs.Answers.{Answering, answer}
 use Rattle.ring.specs.declared.State.the-variants.{CommandTransfer, StatusTransfer}
 use Rattle.ring.specs.States.{stateNumber}
 use Rattle.device.specs.declared.Device.{Device}
-use Rattle.device.specs.Device.{entering0}
 use Rattle.bbb.specs.Poll.{Given, Polling, Point, ends, pollRule, Fits, refusing, pollCall}
 use Rattle.bbb.proofs.Keeping.{by-call, call-whole, call-sizes, packet-is}
 use Rattle.bbb.proofs.After.{bufferAfter, arrived, read-unread}

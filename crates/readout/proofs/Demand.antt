@@ -10,7 +10,6 @@ use lib.Seq.{drop-at}
 use Rattle.fields.proofs.Seq.{none-of}
 use Rattle.buffer.specs.Buffer.{unread}
 use Rattle.buffer.proofs.Kept.{length-unread}
-use Rattle.ring.specs.States.{stateNumber}
 use Rattle.wrapper.specs.declared.DataDirection.{DataDirection}
 use Rattle.wrapper.specs.declared.DataDirection.the-variants.{Out, In, NotExpected}
 use Rattle.wrapper.specs.declared.Wrapper.{Wrapper}
@@ -24,7 +23,7 @@ use Rattle.device.specs.Device.{numbersOf}
 use Rattle.device.proofs.Wholly.{whole-sound, packet-known, packet-bounds}
 use Rattle.bbb.specs.Poll.{Given}
 use Rattle.calls.specs.Checks.{bufferOf}
-use Rattle.calls.specs.Status.{takesStatus, withFigure, setStatusCall}
+use Rattle.calls.specs.Status.{withFigure, setStatusCall}
 use Rattle.calls.proofs.After.{Accepted, status-accepted}
 use Rattle.readout.specs.History.{Socket, Event, poll, status, Shows, shows, next, did, historyOf, reached, all, sentIn, putIn, takenIn, firstOf, arrivedIn, ByValue, isServed, isPoll, served, isReset, isStatus, accepts}
 use Rattle.readout.specs.Demand.{Story, toStatus, history, Happened, afterWrapper, beforeStatus, afterStatus, ended, message, wrapper, L, P, R, host, firmware, servedSince, crossed, Between, Later, Supposed, pollsDue, dataOf, theData, theStatus, NotYet, Ends, Demand, Script, played}

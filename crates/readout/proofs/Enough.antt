@@ -16,39 +16,19 @@ use Rattle.buffer.specs.Buffer.{unread}
 use Rattle.ring.specs.States.{stateNumber}
 use Rattle.wrapper.specs.Wrapper.{Valid}
 use Rattle.device.specs.Device.{numbersOf}
-use Rattle.device.specs.Broken.{Whole, isWhole, unlessBroken}
+use Rattle.device.specs.Broken.{isWhole, unlessBroken}
 use Rattle.device.proofs.Wholly.{is-whole, whole-is}
-use Rattle.bbb.specs.Poll.{pollCall}
-use Rattle.bbb.proofs.Keeping.{call-whole}
 use Rattle.calls.specs.Checks.{bufferOf}
-use Rattle.calls.specs.Status.{takesStatus, setStatusCall}
-use Rattle.calls.specs.Data.{worksIn}
+use Rattle.calls.specs.Status.{takesStatus}
 use Rattle.calls.specs.Bus.{handlingOfReset, resetCall, controlCall}
 use Rattle.calls.specs.Bus as bus
-use Rattle.calls.proofs.After.{status-whole, read-whole, write-whole, write-all-whole, reset-whole, control-whole}
-use Rattle.readout.specs.History.{Socket, Event, poll, status, write, writeAll, read, reset, control, command, commandStep, mislent, Shows, shows, next, Happening, did, reached, all, firstOf, arrivedIn, Throughout, ByValue, isReset, accepts}
+use Rattle.readout.specs.History.{Socket, Event, poll, status, write, writeAll, read, reset, control, command, commandStep, mislent, Shows, shows, Happening, did, reached, all, firstOf, arrivedIn, Throughout, ByValue, isReset, accepts}
 use Rattle.readout.specs.Demand.{Story, toStatus, history, Happened, afterWrapper, afterStatus, message, L, firmware, waitsIn, Earlier, Later, Supposed, Demand}
 use Rattle.readout.proofs.Histories.{reached-append, all-append, throughout-parts, throughout-joined, throughout-map}
 use Rattle.readout.proofs.Demand.{Faithful, demand}
-
-abbrev pub WholeIn : Socket → Type 0
-WholeIn s = Whole (numbersOf (s .device)) (length (s .io))
+use Rattle.readout.proofs.Keeping.{WholeIn, refused, stays-whole, run-whole}
 
 -- ---- a broken record
-
--- An event at a broken record leaves it as it is, and takes no packet.
-refused : (e : Event) (s : Socket) → isWhole (numbersOf (s .device)) (length (s .io)) ≡ false → (next e s ≡ s) × (shows e s .taken ≡ [])
-unfolding shows pollCall setStatusCall worksIn resetCall controlCall unlessBroken
-refused (poll g) s h = (rw h, rw h)
-refused (status f) s h = (rw h, refl)
-refused (write src) s h = (rw h, refl)
-refused (writeAll src) s h = (rw h, refl)
-refused (read dst) s h = (rw h, refl)
-refused reset s h = (rw h, refl)
-refused (control q) s h = (rw h, refl)
-refused command s h = (refl, refl)
-refused (commandStep extended) s h = (refl, refl)
-refused mislent s h = (refl, refl)
 
 none-arrives : (xs : List Happening) (s : Socket) → isWhole (numbersOf (s .device)) (length (s .io)) ≡ false → Throughout ByValue xs s → arrivedIn xs ≡ []
 unfolding all
@@ -82,24 +62,6 @@ module _ (t : Story) (happened : Happened ByValue t) where
       (λ broken. absurd (omega (arith, valid .whole, ap length (sym (message-is t) ∙ none-arrives (toWrapper t) (t .start) broken to-wrapper))))
 
 -- ---- a whole record
-
--- A whole record stays whole.
-pub stays-whole : (e : Event) (s : Socket) → WholeIn s → WholeIn (next e s)
-unfolding shows
-stays-whole (poll g) s w = call-whole (s .device) (s .io) g w
-stays-whole (status f) s w = status-whole (s .device) (s .io) f w
-stays-whole (write src) s w = write-whole (s .device) (s .io) w src
-stays-whole (writeAll src) s w = write-all-whole (s .device) (s .io) w src
-stays-whole (read dst) s w = read-whole (s .device) (s .io) w dst
-stays-whole reset s w = reset-whole (s .device) (s .io) w
-stays-whole (control q) s w = control-whole (s .device) (s .io) q w
-stays-whole command s w = w
-stays-whole (commandStep extended) s w = w
-stays-whole mislent s w = w
-
-pub run-whole : (xs : List Happening) (s : Socket) → WholeIn s → Throughout ByValue xs s → WholeIn (reached xs s)
-run-whole [] s w _ = w
-run-whole (x ∷ xs) s w (does, rest) = run-whole xs (x .shown .socket) (rw does (stays-whole (x .event) s w)) rest
 
 -- "its status": the event leaves the device in a state in which a status is taken.
 abbrev SameCommand : Event → Socket → Shows → Type 0

@@ -7,7 +7,7 @@
 use mathlib.Core.Path.{_≡_, refl, sym, ap, ap₂, _∙_, subst}
 use mathlib.Core.List.{List, [], _∷_, _++_, append-assoc}
 use Prim.Native.Nat.{ℕ}
-use Rattle.readout.specs.History.{Socket, Event, Shows, shows, next, Happening, did, historyOf, reached, all, Throughout, ByValue}
+use Rattle.readout.specs.History.{Socket, Event, Shows, next, Happening, did, historyOf, reached, all, Throughout, ByValue}
 
 pub reached-append : (xs ys : List Happening) (s : Socket) → reached (xs ++ ys) s ≡ reached ys (reached xs s)
 reached-append [] ys s = refl

@@ -12,6 +12,7 @@
 -- proofs.Willing      which polls are served
 -- proofs.Demand       demand 3
 -- proofs.Called       the same for the calls themselves
+-- proofs.Keeping      what every event keeps
 -- proofs.Premises     what is supposed, as tests; it can be met
 -- proofs.Enough       ten of the twelve premises are enough
 -- proofs.Needed       each of the ten is needed
@@ -34,6 +35,7 @@ pub mod Owed
 pub mod Willing
 pub mod Demand
 pub mod Called
+pub mod Keeping
 pub mod Premises
 pub mod Enough
 pub mod Needed

@@ -17,7 +17,7 @@ use Rattle.ring.specs.States.{stateNumber, byDirection}
 use Rattle.wrapper.specs.declared.DataDirection.{DataDirection}
 use Rattle.wrapper.specs.declared.DataDirection.the-variants.{Out, In, NotExpected}
 use Rattle.wrapper.specs.declared.Wrapper.{Wrapper}
-use Rattle.wrapper.specs.Wrapper.{Valid, wrapperOf, directionBit}
+use Rattle.wrapper.specs.Wrapper.{Valid, wrapperOf}
 use Rattle.wrapper.proofs.Cbw.{valid-is, no-data-only}
 use Rattle.device.specs.declared.Status.{Status}
 use Rattle.device.specs.Device.{numbersOf, isPresent}

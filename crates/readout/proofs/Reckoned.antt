@@ -20,7 +20,7 @@ use Rattle.device.specs.declared.Status.the-variants.{Absent}
 use Rattle.bbb.specs.Poll.{Given, given}
 use Rattle.device.specs.Create.{fixed}
 use Rattle.calls.specs.Data.{writeAllIn}
-use Rattle.readout.specs.History.{Socket, socket, Event, poll, status, writeAll, Shows, shows, next, historyOf, reached, all, sentIn, putIn, Throughout, ByValue, isPoll}
+use Rattle.readout.specs.History.{Socket, socket, Event, poll, status, writeAll, shows, next, historyOf, all, sentIn, putIn, Throughout, ByValue, isPoll}
 use Rattle.readout.specs.Account.{Readout, allSince, readoutOf, reachedBy, countSince, putInSince, sentSince, unreadAt, filledBy, filledIn, filledSince, arrivedFor, isToHost, Lasts, SupposedReadout, Account}
 use Rattle.readout.specs.Demand.{waitsIn}
 use Rattle.readout.specs.Cases.{taking, sending, newSocket, cbwToHost, read2, tooLong, halfFilled}

@@ -16,7 +16,7 @@ use Rattle.packets.specs.Packets.{readAnswer, takesOne, received}
 use Rattle.packets.proofs.Laws.{answers-0}
 use Rattle.device.specs.Device.{numbersOf, isPresent}
 use Rattle.device.specs.Broken.{Whole}
-use Rattle.bbb.specs.Poll.{Given, Polling, Point, point, bufferOfPoint, reaching, leaving, counting, sendStatus, sendData, offeredBy, takeBy, takeData, enterStatus, statusAwaitRule, noDataRule, toHostEndingRule, fallsShort, toHostRule, fromHostEndingRule, fromHostRule, starting, startRule, messageAt, parsing, parseRule, readBy, readOneBy, readCbwRule, entering, statusTransferRule, invalidRule, ruleIn, pollRule, pollCall}
+use Rattle.bbb.specs.Poll.{Given, Polling, Point, point, bufferOfPoint, reaching, leaving, counting, sendStatus, sendData, offeredBy, takeBy, takeData, enterStatus, statusAwaitRule, noDataRule, toHostEndingRule, fallsShort, toHostRule, fromHostEndingRule, fromHostRule, starting, startRule, messageAt, parsing, parseRule, readBy, readOneBy, readCbwRule, entering, statusTransferRule, invalidRule, ruleIn, pollRule}
 use Rattle.bbb.proofs.Keeping.{by-direction, call-done}
 use Rattle.bbb.proofs.After.{P, firstFor, outFor, topped, stated, send-answer}
 use Rattle.readout.specs.History.{Socket, poll, shows, isServed}

@@ -3,7 +3,7 @@
 --     bytes-apart, get-apart      a field apart from it keeps its bytes and its number
 --     store-same                  a number that the field holds already changes nothing
 --     put-stores                  nor does writing it: the code need not compare
---     ways, leaves-four           what has to be shown for each way through a function
+--     ways, leaves-byte, leaves-four    what has to be shown for each way through a function
 -- Assumes nothing.
 use mathlib.Core.Path.{_≡_, refl, sym, ap, _∙_}
 use mathlib.Core.Bool.{Bool, true, false, _||_}
@@ -12,13 +12,13 @@ use Prim.Native.Nat.{ℕ, _+_, _%_, _^_, _≤_, _<_}
 use native.Mathlib.Nat.{mod-eq-of-lt}
 use native.Mathlib.Omega.{arith}
 use lib.Dec.{eqb, leb}
-use lib.ListN.{length, getD, set, replicate}
+use lib.ListN.{length, getD, replicate}
 use borrow.Author.Tests.{eq-eqb, eqb-true, leb-true}
 use Rattle.fields.specs.Field.{Field, littleEndian, oneByte, bytesAt, get, put}
 use Rattle.fields.specs.Overlay.{overlay}
 use Rattle.fields.proofs.Bools.{of-picked}
 use Rattle.fields.proofs.Overlay.{overlay-whole}
-use Rattle.fields.proofs.Field.{length-put, get-put, bytes-before, bytes-behind, byte-stored, Bytes, all-bytes, one-byte, put-own}
+use Rattle.fields.proofs.Field.{length-put, get-put, bytes-before, bytes-behind, Bytes, all-bytes, one-byte, put-own}
 use Rattle.buffer.specs.declared.Marks.{Marks}
 use Rattle.buffer.specs.Buffer.{at}
 use Rattle.ring.specs.declared.State.{State}
@@ -59,12 +59,12 @@ module _ (f : Field) (n : ℕ) (r : List ℕ) where
 
   module _ (fits : f .start + f .width ≤ length r) where
     -- A number that stands there already may be written too. That asks for bytes: a list may hold larger elements, which writing would change.
-    put-stores : (get f r ≡ n → Bytes (bytesAt f r)) → put f n r ≡ store f n r
+    put-stores : Bytes (bytesAt f r) → put f n r ≡ store f n r
     unfolding store
     put-stores h = of-picked (λ (l : List ℕ). put f n r ≡ l) (eqb (get f r) n) (λ q. again (eqb-true _ _ q)) (λ _. refl)
       where
         again : get f r ≡ n → put f n r ≡ r
-        again e = ap (λ (k : ℕ). put f k r) (sym e) ∙ put-own f r fits (h e)
+        again e = ap (λ (k : ℕ). put f k r) (sym e) ∙ put-own f r fits h
 
     pub length-store : length (store f n r) ≡ length r
     unfolding store
@@ -84,12 +84,12 @@ module _ (f : Field) (n : ℕ) (r : List ℕ) where
 
 -- This has to be shown for a function that stores a number.
 module _ (r : List ℕ) (at n : ℕ) where
-  pub leaves-byte : at < length r → n < 256 → set r at n ≡ store (oneByte at) n r
-  leaves-byte h k = byte-stored r at n k h ∙ put-stores (oneByte at) n r (omega arith) (λ e. one-byte r at h (rw e k))
+  -- These two are no rules for a search: what stands there must be bytes, of which the check knows a fact for every index.
+  pub leaves-byte : {l : List ℕ} → at < length r → getD r at 0 < 256 → l ≡ put (oneByte at) n r → l ≡ store (oneByte at) n r
+  leaves-byte h k e = e ∙ put-stores (oneByte at) n r (omega arith) (one-byte r at h k)
 
-  -- This one is no rule for a search: it asks for a fact of every index.
   pub leaves-four : {l : List ℕ} → at + 4 ≤ length r → ((i : ℕ) → getD r i 0 < 256) → l ≡ put (littleEndian at 4) n r → l ≡ store (littleEndian at 4) n r
-  leaves-four h k e = e ∙ put-stores (littleEndian at 4) n r h (λ _. all-bytes (littleEndian at 4) r h k)
+  leaves-four h k e = e ∙ put-stores (littleEndian at 4) n r h (all-bytes (littleEndian at 4) r h k)
 
 -- ---- parts
 
@@ -138,4 +138,4 @@ pub leaves-new : (r : List ℕ) (f : Fixed) → StorableFixed f → {a b c l : L
 unfolding newRecord
 leaves-new r f fits h ha hb hc hk hl = rw (hk, hc, hb, mod-eq-of-lt (fits .packetsize), ha ∙ overlay-whole r (replicate field.recordSize 0) (sym h)) at hl
 
-pub ruleset ways = (leaves-new, leaves-byte, leaves-state, leaves-left, leaves-put-in, leaves-marks, leaves-read-mark, leaves-write-mark, leaves-absent, leaves-present, leaves-wrapper)
+pub ruleset ways = (leaves-new, leaves-state, leaves-left, leaves-put-in, leaves-marks, leaves-read-mark, leaves-write-mark, leaves-absent, leaves-present, leaves-wrapper)

@@ -5,6 +5,7 @@ use buffer::Marks;
 use buffer::span::put;
 use device::Fixed;
 use device::Status;
+use fields::put_byte;
 use fields::put_le32;
 use ring::State;
 use ring::state_number;
@@ -28,7 +29,7 @@ fn store8(r: &mut [u8], at: usize, n: u8)
     requires { ⌜ at < length (now r) ⌝ }
     ensures { λ _. ⌜ now (r .exit) ≡ store (oneByte at) n (now (r .entry)) ⌝ }
 {
-    r[at] = n;
+    put_byte(r, at, n);
 }
 
 // The number `n` is stored in the four bytes from `at` on.

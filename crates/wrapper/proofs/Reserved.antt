@@ -11,11 +11,11 @@ use Prim.Native.Nat.{ℕ, _+_, _*_, _/_, _%_, _≤_, _<_}
 use native.Mathlib.Nat.{div-one, div-add-mod', mod-lt, mod-eq-of-lt}
 use native.Mathlib.Omega.{arith}
 use lib.Dec.{eqb, leb, lit<, lit≤}
-use lib.ListN.{length}
+use lib.ListN.{length, getD}
 use borrow.Author.Tests.{eq-eqb, ne-eqb, eqb-true, eqb-false, leb-true, leb-false}
 use borrow.Table.Steps.{cases}
 use Rattle.fields.specs.Field.{Field, bits, oneByte, bytesAt, get, getBits, putBits}
-use Rattle.fields.proofs.Field.{byte-read}
+use Rattle.fields.proofs.Field.{byte-held}
 use Rattle.fields.proofs.Bits.{clear-parts, bit-clear, length-put-bits, get-put-bits, bits-below, bits-above, bits-elsewhere, bytes-before-bits, bytes-behind-bits}
 use Rattle.wrapper.specs.declared.verdict.Verdict.the-variants.{ValidOnly, Meaningful}
 use Rattle.wrapper.specs.Wrapper.{dCBWSignature, dCBWTag, dCBWDataTransferLength, bmCBWFlags, directionBit, bCBWLUN, bCBWCBLength, CBWCB, Valid, isSigned, isValid, wrapperOf, parsed}
@@ -63,11 +63,18 @@ module _ (b : ℕ) (byte : b < 256) where
       rest : b % 16 < 16
       rest = mod-lt b (lit< tt)
 
--- Bytes are below 256; a list may hold any numbers.
-pub clear-bytes : (m : List ℕ) → length m ≡ 31 → get bmCBWFlags m < 256 → get (oneByte 13) m < 256
-    → isClear m ≡ (eqb (get bmCBWFlags m) 0x00 || eqb (get bmCBWFlags m) 0x80) && leb (get (oneByte 13) m) 0x0F
+-- A list may hold any numbers. What lies above a byte does not count for its bits, nor for what it stands for.
+flags-held : (b : ℕ) → b / 1 % 128 ≡ b % 256 / 1 % 128
+flags-held b = rw (div-one b, div-one (b % 256)) (omega arith)
+
+lun-held : (b : ℕ) → b / 16 % 16 ≡ b % 256 / 16 % 16
+lun-held b = omega (arith, div-add-mod' b 256)
+
+pub clear-bytes : (m : List ℕ) → length m ≡ 31 → isClear m ≡ (eqb (get bmCBWFlags m) 0x00 || eqb (get bmCBWFlags m) 0x80) && leb (get (oneByte 13) m) 0x0F
 unfolding isClear getBits
-clear-bytes m whole flags beside = rw (byte-read m 12 (omega (arith, whole)), byte-read m 13 (omega (arith, whole)), flags-byte _ flags, lun-byte _ beside)
+clear-bytes m whole =
+    let held : (b : ℕ) → b % 256 < 256 = λ b. mod-lt b (lit< tt) in
+    rw (flags-held (getD m 12 0), lun-held (getD m 13 0), flags-byte _ (held (getD m 12 0)), lun-byte _ (held (getD m 13 0)), byte-held m 12 (omega (arith, whole)), byte-held m 13 (omega (arith, whole)))
 
 -- ---- without the reserved bits
 

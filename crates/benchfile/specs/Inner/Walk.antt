@@ -5,8 +5,8 @@ use mathlib.Core.Path.{_≡_}
 use mathlib.Core.Bool.{Bool, true, _&&_}
 use mathlib.Core.List.{List}
 use lib.Dec.{eqb}
-use lib.ListN.{length, drop}
-use Rattle.fields.specs.Field.{oneByte, get}
+use lib.ListN.{length, drop, getD}
+use Rattle.fields.specs.Field.{get}
 use Rattle.benchfile.specs.declared.Tally.{Tally}
 use Rattle.benchfile.specs.File.{joined, areEvents, lastOffset, countField, lastField}
 
@@ -25,9 +25,9 @@ pub record Tallies (t : Tally) (xs : List ℕ) : Type 0 where
   pub found : t .filled ≡ true → (es : List (List ℕ)) × Fills es xs × (t ≡ tallyOf es)
   pub only : (es : List (List ℕ)) → Fills es xs → t ≡ tallyOf es
 
--- Whether the first four bytes of `m` are `BOT1`.
+-- Whether the first four elements of `m` are `BOT1`, each of them as it stands: a field would take them modulo 256.
 unfoldable pub isMagic : List ℕ → Bool
-isMagic m = eqb (get (oneByte 0) m) 0x42 && (eqb (get (oneByte 1) m) 0x4F && (eqb (get (oneByte 2) m) 0x54 && eqb (get (oneByte 3) m) 0x31))
+isMagic m = eqb (getD m 0 0) 0x42 && (eqb (getD m 1 0) 0x4F && (eqb (getD m 2 0) 0x54 && eqb (getD m 3 0) 0x31))
 
 -- Whether `t` is a tally of events, and `trailer` has its numbers and `BOT1`.
 unfoldable pub agreesWith : Tally → List ℕ → Bool

@@ -1,0 +1,20 @@
+-- Exported calls that were made one after the other, as a history. Assumes nothing: these are definitions.
+use mathlib.Core.Path.{_≡_}
+use mathlib.Core.List.{List, [], _∷_}
+use Rattle.readout.specs.History.{Socket, Event, Shows, Happening, did}
+use Rattle.readoutbytes.specs.Calls.{Memory, socketIn, Call, Outcome, callOn, eventOf, seen}
+
+-- `Made` says of a call, of the memory that it was lent and of an outcome that the call returned and left this. By the definitions it is
+-- so.
+abbrev pub ByBytes : Call → Memory → Outcome → Type 0
+ByBytes c m o = o ≡ callOn c m
+
+-- "the firmware keeps one device record": the log of a history that starts with one memory and ends with another. Each call was lent the
+-- memory that the call before left. What happened is what the firmware read.
+pub data Log (Made : Call → Memory → Outcome → Type 0) : List Happening → Memory → Memory → Type 0 where
+  none : {m : Memory} → Log Made [] m m
+  then : {c : Call} {m last : Memory} {o : Outcome} {xs : List Happening} → Made c m o → Log Made xs (o .memory) last → Log Made (did (eventOf c) (seen c o) ∷ xs) m last
+
+-- What a call showed, as an event at a socket: a call was made in a memory that holds this socket, and this is what the firmware read of it.
+pub data Seen (Made : Call → Memory → Outcome → Type 0) : Event → Socket → Shows → Type 0 where
+  saw : {c : Call} {m : Memory} {o : Outcome} → Made c m o → Seen Made (eventOf c) (socketIn m) (seen c o)
