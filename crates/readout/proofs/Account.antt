@@ -1,7 +1,7 @@
 -- Request 7 of document 02: the account of a read-out.
 --     carried    from any whole record in 4 or 6, through every history that stays there
 --     begins     the poll that parses the wrapper starts the count at 0, and leaves nothing unread
---     account    the two together
+--     account    the two together; starts-whole: its record is not broken
 -- Assumes nothing.
 use mathlib.Core.Path.{_≡_, refl, sym, ap, _∙_, subst}
 use mathlib.Core.Bool.{true, false, not}
@@ -25,7 +25,8 @@ use Rattle.wrapper.specs.Counters.{risen}
 use Rattle.wrapper.specs.Wrapper.{isValid, wrapperOf}
 use Rattle.device.specs.declared.Device.{Device}
 use Rattle.device.specs.Device.{numbersOf, isPresent}
-use Rattle.device.proofs.Wholly.{whole-sound}
+use Rattle.device.specs.Broken.{isWhole}
+use Rattle.device.proofs.Wholly.{is-whole, whole-sound}
 use Rattle.bbb.specs.Poll.{Given, Polling, Point, point, bufferOfPoint, sendBy, send, takeBy, takeData, noDataRule, toHostRule, fromHostEndingRule, fromHostRule, starting, startRule, messageAt, parsing, parseRule, statusTransferRule, ruleIn, pollRule, Fits, pollCall}
 use Rattle.bbb.proofs.Keeping.{Follows, follows-received, follows-31, by-call, by-direction}
 use Rattle.bbb.proofs.After.{P, bufferAfter, firstFor, arrived, read-unread, parse-rest, parse-valid, parse-invalid}
@@ -38,7 +39,7 @@ use Rattle.readout.proofs.Rules.{bytesOf, packetsOf}
 use Rattle.readout.proofs.Waiting.{waits-by, apart, From, Reads, idle, short, ripe, ripe-first, by-reading}
 use Rattle.readout.proofs.Histories.{throughout-map, events, replayed}
 use Rattle.readout.proofs.Demand.{Faithful}
-use Rattle.readout.proofs.Keeping.{WholeIn, stays-whole}
+use Rattle.readout.proofs.Keeping.{WholeIn, refused, stays-whole}
 use Rattle.readout.proofs.Flow.{await-leaves, enter-leaves, to-goes, Flows, event-flows}
 
 -- ---- through a history
@@ -234,6 +235,12 @@ module _ (start : Socket) (completing : Given) (h : List Event) (u : SupposedRea
 -- A read-out that happened by value is that of its events.
 readout-by : (r : Readout) (h : List Event) → r .completed ≡ shows (poll (r .completing)) (r .start) → r .since ≡ historyOf h (r .completed .socket) → r ≡ readoutOf (r .start) (r .completing) h
 readout-by r h completes goes = rw (goes, completes)
+
+-- A read-out starts with a whole record: a broken one would go on waiting.
+pub starts-whole : (r : Readout) → ByValue (poll (r .completing)) (r .start) (r .completed) → SupposedReadout r → WholeIn (r .start)
+starts-whole r completes u =
+    cases (isWhole (numbersOf (r .start .device)) (length (r .start .io))) (is-whole _ _)
+    (λ broken. absurd (waits-not (r .start .device .state) (u .waits) (subst (λ (s : Socket). isToHost (s .device .state) ≡ true) (ap (λ (o : Shows). o .socket) completes ∙ refused (poll (r .completing)) (r .start) broken .0) (u .lasts .0))))
 
 -- Every read-out that happened and meets what is supposed has its account.
 pub account : (Does : Event → Socket → Shows → Type 0) → Faithful Does → (r : Readout) → Throughout Does (allSince r) (r .start) → SupposedReadout r → Account r

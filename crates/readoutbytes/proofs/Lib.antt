@@ -1,4 +1,10 @@
--- proofs.Held    what a memory holds, and goes on holding
--- proofs.Same    the simulation
+-- proofs.Held       what a memory holds, and goes on holding
+-- proofs.Same       the simulation
+-- proofs.Refused    a call that cannot be made changes nothing
+-- proofs.Logs       a log of exported calls is a history
+-- proofs.Demand     demand 3 and request 7 for them
 pub mod Held
 pub mod Same
+pub mod Refused
+pub mod Logs
+pub mod Demand

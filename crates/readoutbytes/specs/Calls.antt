@@ -1,7 +1,7 @@
 -- The exported calls as firmware makes them: what it keeps and lends, what each call returns and leaves, and what the firmware reads of that.
 -- What a call does is taken from the definition that its contract cites. Assumes nothing: these are definitions.
 use mathlib.Core.Path.{_≡_}
-use mathlib.Core.Bool.{true, cond, _&&_}
+use mathlib.Core.Bool.{Bool, true, false, cond, _&&_}
 use mathlib.Core.List.{List, [], _∷_}
 use Prim.Native.Nat.{ℕ}
 use lib.Dec.{eqb, leb}
@@ -64,8 +64,21 @@ pub data Call : Type 0 where
   souk-command-step : List ℕ → Call
   souk-command-step-told : ℕ → List ℕ → Call
 
--- What a call returns and leaves: its `result`; the `memory`; and `lent`, what else it may write to, as it leaves it: the packet buffer of a
--- poll, the destination of a read, the place for the command.
+-- What a call is lent, beside record and IO buffer, that it may write to: the packet buffer of a poll, the destination of a read, the place for
+-- the command.
+abbrev pub lentTo : Call → List ℕ
+lentTo (souk-poll g) = g .packet
+lentTo (souk-set-status f) = []
+lentTo (souk-write-data src) = []
+lentTo (souk-try-write-data-all src) = []
+lentTo (souk-read-data dst) = dst
+lentTo souk-reset = []
+lentTo (souk-control q) = []
+lentTo (souk-command block) = block
+lentTo (souk-command-step numbers) = numbers
+lentTo (souk-command-step-told extended numbers) = numbers
+
+-- What a call returns and leaves: its `result`; the `memory`; and `lent`, what else it may write to, as it leaves it.
 pub record Outcome : Type 0 where
   pub result : ℕ
   pub memory : Memory
@@ -117,6 +130,19 @@ eventOf (souk-control q) = control q
 eventOf (souk-command block) = cond (eqb (length block) 16) command mislent
 eventOf (souk-command-step numbers) = cond (eqb (length numbers) 6) (commandStep plainIsExtended) mislent
 eventOf (souk-command-step-told extended numbers) = cond (leb extended 1 && eqb (length numbers) 6) (commandStep (eqb extended 1)) mislent
+
+-- Whether a call is refused before it looks at the record.
+abbrev pub isMislent : Event → Bool
+isMislent (poll g) = false
+isMislent (status f) = false
+isMislent (write src) = false
+isMislent (writeAll src) = false
+isMislent (read dst) = false
+isMislent reset = false
+isMislent (control q) = false
+isMislent command = false
+isMislent (commandStep extended) = false
+isMislent mislent = true
 
 -- ---- what the firmware reads
 

@@ -1,0 +1,126 @@
+-- Demand 3 and request 7 for the calls that firmware makes. Both are the theorems over calls by value, of the history that the log is.
+-- Assumes nothing.
+--     demand     demand 3
+--     account    request 7
+use mathlib.Core.Path.{_≡_, sym, ap, ap₂, _∙_, subst}
+use mathlib.Core.Bool.{true}
+use mathlib.Core.List.{List, [], _∷_, _++_}
+use Prim.Native.Nat.{ℕ, _+_, _-_}
+use lib.ListN.{length}
+use Rattle.device.specs.declared.Device.{Device}
+use Rattle.bbb.specs.Poll.{Given}
+use Rattle.recordbytes.specs.Record.{deviceAt, fixedAt, marksAt}
+use Rattle.readout.specs.History.{Socket, poll, status, Shows, Happening, did, reached, Throughout, isServed}
+use Rattle.readout.specs.Demand.{Story, toStatus, history, Happened, beforeStatus, ended, R, servedSince, pollsDue, ceiling, Later, Supposed, Ends, Willing, Demand}
+use Rattle.readout.specs.Account.{Readout, allSince, reachedBy, countSince, unreadAt, SupposedReadout, Account}
+use Rattle.readout.proofs.Histories.{reached-append}
+use Rattle.readout.proofs.Keeping.{WholeIn}
+use Rattle.readout.proofs.Demand as value
+use Rattle.readout.proofs.Account as value-account
+use Rattle.readoutbytes.specs.Calls.{Memory, socketIn, HoldsRecord, Call, souk-poll, Outcome}
+use Rattle.readoutbytes.specs.Logs.{Log, none, then, Seen, saw}
+use Rattle.readoutbytes.specs.Demand.{Logged, packetSizeIn, leftIn, pollsDueOn, polled, DemandOn, LoggedReadout, countIn, unreadIn, AccountOn}
+use Rattle.readoutbytes.proofs.Held.{held-known, whole-held}
+use Rattle.readoutbytes.proofs.Same.{seen-socket}
+use Rattle.readoutbytes.proofs.Logs.{True, log-happened, log-reached, seen-faithful, log-holds}
+
+-- A log that goes on.
+log-joined : (Made : Call → Memory → Outcome → Type 0) {xs ys : List Happening} {a b c : Memory} → Log Made xs a b → Log Made ys b c → Log Made (xs ++ ys) a c
+log-joined Made none l = l
+log-joined Made (then made rest) l = then made (log-joined Made rest l)
+
+-- What the record's bytes say of a socket.
+record Reads (s : Socket) (m : Memory) : Type 0 where
+  packetsize : s .device .fixed .packetsize ≡ packetSizeIn m
+  left : s .device .left .0 ≡ leftIn m
+
+reads : (s : Socket) (m : Memory) → s ≡ socketIn m → HoldsRecord m → Reads s m
+unfolding deviceAt fixedAt
+reads s m e h =
+    let same : s .device ≡ deviceAt (m .bytes) = ap (λ (x : Socket). x .device) (e ∙ held-known m (h .known)) in
+    record { packetsize = ap (λ (d : Device). d .fixed .packetsize) same; left = ap (λ (d : Device). d .left .0) same }
+
+module _ (Made : Call → Memory → Outcome → Type 0) (true-of : True Made) where
+  -- ---- demand 3
+
+  module _ (t : Story) (first before last : Memory) (l : Logged Made t first before last) (u : Supposed t) where
+    happened : Happened (Seen Made) t
+    happened = subst (Throughout (Seen Made) (history t)) (sym (l .starts)) (log-happened Made (log-joined Made (l .to-status) (l .since)))
+
+    by-value : Demand (Seen Made) t
+    by-value = value.demand (Seen Made) (seen-faithful Made true-of) t happened u
+
+    -- The record is not broken at the start, so it is not broken later.
+    first-holds : HoldsRecord first
+    first-holds = whole-held first (subst WholeIn (l .starts) (u .between .whole))
+
+    before-holds : HoldsRecord before
+    before-holds = log-holds Made true-of (l .to-status) first-holds
+
+    -- The sockets right before the status and at the end.
+    before-is : beforeStatus t ≡ socketIn before
+    before-is = sym (reached-append (t .arrival) (did (poll (t .completing)) (t .completed) ∷ t .before) (t .start)) ∙ ap (reached (toStatus t)) (l .starts) ∙ log-reached Made (l .to-status)
+
+    ended-is : ended t ≡ socketIn last
+    ended-is = log-reached Made (l .since)
+
+    left-is : R t ≡ leftIn before
+    left-is = reads (beforeStatus t) before before-is before-holds .left
+
+    due-is : pollsDue t ≡ pollsDueOn first before
+    due-is = ap₂ (λ (r p : ℕ). ceiling r p + ceiling 13 p) left-is (reads (t .start) first (l .starts) first-holds .packetsize)
+
+    -- A poll that is made with the last memory is made at the end.
+    made-last : (g : Given) (o : Outcome) → Made (souk-poll g) last o → Seen Made (poll g) (ended t) (polled g o)
+    made-last g o made = subst (λ (s : Socket). Seen Made (poll g) s (polled g o)) (sym ended-is) (saw made)
+
+    ends : servedSince t + 1 ≡ pollsDueOn first before → (g : Given) (o : Outcome) → Made (souk-poll g) last o → Later (poll g) (socketIn last) (polled g o) → isServed (polled g o .answer) ≡ true → Ends t (polled g o) × HoldsRecord (o .memory)
+    ends full g o made later does =
+        let e : Ends t (polled g o) = by-value .exactly (full ∙ sym due-is) g (polled g o) (made-last g o made) (subst (λ (s : Socket). Later (poll g) s (polled g o)) (sym ended-is) later) does in
+        (e, whole-held (o .memory) (subst WholeIn (seen-socket (souk-poll g) o) (e .again .whole)))
+
+    pub demand : DemandOn Made t first before last
+    demand = record {
+      left = sym left-is ∙ by-value .left;
+      not-before = λ less. by-value .not-before (rw due-is less);
+      exactly = ends;
+      reachable = λ less g o made w. by-value .reachable (rw due-is less) g (polled g o) (made-last g o made) (subst (Willing g) (sym ended-is) w);
+    }
+
+  -- ---- request 7
+
+  module _ (r : Readout) (first last : Memory) (l : LoggedReadout Made r first last) (u : SupposedReadout r) where
+    happened-readout : Throughout (Seen Made) (allSince r) (r .start)
+    happened-readout = subst (Throughout (Seen Made) (allSince r)) (sym (l .starts)) (log-happened Made (l .calls))
+
+    account-by-value : Account r
+    account-by-value = value-account.account (Seen Made) (seen-faithful Made true-of) r happened-readout u
+
+    reached-is : reachedBy r ≡ socketIn last
+    reached-is = ap (reached (allSince r)) (l .starts) ∙ log-reached Made (l .calls)
+
+    last-holds : HoldsRecord last
+    last-holds =
+        log-holds Made true-of (l .calls)
+        (whole-held first (subst WholeIn (l .starts) (value-account.starts-whole r (seen-faithful Made true-of (poll (r .completing)) (r .start) (r .completed) (happened-readout .0)) u)))
+
+    device-is : reachedBy r .device ≡ deviceAt (last .bytes)
+    device-is = ap (λ (x : Socket). x .device) (reached-is ∙ held-known last (last-holds .known))
+
+    count-is : countSince r ≡ countIn last
+    unfolding deviceAt
+    count-is = ap (λ (d : Device). d .putin .0) device-is
+
+    unread-is : unreadAt (reachedBy r) ≡ unreadIn last
+    unfolding deviceAt marksAt
+    unread-is = ap (λ (d : Device). d .marks .write - d .marks .read) device-is
+
+    pub account : AccountOn r last
+    account =
+        let a : Account r = account-by-value in
+        record {
+          counted = sym count-is ∙ a .counted;
+          flow = rw unread-is at (a .flow);
+          less = λ c. rw (count-is, unread-is) at (a .less (record { unfilled = c .unfilled; below = rw count-is (c .below) }));
+          within = λ c. rw count-is at (a .within (record { unfilled = c .unfilled; below = rw count-is (c .below) }));
+        }

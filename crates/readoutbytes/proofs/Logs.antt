@@ -1,0 +1,43 @@
+-- A log of exported calls is a history, and a history by value: what is proved of those holds of the calls that firmware makes. Assumes
+-- nothing.
+--     True             what is said of calls is true
+--     seen-faithful    then what the firmware reads of a call is what its event does: this is all that a theorem over histories asks for
+--     log-happened     each happening of a log is what the firmware read of a call
+--     log-reached      the socket that a log reaches is the one in its last memory
+--     log-holds        bytes that hold a record hold one at the end of every log
+use mathlib.Core.Path.{_≡_, refl, sym, ap, _∙_, subst}
+use mathlib.Core.List.{List}
+use Rattle.readout.specs.History.{Socket, Event, Shows, Happening, reached, Throughout, ByValue}
+use Rattle.readout.proofs.Histories.{throughout-map}
+use Rattle.readout.proofs.Demand.{Faithful}
+use Rattle.readout.proofs.Keeping.{WholeIn, run-whole}
+use Rattle.readoutbytes.specs.Calls.{Memory, socketIn, HoldsRecord, Call, Outcome, eventOf, seen}
+use Rattle.readoutbytes.specs.Logs.{ByBytes, Log, none, then, Seen, saw}
+use Rattle.readoutbytes.proofs.Held.{held-whole, whole-held}
+use Rattle.readoutbytes.proofs.Same.{same, seen-socket}
+
+abbrev pub True : (Call → Memory → Outcome → Type 0) → Type 0
+True Made = (c : Call) (m : Memory) (o : Outcome) → Made c m o → ByBytes c m o
+
+module _ (Made : Call → Memory → Outcome → Type 0) where
+  pub log-happened : {xs : List Happening} {m last : Memory} → Log Made xs m last → Throughout (Seen Made) xs (socketIn m)
+  log-happened none = tt
+  log-happened (then {c} {m} {last} {o} {xs} made rest) = (saw made, subst (Throughout (Seen Made) xs) (sym (seen-socket c o)) (log-happened rest))
+
+  pub log-reached : {xs : List Happening} {m last : Memory} → Log Made xs m last → reached xs (socketIn m) ≡ socketIn last
+  log-reached none = refl
+  log-reached (then {c} {m} {last} {o} {xs} made rest) = ap (reached xs) (seen-socket c o) ∙ log-reached rest
+
+  module _ (true-of : True Made) where
+    seen-does : {e : Event} {s : Socket} {o : Shows} → Seen Made e s o → ByValue e s o
+    seen-does (saw {c} {m} {o} made) = ap (seen c) (true-of c m o made) ∙ same c m
+
+    pub seen-faithful : Faithful (Seen Made)
+    seen-faithful e s o x = seen-does x
+
+    pub log-whole : {xs : List Happening} {m last : Memory} → Log Made xs m last → WholeIn (socketIn m) → WholeIn (socketIn last)
+    log-whole {xs} {m} {last} l w =
+        subst WholeIn (log-reached l) (run-whole xs (socketIn m) w (throughout-map (Seen Made) ByValue seen-faithful xs (socketIn m) (log-happened l)))
+
+    pub log-holds : {xs : List Happening} {m last : Memory} → Log Made xs m last → HoldsRecord m → HoldsRecord last
+    log-holds {xs} {m} {last} l h = whole-held last (log-whole l (held-whole m h))
