@@ -3,8 +3,12 @@
 -- proofs.Refused    a call that cannot be made changes nothing
 -- proofs.Logs       a log of exported calls is a history
 -- proofs.Demand     demand 3 and request 7 for them
+-- proofs.Created    what `souk_create` leaves
+-- proofs.Called     demand 3 and request 7, from the contracts of the calls
 pub mod Held
 pub mod Same
 pub mod Refused
 pub mod Logs
 pub mod Demand
+pub mod Created
+pub mod Called

@@ -1,7 +1,9 @@
 -- What a reader of the theorems over exported calls must believe, beside those over calls by value.
---     Calls     the exported calls, what firmware keeps between them, and what it reads of each
---     Logs      calls that were made one after the other, as a history
---     Demand    demand 3 and request 7, in what the calls return and in the record's bytes
+--     Calls      the exported calls, what firmware keeps between them, and what it reads of each
+--     Created    where a history starts
+--     Logs       calls that were made one after the other, as a history
+--     Demand     demand 3 and request 7, in what the calls return and in the record's bytes
 pub mod Calls
+pub mod Created
 pub mod Logs
 pub mod Demand
