@@ -1,7 +1,7 @@
 -- Of the twelve premises of demand 3 ten are enough: `whole`, and `no-reset` up to the status, follow from the others.
 --     whole-follows       a broken record takes no packet, so that no wrapper comes
 --     no-reset-follows    a reset of a whole record enters 0, where no status is taken, so that it leaves the command
---     enough              the demand, without these two
+--     supposed, enough    all that is supposed, and the demand, without these two
 -- Assumes nothing.
 use mathlib.Core.Path.{_≡_, refl, sym, ap, _∙_}
 use mathlib.Core.Bool.{true, false}
@@ -101,7 +101,7 @@ pub record Enough (t : Story) : Type 0 where
   pub later : Throughout Later (t .after) (afterStatus t)
   pub few : length (firmware t) ≤ L t
 
-supposed : (t : Story) → Happened ByValue t → Enough t → Supposed t
+pub supposed : (t : Story) → Happened ByValue t → Enough t → Supposed t
 supposed t h n =
     let w : WholeIn (t .start) = whole-follows t h (n .valid) in
     let parsed : WholeIn (afterWrapper t) = rw reached-append at (run-whole (toWrapper t) (t .start) w (to-wrapper t h)) in

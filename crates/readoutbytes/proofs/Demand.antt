@@ -1,6 +1,6 @@
 -- Demand 3 and request 7 for the calls that firmware makes. Both are the theorems over calls by value, of the history that the log is.
 -- Assumes nothing.
---     demand     demand 3
+--     demand     demand 3; enough: with ten of its twelve premises
 --     account    request 7
 use mathlib.Core.Path.{_≡_, sym, ap, ap₂, _∙_, subst}
 use mathlib.Core.Bool.{true}
@@ -10,10 +10,11 @@ use lib.ListN.{length}
 use Rattle.device.specs.declared.Device.{Device}
 use Rattle.bbb.specs.Poll.{Given}
 use Rattle.recordbytes.specs.Record.{deviceAt, fixedAt, marksAt}
-use Rattle.readout.specs.History.{Socket, poll, status, Shows, Happening, did, reached, Throughout, isServed}
+use Rattle.readout.specs.History.{Socket, poll, status, Shows, Happening, did, reached, Throughout, ByValue, isServed}
 use Rattle.readout.specs.Demand.{Story, toStatus, history, Happened, beforeStatus, ended, R, servedSince, pollsDue, ceiling, Later, Supposed, Ends, Willing, Demand}
 use Rattle.readout.specs.Account.{Readout, allSince, reachedBy, countSince, unreadAt, SupposedReadout, Account}
-use Rattle.readout.proofs.Histories.{reached-append}
+use Rattle.readout.proofs.Histories.{reached-append, throughout-map}
+use Rattle.readout.proofs.Enough.{Enough, supposed}
 use Rattle.readout.proofs.Keeping.{WholeIn}
 use Rattle.readout.proofs.Demand as value
 use Rattle.readout.proofs.Account as value-account
@@ -43,49 +44,46 @@ reads s m e h =
 module _ (Made : Call → Memory → Outcome → Type 0) (true-of : True Made) where
   -- ---- demand 3
 
-  module _ (t : Story) (first before last : Memory) (l : Logged Made t first before last) (u : Supposed t) where
-    happened : Happened (Seen Made) t
-    happened = subst (Throughout (Seen Made) (history t)) (sym (l .starts)) (log-happened Made (log-joined Made (l .to-status) (l .since)))
+  happened : (t : Story) (first before last : Memory) → Logged Made t first before last → Happened (Seen Made) t
+  happened t first before last l = subst (Throughout (Seen Made) (history t)) (sym (l .starts)) (log-happened Made (log-joined Made (l .to-status) (l .since)))
 
-    by-value : Demand (Seen Made) t
-    by-value = value.demand (Seen Made) (seen-faithful Made true-of) t happened u
-
-    -- The record is not broken at the start, so it is not broken later.
-    first-holds : HoldsRecord first
-    first-holds = whole-held first (subst WholeIn (l .starts) (u .between .whole))
-
-    before-holds : HoldsRecord before
-    before-holds = log-holds Made true-of (l .to-status) first-holds
-
+  -- What the record's bytes say of a story, where they hold a record at its start: then they hold one later.
+  module _ (t : Story) (first before last : Memory) (l : Logged Made t first before last) (holds : HoldsRecord first) where
     -- The sockets right before the status and at the end.
     before-is : beforeStatus t ≡ socketIn before
     before-is = sym (reached-append (t .arrival) (did (poll (t .completing)) (t .completed) ∷ t .before) (t .start)) ∙ ap (reached (toStatus t)) (l .starts) ∙ log-reached Made (l .to-status)
 
-    ended-is : ended t ≡ socketIn last
+    pub ended-is : ended t ≡ socketIn last
     ended-is = log-reached Made (l .since)
 
-    left-is : R t ≡ leftIn before
-    left-is = reads (beforeStatus t) before before-is before-holds .left
+    pub left-is : R t ≡ leftIn before
+    left-is = reads (beforeStatus t) before before-is (log-holds Made true-of (l .to-status) holds) .left
 
-    due-is : pollsDue t ≡ pollsDueOn first before
-    due-is = ap₂ (λ (r p : ℕ). ceiling r p + ceiling 13 p) left-is (reads (t .start) first (l .starts) first-holds .packetsize)
+    pub due-is : pollsDue t ≡ pollsDueOn first before
+    due-is = ap₂ (λ (r p : ℕ). ceiling r p + ceiling 13 p) left-is (reads (t .start) first (l .starts) holds .packetsize)
 
-    -- A poll that is made with the last memory is made at the end.
-    made-last : (g : Given) (o : Outcome) → Made (souk-poll g) last o → Seen Made (poll g) (ended t) (polled g o)
-    made-last g o made = subst (λ (s : Socket). Seen Made (poll g) s (polled g o)) (sym ended-is) (saw made)
+    -- What is promised by value is promised of the calls.
+    from-value : Demand (Seen Made) t → DemandOn Made t first before last
+    from-value d =
+        let made-last : (g : Given) (o : Outcome) → Made (souk-poll g) last o → Seen Made (poll g) (ended t) (polled g o) = λ g o made. subst (λ (s : Socket). Seen Made (poll g) s (polled g o)) (sym ended-is) (saw made) in
+        record {
+          left = sym left-is ∙ d .left;
+          not-before = λ less. d .not-before (rw due-is less);
+          exactly = λ full g o made later does.
+              let e : Ends t (polled g o) = d .exactly (full ∙ sym due-is) g (polled g o) (made-last g o made) (subst (λ (s : Socket). Later (poll g) s (polled g o)) (sym ended-is) later) does in
+              (e, whole-held (o .memory) (subst WholeIn (seen-socket (souk-poll g) o) (e .again .whole)));
+          reachable = λ less g o made w. d .reachable (rw due-is less) g (polled g o) (made-last g o made) (subst (Willing g) (sym ended-is) w);
+        }
 
-    ends : servedSince t + 1 ≡ pollsDueOn first before → (g : Given) (o : Outcome) → Made (souk-poll g) last o → Later (poll g) (socketIn last) (polled g o) → isServed (polled g o .answer) ≡ true → Ends t (polled g o) × HoldsRecord (o .memory)
-    ends full g o made later does =
-        let e : Ends t (polled g o) = by-value .exactly (full ∙ sym due-is) g (polled g o) (made-last g o made) (subst (λ (s : Socket). Later (poll g) s (polled g o)) (sym ended-is) later) does in
-        (e, whole-held (o .memory) (subst WholeIn (seen-socket (souk-poll g) o) (e .again .whole)))
+  pub demand : (t : Story) (first before last : Memory) → Logged Made t first before last → Supposed t → DemandOn Made t first before last
+  demand t first before last l u =
+      from-value t first before last l (whole-held first (subst WholeIn (l .starts) (u .between .whole)))
+      (value.demand (Seen Made) (seen-faithful Made true-of) t (happened t first before last l) u)
 
-    pub demand : DemandOn Made t first before last
-    demand = record {
-      left = sym left-is ∙ by-value .left;
-      not-before = λ less. by-value .not-before (rw due-is less);
-      exactly = ends;
-      reachable = λ less g o made w. by-value .reachable (rw due-is less) g (polled g o) (made-last g o made) (subst (Willing g) (sym ended-is) w);
-    }
+  -- The record need not be supposed to be whole, nor that no reset comes before the status: a history from bytes that hold no record meets
+  -- none of the other premises.
+  pub enough : (t : Story) (first before last : Memory) → Logged Made t first before last → Enough t → DemandOn Made t first before last
+  enough t first before last l n = demand t first before last l (supposed t (throughout-map (Seen Made) ByValue (seen-faithful Made true-of) (history t) (t .start) (happened t first before last l)) n)
 
   -- ---- request 7
 

@@ -5,6 +5,9 @@
 -- proofs.Demand     demand 3 and request 7 for them
 -- proofs.Created    what `souk_create` leaves
 -- proofs.Called     demand 3 and request 7, from the contracts of the calls
+-- proofs.Realised   what is promised is not empty, and all that is supposed is needed
+-- proofs.Computing  what cases compute with
+-- proofs.Cases      the cases of specs/Cases.antt hold
 pub mod Held
 pub mod Same
 pub mod Refused
@@ -12,3 +15,6 @@ pub mod Logs
 pub mod Demand
 pub mod Created
 pub mod Called
+pub mod Realised
+pub mod Computing
+pub mod Cases
