@@ -2,7 +2,6 @@
 -- carried and the bytes missing determine the answer (`named-answer`). Assumes nothing.
 use mathlib.Core.Path.{_≡_, refl, sym, _∙_}
 use mathlib.Core.Bool.{cond}
-use Prim.Native.Nat.{ℕ}
 use lib.Dec.{eqb}
 use Rattle.fields.proofs.Only.{Only, once}
 use Rattle.answers.specs.declared.Answer.{Answer}

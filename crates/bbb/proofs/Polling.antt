@@ -1,5 +1,5 @@
 -- Laws of a poll: what has to be shown for each way through its functions (`ways`). Assumes nothing.
-use mathlib.Core.Path.{_≡_, refl, sym, _∙_}
+use mathlib.Core.Path.{_≡_, sym, _∙_}
 use mathlib.Core.Bool.{Bool, true, false, cond, _&&_}
 use mathlib.Core.List.{List}
 use Prim.Native.Nat.{ℕ, _-_, _≤_, _<_}
@@ -14,7 +14,6 @@ use Rattle.buffer.specs.Buffer.{buffer}
 use Rattle.buffer.specs.Inner.Buffer.{Sound}
 use Rattle.answers.specs.declared.Answer.the-variants.{BrokenRecord, PacketRefused}
 use Rattle.answers.specs.declared.Stalls.{Stalls}
-use Rattle.answers.specs.declared.Stalls.the-variants.{Kept}
 use Rattle.answers.specs.Answers.{endpointOf, stallsOf}
 use Rattle.ring.specs.declared.Act.{Act}
 use Rattle.ring.specs.declared.Row.{Row}

@@ -5,7 +5,7 @@ use lib.ListN.{replicate, take, drop}
 use Rattle.fields.specs.Case.{Case, case}
 use Rattle.buffer.specs.Buffer as buffer
 use Rattle.answers.specs.declared.Stalls.the-variants.{Stalled, Unstalled}
-use Rattle.answers.specs.Answers.{answerOf, answer, lacking, failing}
+use Rattle.answers.specs.Answers.{answer, lacking, failing}
 use Rattle.ring.specs.declared.State.{State}
 use Rattle.ring.specs.declared.State.the-variants.{CommandTransferInvalid, DataTransferNoData, StatusTransfer, DataTransferToHost, DataTransferToHostStatusAwait, DataTransferToHostEnding, DataTransferFromHost}
 use Rattle.ring.specs.States.{stateNumber}

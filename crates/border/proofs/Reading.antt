@@ -12,7 +12,7 @@ use Rattle.answers.specs.declared.Stalls.{Stalls}
 use Rattle.answers.specs.declared.Stalls.the-variants.{Kept, Stalled, Unstalled, UnstalledStalled}
 use Rattle.answers.specs.Answers.{Answering}
 use Rattle.answers.proofs.Legible.{Legible}
-use Rattle.border.specs.Word.{word, stallsNumber, upperHalf, stallsOfNumber, Reading, readingOf}
+use Rattle.border.specs.Word.{word, stallsNumber, upperHalf, readingOf}
 use Rattle.border.proofs.Parts.{answer-read, carried-read, stalls-read, flag-read, stalls-told}
 use Rattle.border.proofs.Upper.{upper-other, missing-read, counted-read}
 

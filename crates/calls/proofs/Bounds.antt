@@ -7,7 +7,7 @@
 --     by-step              what holds of every answer of the command step, and of an offer on a whole record, holds of the step
 -- Assumes nothing.
 use mathlib.Core.Path.{_≡_, refl}
-use mathlib.Core.Bool.{Bool, false, cond}
+use mathlib.Core.Bool.{Bool, cond}
 use mathlib.Core.List.{List, [], _∷_}
 use Prim.Native.Nat.{ℕ, _≤_, zero-le}
 use native.Mathlib.Omega.{arith}
@@ -17,7 +17,7 @@ use Rattle.fields.proofs.Bools.{of-picked}
 use Rattle.buffer.specs.Buffer.{lacksRoom, missing}
 use Rattle.answers.specs.declared.Stalls.the-variants.{Kept}
 use Rattle.answers.specs.Answers.{Answering, answer}
-use Rattle.answers.proofs.Legible.{Legible, Plain, plain, plain-legible, legible-plain, legible-lacking}
+use Rattle.answers.proofs.Legible.{Legible, Plain, plain, legible-plain, legible-lacking}
 use Rattle.scsi.specs.declared.ScsiCommand.{ScsiCommand}
 use Rattle.scsi.specs.Decoding.{Decoding, decodeCall}
 use Rattle.wrapper.specs.Counters.{residueOf}
@@ -32,7 +32,7 @@ use Rattle.calls.specs.Checks.{bufferOf}
 use Rattle.calls.specs.Status.{Stating, withFigure, setStatusCall}
 use Rattle.calls.specs.Data.{Moving, readFrom, readDataCall, writeIn, writeDataCall, writeAllIn, writeDataAllCall}
 use Rattle.calls.specs.Bus.{Handling, handling, handlingOfReset, resetCall, controlCall}
-use Rattle.calls.specs.Command.{Showing, showing, hiding, isShown, commandCall, Offered, offered, Stepping, stepping, isOffered, steppingOfDecoding, blockOf, commandStepToldCall}
+use Rattle.calls.specs.Command.{Showing, showing, hiding, isShown, commandCall, offered, Stepping, stepping, isOffered, steppingOfDecoding, blockOf, commandStepToldCall}
 use Rattle.calls.proofs.After.{by-status, by-refusals, by-data, risen-small, by-control}
 
 -- The answers that the calls give beside 1.

@@ -2,13 +2,13 @@
 use mathlib.Core.Path.{_≡_, refl, sym, ap, _∙_}
 use mathlib.Core.Bool.{true}
 use mathlib.Core.List.{List}
-use Prim.Native.Nat.{ℕ, _+_, _-_, _≤_, max, zero-le}
+use Prim.Native.Nat.{ℕ, _+_, _-_, _≤_, zero-le}
 use native.Mathlib.Nat.{max-eq-right}
 use native.Mathlib.Omega.{arith}
 use lib.ListN.{length}
 use borrow.Author.Tests.{ltb-true, le-ltb}
 use Rattle.fields.proofs.Bools.{of-picked}
-use Rattle.buffer.specs.Buffer.{Buffer, roomInAll, lacksRoom, missing, writtenAll}
+use Rattle.buffer.specs.Buffer.{Buffer, roomInAll, lacksRoom, missing}
 use Rattle.buffer.specs.Inner.Buffer.{Sound}
 use Rattle.buffer.proofs.Room.{lacks-by-unread, missing-by-unread, lacks-missing, room-refused, lacks-then, missing-then}
 use Rattle.answers.specs.Answers.{answer, Lacks, again}

@@ -23,7 +23,6 @@ use wrapper::status::StatusByte;
 use wrapper::status::status_of;
 ghost use mathlib.Core.Path.{_≡_};
 ghost use mathlib.Core.Bool.{not};
-ghost use Prim.Native.Nat.{min};
 ghost use Rattle.device.specs.Device.{numbersOf, withStatus};
 ghost use Rattle.device.specs.Broken.{isWhole};
 ghost use Rattle.calls.specs.Checks.{isIn};

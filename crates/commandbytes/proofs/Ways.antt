@@ -28,7 +28,7 @@ use Rattle.calls.specs.Command.{Showing, hiding, showing, isShown, commandCall,
 use Rattle.recordbytes.specs.Layout as field
 use Rattle.recordbytes.specs.Record.{isKnown, wrapperAt, deviceAt}
 use Rattle.recordbytes.proofs.Stored.{is-known}
-use Rattle.border.specs.Word.{word, answerWord}
+use Rattle.border.specs.Word.{word}
 use Rattle.border.specs.Record.{onDevice}
 use Rattle.border.proofs.Lending.{long-then}
 use Rattle.commandbytes.specs.Command.{CommandOutcome, commandOutcome, commandOutcomeOf, commandOn, commandOutcomeOfStep, commandStepBy, commandStepOn, commandStepToldOn}

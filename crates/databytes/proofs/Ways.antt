@@ -21,7 +21,6 @@ use Rattle.recordbytes.specs.Record.{isKnown, deviceAt, storeMarks, storePutIn,
 use Rattle.recordbytes.proofs.Stored.{Known, is-known, put-in-kept}
 use Rattle.recordbytes.proofs.Parts.{device-kept, marks-alone, counted-marks}
 use Rattle.border.specs.Word.{word, upperHalf, answerWord}
-use Rattle.border.specs.Record.{onDevice}
 use Rattle.border.proofs.Lending.{known-then, long-then, unknown, made}
 use Rattle.databytes.specs.Data.{dataOutcome, dataOutcomeOf, readDataOn, writeDataOn, writeDataAllOn}
 use Rattle.databytes.specs.Inner.Data.{StorableMove, is10}

@@ -2,8 +2,6 @@
 -- of each lent slice at exit. `Post` is the contract itself, as the check reads it. `Rattle.border.proofs.Parts` proves that a result
 -- tells each of its parts. Assumes nothing.
 use mathlib.Core.Path.{refl, sym, _∙_}
-use mathlib.Core.List.{List}
-use Prim.Native.Nat.{ℕ}
 use denote.Ref.{now}
 use Rattle.fields.proofs.Only.{Only}
 use Rattle.scsi.proofs.Unique as scsi

@@ -1,6 +1,5 @@
 -- Cases of the exported calls: one table of polls, and one of the other calls. proofs/Cases.antt has the statement that each case holds.
 -- Assumes nothing: these are definitions.
-use mathlib.Core.Bool.{true, false}
 use mathlib.Core.List.{List, [], _∷_, _++_}
 use Prim.Native.Nat.{ℕ}
 use lib.ListN.{replicate}

@@ -9,14 +9,14 @@ use mathlib.Core.List.{List}
 use Prim.Native.Nat.{ℕ, _-_, _^_, _≤_, _<_}
 use native.Mathlib.Nat.{min-le-left}
 use native.Mathlib.Omega.{arith}
-use lib.Dec.{eqb, leb}
+use lib.Dec.{eqb}
 use lib.ListN.{length}
 use borrow.Author.Tests.{eq-eqb}
 use Rattle.fields.specs.Field.{get}
 use Rattle.fields.specs.Overlay.{overlay}
 use Rattle.fields.proofs.Bools.{not-false}
 use Rattle.buffer.specs.declared.Marks.{Marks}
-use Rattle.buffer.specs.Buffer.{Buffer, buffer, at, unread, emptied, ready, readyBytes, readOff}
+use Rattle.buffer.specs.Buffer.{Buffer, buffer, at, unread, ready, readyBytes, readOff}
 use Rattle.buffer.specs.Inner.Buffer.{Sound, Leaves}
 use Rattle.answers.specs.declared.Endpoint.the-variants.{Served}
 use Rattle.answers.specs.declared.Stalls.the-variants.{Kept}
@@ -26,7 +26,6 @@ use Rattle.ring.specs.declared.State.the-variants as ring
 use Rattle.ring.specs.declared.State.the-variants.{DataTransferToHost, DataTransferToHostStatusAwait, DataTransferToHostEnding, DataTransferFromHost, DataTransferFromHostEnding, StatusTransfer}
 use Rattle.ring.specs.States.{stateNumber, stateOfNumber}
 use Rattle.ring.proofs.Numbers.{state-number}
-use Rattle.wrapper.specs.declared.counters.Residue.{Residue}
 use Rattle.wrapper.specs.declared.status.CommandStatus.{CommandStatus}
 use Rattle.wrapper.specs.Status.{statusNumber, statusOfNumber}
 use Rattle.packets.specs.Packets.{accepted, sentCount, sentOff, sentInto, statusWritten}
@@ -38,7 +37,7 @@ use Rattle.device.specs.Broken.{statusFits, Whole}
 use Rattle.bbb.specs.Poll.{Given, Polling, Fits, isFitting, point, sendBy, send, statusPut, enterStatus, statusAwaitRule, toHostEndingRule, toHostRule, fromHostRule, fromHostEndingRule, ruleIn, pollRule, pollCall}
 use Rattle.bbb.proofs.Keeping.{call-done}
 use Rattle.recordbytes.specs.Layout as field
-use Rattle.recordbytes.specs.Record.{statusAt, marksAt, fixedAt, deviceAt, storeState, storeMarks}
+use Rattle.recordbytes.specs.Record.{statusAt, deviceAt, storeState, storeMarks}
 use Rattle.border.specs.Word.{word}
 use Rattle.onward.specs.Inner.Onward.{Steady, Ending, MayEnd, statusIn, EndsOn}
 use Rattle.onward.proofs.Going.{flag-says, is-ready}

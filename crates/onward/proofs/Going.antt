@@ -7,7 +7,7 @@
 use mathlib.Core.Path.{_≡_, refl, sym, ap, _∙_}
 use mathlib.Core.Bool.{Bool, true, false, not, cond, _&&_, _||_}
 use mathlib.Core.List.{List, [], _∷_}
-use Prim.Native.Nat.{ℕ, _+_, _-_, _^_, _≤_, _<_, min}
+use Prim.Native.Nat.{ℕ, _+_, _-_, _≤_, min}
 use native.Mathlib.Nat.{min-le-right, min-eq-right, max-eq-left}
 use native.Mathlib.Omega.{arith}
 use lib.Dec.{eqb, ltb, leb}
@@ -45,7 +45,7 @@ use Rattle.recordbytes.specs.Record.{statusBy, statusAt, marksAt, wrapperAt, fi
 use Rattle.recordbytes.proofs.Storing.{isApart}
 use Rattle.recordbytes.proofs.Stored.{write, get-elsewhere, known-is}
 use Rattle.border.specs.Word.{word}
-use Rattle.onward.specs.Inner.Onward.{Steady, Ready, sendsIn, Sending, CanSend, MaySend, Taking, CanTake, MayTake, bufferOfNumbers, SendsOn, TakesOn, Stays, SendsOrStays, TakesOrStays}
+use Rattle.onward.specs.Inner.Onward.{Steady, Ready, sendsIn, Sending, CanSend, MaySend, Taking, CanTake, MayTake, bufferOfNumbers, SendsOrStays, TakesOrStays}
 
 -- ---- the tests
 

@@ -19,7 +19,6 @@ use ring::State;
 use wrapper::counters::left_after;
 ghost use mathlib.Core.Path.{_≡_};
 ghost use mathlib.Core.Bool.{true, cond, _&&_};
-ghost use Prim.Native.Nat.{_≤_};
 ghost use lib.Dec.{leb, eqb};
 ghost use lib.ListN.{length};
 ghost use Rattle.ring.specs.declared.State.the-variants.{DataTransferToHostEnding};

@@ -12,7 +12,7 @@ use wrapper::counters::Residue;
 use wrapper::in_status;
 use wrapper::status::CommandStatus;
 ghost use mathlib.Core.Path.{_≡_};
-ghost use Prim.Native.Nat.{_≤_, min};
+ghost use Prim.Native.Nat.{_≤_};
 ghost use lib.ListN.{length};
 ghost use Rattle.buffer.specs.Buffer.{buffer, at};
 ghost use Rattle.buffer.specs.Inner.Buffer.{Sound, Leaves};

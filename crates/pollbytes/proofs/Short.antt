@@ -1,9 +1,9 @@
 -- A poll that goes the short way is 01's poll, by what the tests before it tell and by what the functions after them leave. Assumes
 -- nothing.
-use mathlib.Core.Path.{_≡_, refl, sym, ap, _∙_, subst}
+use mathlib.Core.Path.{_≡_, refl, sym, _∙_, subst}
 use mathlib.Core.Bool.{Bool, true, false, cond}
 use mathlib.Core.List.{List}
-use Prim.Native.Nat.{ℕ, _≤_, _<_}
+use Prim.Native.Nat.{ℕ, _≤_}
 use native.Mathlib.Nat.{min-eq-right}
 use native.Mathlib.Omega.{arith}
 use lib.Dec.{eqb}
@@ -13,15 +13,14 @@ use borrow.Author.Tests.{ne-eqb}
 use Rattle.fields.specs.Field.{get}
 use Rattle.fields.proofs.Bools.{clash}
 use Rattle.buffer.specs.declared.Marks.{Marks}
-use Rattle.buffer.specs.Buffer.{Buffer, buffer, at, emptied, ready, readyBytes, readOff}
+use Rattle.buffer.specs.Buffer.{buffer, at, emptied, ready}
 use Rattle.ring.specs.declared.State.the-variants.{DataTransferToHostEnding}
 use Rattle.wrapper.specs.declared.counters.Left.{Left}
 use Rattle.packets.specs.Packets.{statusWritten}
-use Rattle.device.specs.declared.Device.{Device}
 use Rattle.device.specs.declared.Numbers.{Numbers}
 use Rattle.device.specs.Create.{isPacketSize}
 use Rattle.device.specs.Device.{isPresent, numbersOf, inState, withMarks, withLeft}
-use Rattle.device.proofs.Wholly.{packet-known, packet-bounds}
+use Rattle.device.proofs.Wholly.{packet-bounds}
 use Rattle.bbb.specs.declared.Turn.{Turn}
 use Rattle.bbb.specs.Poll.{Given, given, Fits, statusPut}
 use Rattle.bbb.proofs.Polling as bbb

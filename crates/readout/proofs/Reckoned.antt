@@ -55,7 +55,7 @@ unfolding reckoning without-waits
 needed-waits = (refl, (refl, tt), λ a. eqb-false 31 0 refl (a .counted))
 
 -- A poll with a packet buffer of `n` bytes of 7, in which OUT offers one packet, `packet`, and IN is busy.
-abbrev takingBusy : ℕ → List ℕ → Given
+abbrev pub takingBusy : ℕ → List ℕ → Given
 takingBusy n packet = given (replicate n 7) packet [] (record { first = 0; second = 1; write = 1 })
 
 -- A byte came behind the wrapper, in the same packet, and it is unread: nobody put it in.
@@ -91,7 +91,7 @@ unfilled-needed = (met-halfFilled, lit< tt, eqb-false 2 1 refl)
 abbrev zeros : List ℕ
 zeros = replicate 64 0
 
-abbrev longest : List ℕ
+abbrev pub longest : List ℕ
 longest = 0x55 ∷ 0x53 ∷ 0x42 ∷ 0x43 ∷ 1 ∷ 0 ∷ 0 ∷ 0 ∷ 0xFF ∷ 0xFF ∷ 0xFF ∷ 0xFF ∷ 0x80 ∷ 0 ∷ 6 ∷ replicate 16 0
 
 -- This many more packets are sent, and after them one is put in that is not.

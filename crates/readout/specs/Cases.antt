@@ -26,7 +26,7 @@ abbrev pub sending : ℕ → Given
 sending n = given (replicate n 7) [] [] (record { first = 1; second = 1; write = 0 })
 
 -- A poll with a packet buffer of `n` bytes of 7 in which every endpoint is busy.
-abbrev busy : ℕ → Given
+abbrev pub busy : ℕ → Given
 busy n = given (replicate n 7) [] [] (record { first = 1; second = 1; write = 1 })
 
 -- ---- the stories

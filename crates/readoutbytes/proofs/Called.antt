@@ -3,10 +3,8 @@
 --     Called              a call that returned
 --     kept, counted       demand 3 and request 7 of such calls
 --     created             what `souk_create` leaves
-use mathlib.Core.Path.{_≡_, ap, sym, _∙_}
-use mathlib.Core.List.{List, []}
-use Prim.Native.Nat.{ℕ}
-use lib.ListN.{length}
+use mathlib.Core.Path.{_≡_, ap}
+use mathlib.Core.List.{[]}
 use denote.Ref.{now}
 use contract.Lifetimes.{Lfts}
 use denote.Triple.Clauses.{AtExit}

@@ -4,7 +4,6 @@
 --     create-refused      the same, where it is refused
 --     created-called      of the call itself
 use mathlib.Core.Path.{_≡_, refl, sym, ap, _∙_, subst}
-use mathlib.Core.Bool.{true, false}
 use mathlib.Core.List.{List}
 use Prim.Native.Nat.{ℕ, zero-le}
 use native.Mathlib.Omega.{arith}
@@ -25,14 +24,14 @@ use Rattle.recordbytes.specs.Layout.{recordSize}
 use Rattle.recordbytes.specs.Record.{newRecord}
 use Rattle.recordbytes.proofs.RoundTrip.{new-known}
 use Rattle.recordbytes.proofs.Held.{created-holds}
-use Rattle.callbytes.specs.Calls.{CallOutcome, callOutcome, createOn}
+use Rattle.callbytes.specs.Calls.{CallOutcome, createOn}
 use Rattle.exported.proofs.souk_create.Kinds as create-kinds
 use Rattle.exported.proofs.souk_create.Reads as create-reads
-use Rattle.readout.specs.History.{Socket, socket}
+use Rattle.readout.specs.History.{socket}
 use Rattle.readout.specs.Demand.{Between}
-use Rattle.readoutbytes.specs.Calls.{memory, socketIn, HoldsRecord}
+use Rattle.readoutbytes.specs.Calls.{memory, socketIn}
 use Rattle.readoutbytes.specs.Created.{StartsNew}
-use Rattle.readoutbytes.proofs.Held.{held-known, whole-held}
+use Rattle.readoutbytes.proofs.Held.{held-known}
 
 -- ---- a new device
 

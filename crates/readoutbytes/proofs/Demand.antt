@@ -3,15 +3,13 @@
 --     demand     demand 3; enough: with ten of its twelve premises
 --     account    request 7
 use mathlib.Core.Path.{_≡_, sym, ap, ap₂, _∙_, subst}
-use mathlib.Core.Bool.{true}
-use mathlib.Core.List.{List, [], _∷_, _++_}
+use mathlib.Core.List.{List, _∷_, _++_}
 use Prim.Native.Nat.{ℕ, _+_, _-_}
-use lib.ListN.{length}
 use Rattle.device.specs.declared.Device.{Device}
 use Rattle.bbb.specs.Poll.{Given}
 use Rattle.recordbytes.specs.Record.{deviceAt, fixedAt, marksAt}
-use Rattle.readout.specs.History.{Socket, poll, status, Shows, Happening, did, reached, Throughout, ByValue, isServed}
-use Rattle.readout.specs.Demand.{Story, toStatus, history, Happened, beforeStatus, ended, R, servedSince, pollsDue, ceiling, Later, Supposed, Ends, Willing, Demand}
+use Rattle.readout.specs.History.{Socket, poll, Happening, did, reached, Throughout, ByValue}
+use Rattle.readout.specs.Demand.{Story, toStatus, history, Happened, beforeStatus, ended, R, pollsDue, ceiling, Later, Supposed, Ends, Willing, Demand}
 use Rattle.readout.specs.Account.{Readout, allSince, reachedBy, countSince, unreadAt, SupposedReadout, Account}
 use Rattle.readout.proofs.Histories.{reached-append, throughout-map}
 use Rattle.readout.proofs.Enough.{Enough, supposed}
@@ -87,38 +85,29 @@ module _ (Made : Call → Memory → Outcome → Type 0) (true-of : True Made) w
 
   -- ---- request 7
 
-  module _ (r : Readout) (first last : Memory) (l : LoggedReadout Made r first last) (u : SupposedReadout r) where
-    happened-readout : Throughout (Seen Made) (allSince r) (r .start)
-    happened-readout = subst (Throughout (Seen Made) (allSince r)) (sym (l .starts)) (log-happened Made (l .calls))
-
-    account-by-value : Account r
-    account-by-value = value-account.account (Seen Made) (seen-faithful Made true-of) r happened-readout u
-
-    reached-is : reachedBy r ≡ socketIn last
-    reached-is = ap (reached (allSince r)) (l .starts) ∙ log-reached Made (l .calls)
-
-    last-holds : HoldsRecord last
-    last-holds =
-        log-holds Made true-of (l .calls)
-        (whole-held first (subst WholeIn (l .starts) (value-account.starts-whole r (seen-faithful Made true-of (poll (r .completing)) (r .start) (r .completed) (happened-readout .0)) u)))
-
+  -- What the record's bytes say of a read-out, where they hold a record at its start.
+  module _ (r : Readout) (first last : Memory) (l : LoggedReadout Made r first last) (holds : HoldsRecord first) where
     device-is : reachedBy r .device ≡ deviceAt (last .bytes)
-    device-is = ap (λ (x : Socket). x .device) (reached-is ∙ held-known last (last-holds .known))
+    device-is = ap (λ (x : Socket). x .device) (ap (reached (allSince r)) (l .starts) ∙ log-reached Made (l .calls) ∙ held-known last (log-holds Made true-of (l .calls) holds .known))
 
-    count-is : countSince r ≡ countIn last
+    pub count-is : countSince r ≡ countIn last
     unfolding deviceAt
     count-is = ap (λ (d : Device). d .putin .0) device-is
 
-    unread-is : unreadAt (reachedBy r) ≡ unreadIn last
+    pub unread-is : unreadAt (reachedBy r) ≡ unreadIn last
     unfolding deviceAt marksAt
     unread-is = ap (λ (d : Device). d .marks .write - d .marks .read) device-is
 
-    pub account : AccountOn r last
-    account =
-        let a : Account r = account-by-value in
-        record {
-          counted = sym count-is ∙ a .counted;
-          flow = rw unread-is at (a .flow);
-          less = λ c. rw (count-is, unread-is) at (a .less (record { unfilled = c .unfilled; below = rw count-is (c .below) }));
-          within = λ c. rw count-is at (a .within (record { unfilled = c .unfilled; below = rw count-is (c .below) }));
-        }
+    account-from-value : Account r → AccountOn r last
+    account-from-value a = record {
+      counted = sym count-is ∙ a .counted;
+      flow = rw unread-is at (a .flow);
+      less = λ c. rw (count-is, unread-is) at (a .less (record { unfilled = c .unfilled; below = rw count-is (c .below) }));
+      within = λ c. rw count-is at (a .within (record { unfilled = c .unfilled; below = rw count-is (c .below) }));
+    }
+
+  pub account : (r : Readout) (first last : Memory) → LoggedReadout Made r first last → SupposedReadout r → AccountOn r last
+  account r first last l u =
+      let happens : Throughout (Seen Made) (allSince r) (r .start) = subst (Throughout (Seen Made) (allSince r)) (sym (l .starts)) (log-happened Made (l .calls)) in
+      let completes : ByValue (poll (r .completing)) (r .start) (r .completed) = seen-faithful Made true-of (poll (r .completing)) (r .start) (r .completed) (happens .0) in
+      account-from-value r first last l (whole-held first (subst WholeIn (l .starts) (value-account.starts-whole r completes u))) (value-account.account (Seen Made) (seen-faithful Made true-of) r happens u)

@@ -3,8 +3,8 @@
 --     no-record                bytes that are no record count as a broken one
 --     event-stores             the device that an event leaves is read back from the bytes in which it is stored
 --     whole-held, held-whole   a memory holds a record just if the socket in it is whole
-use mathlib.Core.Path.{_≡_, refl, sym, ap, _∙_, subst}
-use mathlib.Core.Bool.{true, false, _&&_}
+use mathlib.Core.Path.{_≡_, sym, ap, _∙_, subst}
+use mathlib.Core.Bool.{true, false}
 use mathlib.Core.List.{List}
 use Prim.Native.Nat.{ℕ}
 use lib.Dec.{eqb}

@@ -5,7 +5,8 @@
 -- proofs.Demand     demand 3 and request 7 for them
 -- proofs.Created    what `souk_create` leaves
 -- proofs.Called     demand 3 and request 7, from the contracts of the calls
--- proofs.Realised   what is promised is not empty, and all that is supposed is needed
+-- proofs.Realised   demand 3 is not empty here, and all that it supposes is needed
+-- proofs.Reckoned   the same of request 7
 -- proofs.Computing  what cases compute with
 -- proofs.Cases      the cases of specs/Cases.antt hold
 pub mod Held
@@ -16,5 +17,6 @@ pub mod Demand
 pub mod Created
 pub mod Called
 pub mod Realised
+pub mod Reckoned
 pub mod Computing
 pub mod Cases

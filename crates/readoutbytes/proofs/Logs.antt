@@ -11,7 +11,7 @@ use Rattle.readout.specs.History.{Socket, Event, Shows, Happening, reached, Thr
 use Rattle.readout.proofs.Histories.{throughout-map}
 use Rattle.readout.proofs.Demand.{Faithful}
 use Rattle.readout.proofs.Keeping.{WholeIn, run-whole}
-use Rattle.readoutbytes.specs.Calls.{Memory, socketIn, HoldsRecord, Call, Outcome, eventOf, seen}
+use Rattle.readoutbytes.specs.Calls.{Memory, socketIn, HoldsRecord, Call, Outcome, seen}
 use Rattle.readoutbytes.specs.Logs.{ByBytes, Log, none, then, Seen, saw}
 use Rattle.readoutbytes.proofs.Held.{held-whole, whole-held}
 use Rattle.readoutbytes.proofs.Same.{same, seen-socket}

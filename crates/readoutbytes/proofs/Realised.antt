@@ -3,14 +3,14 @@
 --     event-back             each event is some call's
 --     realised               the calls of events, one after the other, are a log of their history
 --     story-logged           the calls of a script are its story
---     met-.., ends-..        01's three stories, from a record that was created: all is supposed, and the poll that ends each
---     fails-on, needed-on    each premise that demand 3 needs by value is needed here: its story, called
---     reckoned-on            the same of request 7
+--     reaches                the calls of events lead from a created record to a memory that holds what the events lead to
+--     met-..                 01's three stories, from a record that was created
+--     needed-..              each premise of demand 3 that is needed by value is needed here: its story, called
 use mathlib.Core.Path.{_≡_, refl, sym, ap, ap₂, _∙_, subst}
-use mathlib.Core.Bool.{Bool, true, false}
+use mathlib.Core.Bool.{true, false}
 use mathlib.Core.List.{List, [], _∷_, _++_}
 use Prim.Native.Nat.{ℕ, _+_}
-use lib.ListN.{length, take, replicate, length-replicate}
+use lib.ListN.{take, replicate, length-replicate}
 use Rattle.device.specs.Create.{fixed, isPacketSize, creationChecks}
 use Rattle.bbb.specs.Poll.{Given}
 use Rattle.recordbytes.specs.Layout.{recordSize}
@@ -66,7 +66,7 @@ realised (e ∷ h) m =
     subst (λ (x : Happening). Log ByBytes (x ∷ historyOf h (next e (socketIn m))) m (ranOn h after)) (call-happens e m) (then {c = callOf e} {m = m} {o = callOn (callOf e) m} refl rest)
 
 -- A log from a memory that holds the socket at which its events start.
-realised-from : (h : List Event) (s : Socket) (m : Memory) → s ≡ socketIn m → Log ByBytes (historyOf h s) m (ranOn h m)
+pub realised-from : (h : List Event) (s : Socket) (m : Memory) → s ≡ socketIn m → Log ByBytes (historyOf h s) m (ranOn h m)
 realised-from h s m e = subst (λ (x : Socket). Log ByBytes (historyOf h x) m (ranOn h m)) (sym e) (realised h m)
 
 -- ---- stories
@@ -103,6 +103,21 @@ module _ (q size : ℕ) (accepted : creationChecks (fixed q 0 size) ≡ 0) where
 
   new-holds : HoldsRecord (newMemory q size)
   new-holds = whole-held (newMemory q size) (new-starts .between .whole)
+
+-- The memory `m` holds the socket `s`, and a record.
+pub record Reaches (s : Socket) (m : Memory) : Type 0 where
+  pub starts : s ≡ socketIn m
+  pub holds : HoldsRecord m
+
+-- So does the memory to which the calls of the events `h` lead from a new device.
+pub reaches : (q size : ℕ) → creationChecks (fixed q 0 size) ≡ 0 → (h : List Event) → Reaches (reached (historyOf h (newSocket q size)) (newSocket q size)) (ranOn h (newMemory q size))
+reaches q size accepted h =
+    let first : Memory = newMemory q size in
+    let l : Log ByBytes (historyOf h (newSocket q size)) first (ranOn h first) = realised-from h (newSocket q size) first (new-held q size accepted) in
+    record {
+      starts = ap (reached (historyOf h (newSocket q size))) (new-held q size accepted) ∙ log-reached ByBytes l;
+      holds = log-holds ByBytes (λ c m o is. is) l (new-holds q size accepted);
+    }
 
 -- The story of the script `p`, called from the memory `m` on, is one of those that demand 3 speaks of.
 pub record MeetsOn (p : Script) (m : Memory) : Type 0 where
@@ -153,13 +168,11 @@ fails-on p m starts holds fails =
     let l : Logged ByBytes (played p) m (beforeOn p m) (lastOn p m) = story-logged p m starts in
     record { logged = l; fails = λ d. fails (to-value (played p) m (beforeOn p m) (lastOn p m) l holds d) }
 
--- The script starts where the events `h` lead from a new device, with P 32 or 8 and an IO buffer of 64 bytes.
-fails-after : (q : ℕ) → creationChecks (fixed q 0 64) ≡ 0 → (h : List Event) (p : Script) → p .start ≡ reached (historyOf h (newSocket q 64)) (newSocket q 64) → (Demand ByValue (played p) → ⊥) → FailsOn p (ranOn h (newMemory q 64))
-fails-after q accepted h p starts fails =
-    let first : Memory = newMemory q 64 in
-    let l : Log ByBytes (historyOf h (newSocket q 64)) first (ranOn h first) = realised-from h (newSocket q 64) first (new-held q 64 accepted) in
-    let there : reached (historyOf h (newSocket q 64)) (newSocket q 64) ≡ socketIn (ranOn h first) = ap (reached (historyOf h (newSocket q 64))) (new-held q 64 accepted) ∙ log-reached ByBytes l in
-    fails-on p (ranOn h first) (starts ∙ there) (log-holds ByBytes (λ c m o is. is) l (new-holds q 64 accepted)) fails
+-- The script starts where the events `h` lead from a new device.
+fails-after : (q size : ℕ) → creationChecks (fixed q 0 size) ≡ 0 → (h : List Event) (p : Script) → p .start ≡ reached (historyOf h (newSocket q size)) (newSocket q size) → (Demand ByValue (played p) → ⊥) → FailsOn p (ranOn h (newMemory q size))
+fails-after q size accepted h p starts fails =
+    let there : Reaches (reached (historyOf h (newSocket q size)) (newSocket q size)) (ranOn h (newMemory q size)) = reaches q size accepted h in
+    fails-on p (ranOn h (newMemory q size)) (starts ∙ there .starts) (there .holds) fails
 
 accepts-32 : creationChecks (fixed 32 0 64) ≡ 0
 unfolding creationChecks isPacketSize
@@ -172,56 +185,56 @@ accepts-8 = refl
 -- The stories of `readout.proofs.Needed`, called. What each breaks stands there, in `needed-table`.
 pub needed-waits : FailsOn needed.without-waits (ranOn (poll (taking 32 (cbw 9 0 31)) ∷ []) (newMemory 32 64))
 unfolding needed.without-waits
-needed-waits = fails-after 32 accepts-32 (poll (taking 32 (cbw 9 0 31)) ∷ []) needed.without-waits refl needed.needed-waits
+needed-waits = fails-after 32 64 accepts-32 (poll (taking 32 (cbw 9 0 31)) ∷ []) needed.without-waits refl needed.needed-waits
 
 pub needed-nothing : FailsOn needed.without-nothing (ranOn (poll (taking 32 (take 15 (cbw 7 0x80 1))) ∷ []) (newMemory 32 64))
 unfolding needed.without-nothing
-needed-nothing = fails-after 32 accepts-32 (poll (taking 32 (take 15 (cbw 7 0x80 1))) ∷ []) needed.without-nothing refl needed.needed-nothing
+needed-nothing = fails-after 32 64 accepts-32 (poll (taking 32 (take 15 (cbw 7 0x80 1))) ∷ []) needed.without-nothing refl needed.needed-nothing
 
 pub needed-unfinished : FailsOn needed.without-unfinished (newMemory 32 64)
 unfolding needed.without-unfinished
-needed-unfinished = fails-after 32 accepts-32 [] needed.without-unfinished refl needed.needed-unfinished
+needed-unfinished = fails-after 32 64 accepts-32 [] needed.without-unfinished refl needed.needed-unfinished
 
 pub needed-valid : FailsOn needed.without-valid (newMemory 32 64)
 unfolding needed.without-valid
-needed-valid = fails-after 32 accepts-32 [] needed.without-valid refl needed.needed-valid
+needed-valid = fails-after 32 64 accepts-32 [] needed.without-valid refl needed.needed-valid
 
 pub needed-valid-signature : FailsOn needed.without-valid-signature (newMemory 32 64)
 unfolding needed.without-valid-signature
-needed-valid-signature = fails-after 32 accepts-32 [] needed.without-valid-signature refl needed.needed-valid-signature
+needed-valid-signature = fails-after 32 64 accepts-32 [] needed.without-valid-signature refl needed.needed-valid-signature
 
 pub needed-no-reset-before : FailsOn needed.without-no-reset-before (newMemory 32 64)
 unfolding needed.without-no-reset-before
-needed-no-reset-before = fails-after 32 accepts-32 [] needed.without-no-reset-before refl needed.needed-no-reset-before
+needed-no-reset-before = fails-after 32 64 accepts-32 [] needed.without-no-reset-before refl needed.needed-no-reset-before
 
 pub needed-same-command : FailsOn needed.without-same-command (newMemory 32 64)
 unfolding needed.without-same-command
-needed-same-command = fails-after 32 accepts-32 [] needed.without-same-command refl needed.needed-same-command
+needed-same-command = fails-after 32 64 accepts-32 [] needed.without-same-command refl needed.needed-same-command
 
 pub needed-accepted : FailsOn needed.without-accepted (newMemory 32 64)
 unfolding needed.without-accepted
-needed-accepted = fails-after 32 accepts-32 [] needed.without-accepted refl needed.needed-accepted
+needed-accepted = fails-after 32 64 accepts-32 [] needed.without-accepted refl needed.needed-accepted
 
 pub needed-no-reset : FailsOn needed.without-no-reset (newMemory 32 64)
 unfolding needed.without-no-reset
-needed-no-reset = fails-after 32 accepts-32 [] needed.without-no-reset refl needed.needed-no-reset
+needed-no-reset = fails-after 32 64 accepts-32 [] needed.without-no-reset refl needed.needed-no-reset
 
 pub needed-no-status : FailsOn needed.without-no-status (newMemory 32 64)
 unfolding needed.without-no-status
-needed-no-status = fails-after 32 accepts-32 [] needed.without-no-status refl needed.needed-no-status
+needed-no-status = fails-after 32 64 accepts-32 [] needed.without-no-status refl needed.needed-no-status
 
 pub needed-full : FailsOn needed.without-full (newMemory 32 64)
 unfolding needed.without-full
-needed-full = fails-after 32 accepts-32 [] needed.without-full refl needed.needed-full
+needed-full = fails-after 32 64 accepts-32 [] needed.without-full refl needed.needed-full
 
 pub needed-no-reset-within : FailsOn needed.without-no-reset-within (newMemory 8 64)
 unfolding needed.without-no-reset-within
-needed-no-reset-within = fails-after 8 accepts-8 [] needed.without-no-reset-within refl needed.needed-no-reset-within
+needed-no-reset-within = fails-after 8 64 accepts-8 [] needed.without-no-reset-within refl needed.needed-no-reset-within
 
 pub needed-few : FailsOn needed.without-few (newMemory 8 64)
 unfolding needed.without-few
-needed-few = fails-after 8 accepts-8 [] needed.without-few refl needed.needed-few
+needed-few = fails-after 8 64 accepts-8 [] needed.without-few refl needed.needed-few
 
 pub needed-few-twice : FailsOn needed.without-few-twice (newMemory 8 64)
 unfolding needed.without-few-twice
-needed-few-twice = fails-after 8 accepts-8 [] needed.without-few-twice refl needed.needed-few-twice
+needed-few-twice = fails-after 8 64 accepts-8 [] needed.without-few-twice refl needed.needed-few-twice

@@ -2,10 +2,8 @@
 -- byte. Assumes nothing.
 --     broken-refused     in a memory that holds no record, or a broken one
 --     mislent-refused    with a place of a wrong length for the command, or a number for no flag
-use mathlib.Core.Path.{_≡_, refl, sym, _∙_}
-use mathlib.Core.Bool.{Bool, true, false, cond, _&&_}
-use mathlib.Core.List.{List, []}
-use Prim.Native.Nat.{ℕ}
+use mathlib.Core.Path.{_≡_, sym}
+use mathlib.Core.Bool.{true, false}
 use lib.Dec.{eqb, leb}
 use lib.ListN.{length}
 use borrow.Table.Steps.{cases}

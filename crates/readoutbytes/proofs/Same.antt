@@ -3,12 +3,12 @@
 --     same      what the firmware reads
 --     leaves    the socket that is held after the call is the one that the event leaves; seen-socket: it is the one that is seen
 use mathlib.Core.Path.{_≡_, refl, sym, ap, _∙_}
-use mathlib.Core.Bool.{Bool, true, false, cond, _&&_}
+use mathlib.Core.Bool.{Bool, true, false, cond}
 use mathlib.Core.List.{List, [], _∷_}
 use Prim.Native.Nat.{ℕ, _≤_, _<_}
 use native.Mathlib.Omega.{arith}
 use lib.Dec.{eqb, leb, lit<}
-use lib.ListN.{length, getD, take}
+use lib.ListN.{length, getD}
 use borrow.Table.Steps.{cases}
 use Rattle.answers.specs.declared.Stalls.the-variants.{Kept}
 use Rattle.answers.specs.Answers.{Answering, answer}
@@ -39,9 +39,9 @@ use Rattle.ringbytes.specs.Poll.{pollOutcomeOf, pollOn}
 use Rattle.databytes.specs.Data.{dataOutcomeOf, readDataOn, writeDataOn, writeDataAllOn}
 use Rattle.callbytes.specs.Calls.{callOutcomeOfStatus, callOutcomeOfBus, setStatusOn, resetOn, controlOn}
 use Rattle.commandbytes.specs.Command.{commandOutcome, commandOutcomeOf, commandOutcomeOfStep, commandOn, commandStepBy, commandStepOn, commandStepToldOn}
-use Rattle.readout.specs.History.{Socket, socket, Event, poll, status, write, writeAll, read, reset, control, commandStep, mislent, Shows, ofPoll, ofStatus, ofWrite, ofRead, ofBus, ofCommand, ofStep, shows, next}
+use Rattle.readout.specs.History.{socket, Event, poll, status, write, writeAll, read, reset, control, commandStep, mislent, Shows, ofPoll, ofStatus, ofWrite, ofRead, ofBus, ofCommand, ofStep, shows, next}
 use Rattle.readoutbytes.specs.Calls.{Memory, memory, socketIn, Call, souk-poll, souk-set-status, souk-write-data, souk-try-write-data-all, souk-read-data, souk-reset, souk-control, souk-command, souk-command-step, souk-command-step-told, Outcome, ofPolled, ofCalled, ofWritten, ofReadOff, ofLooked, callOn, eventOf, readOfPoll, readOfWrite, readOfRead, readOfStatus, readOfBus, readOfCommand, readOfStep, seen}
-use Rattle.readoutbytes.proofs.Held.{held-known, held-none, no-record, Stores, stores-held, event-stores}
+use Rattle.readoutbytes.proofs.Held.{no-record, Stores, stores-held, event-stores}
 
 -- ---- what is read of an outcome
 

@@ -1,6 +1,6 @@
 -- Document 01's cases of demand 3 as calls of firmware, from a record that was created: what the calls return, what the record's bytes are,
 -- and what the host gets. proofs/Cases.antt has the statement that each case holds. Assumes nothing: these are definitions.
-use mathlib.Core.Bool.{Bool, true, false}
+use mathlib.Core.Bool.{true, false}
 use mathlib.Core.List.{List, [], _∷_, _++_}
 use Prim.Native.Nat.{ℕ}
 use lib.ListN.{replicate}

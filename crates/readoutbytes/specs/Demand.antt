@@ -3,9 +3,8 @@
 -- these are definitions.
 use mathlib.Core.Path.{_≡_}
 use mathlib.Core.Bool.{true}
-use mathlib.Core.List.{List, _∷_}
+use mathlib.Core.List.{_∷_}
 use Prim.Native.Nat.{ℕ, _+_, _-_, _≤_, _<_, min}
-use lib.ListN.{length}
 use Rattle.fields.specs.Field.{get}
 use Rattle.bbb.specs.Poll.{Given}
 use Rattle.recordbytes.specs.Layout as field

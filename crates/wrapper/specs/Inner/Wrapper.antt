@@ -2,7 +2,6 @@
 use lib.ListN.{length}
 use Rattle.wrapper.specs.declared.Wrapper.{Wrapper}
 use Rattle.wrapper.specs.declared.Head.{Head}
-use Rattle.wrapper.specs.Wrapper.{directionBit}
 
 -- This is the head of the wrapper `w`: all its fields but the command block.
 abbrev pub headOf : Wrapper → Head
