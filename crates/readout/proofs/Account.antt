@@ -31,14 +31,13 @@ use Rattle.bbb.specs.Poll.{Given, Polling, Point, point, bufferOfPoint, sendBy,
 use Rattle.bbb.proofs.Keeping.{Follows, follows-received, follows-31, by-call, by-direction}
 use Rattle.bbb.proofs.After.{P, bufferAfter, firstFor, arrived, read-unread, parse-rest, parse-valid, parse-invalid}
 use Rattle.calls.specs.Checks.{bufferOf}
-use Rattle.readout.specs.History.{Socket, Event, poll, Shows, shows, next, historyOf, reached, all, sentIn, putIn, firstOf, Throughout, ByValue, isPoll}
+use Rattle.readout.specs.History.{Socket, Event, poll, Shows, shows, next, historyOf, reached, all, sentIn, putIn, firstOf, Throughout, ByValue, Faithful, isPoll}
 use Rattle.readout.specs.Demand.{waitsIn}
 use Rattle.readout.specs.Account.{Readout, allSince, readoutOf, reachedBy, countSince, putInSince, sentSince, unreadAt, comesTo6, isRefusal, filledBy, filledIn, filledSince, isToHost, Lasts, SupposedReadout, Account}
 use Rattle.readout.proofs.Transfer.{unreadIn}
 use Rattle.readout.proofs.Rules.{bytesOf, packetsOf}
 use Rattle.readout.proofs.Waiting.{waits-by, apart, From, Reads, idle, short, ripe, ripe-first, by-reading}
 use Rattle.readout.proofs.Histories.{throughout-map, events, replayed}
-use Rattle.readout.proofs.Demand.{Faithful}
 use Rattle.readout.proofs.Keeping.{WholeIn, refused, stays-whole}
 use Rattle.readout.proofs.Flow.{await-leaves, enter-leaves, to-goes, Flows, event-flows}
 

@@ -31,10 +31,10 @@ use Rattle.calls.proofs.command.command_step.Kinds as step-kinds
 use Rattle.calls.proofs.command.command_step.Reads as step-reads
 use Rattle.calls.proofs.command.command_step_told.Kinds as told-kinds
 use Rattle.calls.proofs.command.command_step_told.Reads as told-reads
-use Rattle.readout.specs.History.{Socket, socket, Event, poll, status, write, writeAll, read, reset, control, command, commandStep, Shows, ofPoll, ofStatus, ofWrite, ofRead, ofBus, ofCommand, ofStep, shows, Throughout}
+use Rattle.readout.specs.History.{Socket, socket, Event, poll, status, write, writeAll, read, reset, control, command, commandStep, Shows, ofPoll, ofStatus, ofWrite, ofRead, ofBus, ofCommand, ofStep, shows, Throughout, Faithful}
 use Rattle.readout.specs.Demand.{Story, Happened, Supposed, Demand}
 use Rattle.readout.specs.Account.{Readout, allSince, SupposedReadout, Account}
-use Rattle.readout.proofs.Demand.{Faithful, demand}
+use Rattle.readout.proofs.Demand.{demand}
 use Rattle.readout.proofs.Account.{account}
 
 -- A call that returned. `a` are its arguments: the record first, then the lent slices and whatever else it takes. `x` is its result, and

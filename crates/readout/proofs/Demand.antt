@@ -25,7 +25,7 @@ use Rattle.bbb.specs.Poll.{Given}
 use Rattle.calls.specs.Checks.{bufferOf}
 use Rattle.calls.specs.Status.{withFigure, setStatusCall}
 use Rattle.calls.proofs.After.{Accepted, status-accepted}
-use Rattle.readout.specs.History.{Socket, Event, poll, status, Shows, shows, next, did, historyOf, reached, all, sentIn, putIn, takenIn, firstOf, arrivedIn, ByValue, isServed, isPoll, served, isReset, isStatus, accepts}
+use Rattle.readout.specs.History.{Socket, Event, poll, status, Shows, shows, next, did, historyOf, reached, all, sentIn, putIn, takenIn, firstOf, arrivedIn, ByValue, Faithful, isServed, isPoll, served, isReset, isStatus, accepts}
 use Rattle.readout.specs.Demand.{Story, toStatus, history, Happened, afterWrapper, beforeStatus, afterStatus, ended, message, wrapper, L, P, R, host, firmware, servedSince, crossed, Between, Later, Supposed, pollsDue, dataOf, theData, theStatus, NotYet, Ends, Demand, Script, played}
 use Rattle.readout.proofs.Filled.{length-filled}
 use Rattle.readout.proofs.Transfer.{Transfer, unreadIn, due}
@@ -251,10 +251,6 @@ story-is t h =
     let (arrives, (completes, goes)) = throughout-parts ByValue (t .arrival) (did (poll (t .completing)) (t .completed) ∷ t .before) (t .start) first in
     let there : reached (toStatus t) (t .start) ≡ beforeStatus t = reached-append (t .arrival) (did (poll (t .completing)) (t .completed) ∷ t .before) (t .start) in
     story-by t (events (t .arrival)) (events (t .before)) (events (t .after)) (replayed (t .arrival) (t .start) arrives) completes (replayed (t .before) (afterWrapper t) goes) (rw there at states) (replayed (t .after) (afterStatus t) last)
-
--- What `Does` says of an event is true.
-abbrev pub Faithful : (Event → Socket → Shows → Type 0) → Type 0
-Faithful Does = (e : Event) (s : Socket) (o : Shows) → Does e s o → ByValue e s o
 
 -- The mission's third demand.
 pub demand : (Does : Event → Socket → Shows → Type 0) → Faithful Does → (t : Story) → Happened Does t → Supposed t → Demand Does t

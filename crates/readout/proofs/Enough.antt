@@ -22,10 +22,10 @@ use Rattle.calls.specs.Checks.{bufferOf}
 use Rattle.calls.specs.Status.{takesStatus}
 use Rattle.calls.specs.Bus.{handlingOfReset, resetCall, controlCall}
 use Rattle.calls.specs.Bus as bus
-use Rattle.readout.specs.History.{Socket, Event, poll, status, write, writeAll, read, reset, control, command, commandStep, mislent, Shows, shows, Happening, did, reached, all, firstOf, arrivedIn, Throughout, ByValue, isReset, accepts}
+use Rattle.readout.specs.History.{Socket, Event, poll, status, write, writeAll, read, reset, control, command, commandStep, mislent, Shows, shows, Happening, did, reached, all, firstOf, arrivedIn, Throughout, ByValue, Faithful, isReset, accepts}
 use Rattle.readout.specs.Demand.{Story, toStatus, history, Happened, afterWrapper, afterStatus, message, L, firmware, waitsIn, Earlier, Later, Supposed, Demand}
 use Rattle.readout.proofs.Histories.{reached-append, all-append, throughout-parts, throughout-joined, throughout-map}
-use Rattle.readout.proofs.Demand.{Faithful, demand}
+use Rattle.readout.proofs.Demand.{demand}
 use Rattle.readout.proofs.Keeping.{WholeIn, refused, stays-whole, run-whole}
 
 -- ---- a broken record

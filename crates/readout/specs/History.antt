@@ -199,6 +199,12 @@ Throughout Holds (x ∷ xs) s = Holds (x .event) s (x .shown) × Throughout Hold
 abbrev pub ByValue : Event → Socket → Shows → Type 0
 ByValue e s o = o ≡ shows e s
 
+-- `Does` says of an event, of the socket at which it happens and of what it left and showed that the event does this. It is faithful where
+-- this is true by the definitions. A theorem over histories holds of every `Does` that is faithful: of what the calls by value returned, and
+-- of what the firmware read of the exported calls.
+abbrev pub Faithful : (Event → Socket → Shows → Type 0) → Type 0
+Faithful Does = (e : Event) (s : Socket) (o : Shows) → Does e s o → ByValue e s o
+
 -- ---- served polls
 
 -- Whether a poll with the answer `a` was served. "A served poll is one not refused with 10 or 11 in which each endpoint asked does its

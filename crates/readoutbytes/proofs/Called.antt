@@ -33,8 +33,8 @@ use Rattle.exported.proofs.souk_command_step_told.Reads as told-reads
 use Rattle.readout.specs.Demand.{Story, Supposed}
 use Rattle.readout.specs.Account.{Readout, SupposedReadout}
 use Rattle.readoutbytes.specs.Calls.{Memory, memory, Call, souk-poll, souk-set-status, souk-write-data, souk-try-write-data-all, souk-read-data, souk-reset, souk-control, souk-command, souk-command-step, souk-command-step-told, Outcome, outcome, ofPolled, ofCalled, ofWritten, ofReadOff, ofLooked, callOn}
+use Rattle.readoutbytes.specs.Logs.{True}
 use Rattle.readoutbytes.specs.Demand.{Logged, DemandOn, LoggedReadout, AccountOn}
-use Rattle.readoutbytes.proofs.Logs.{True}
 use Rattle.readoutbytes.proofs.Demand.{demand, account}
 
 -- A call that returned. `a` are its arguments: the record first, then the IO buffer and whatever else it takes. `x` is its result, and `z`

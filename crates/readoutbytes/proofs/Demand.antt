@@ -17,11 +17,11 @@ use Rattle.readout.proofs.Keeping.{WholeIn}
 use Rattle.readout.proofs.Demand as value
 use Rattle.readout.proofs.Account as value-account
 use Rattle.readoutbytes.specs.Calls.{Memory, socketIn, HoldsRecord, Call, souk-poll, Outcome}
-use Rattle.readoutbytes.specs.Logs.{Log, none, then, Seen, saw}
+use Rattle.readoutbytes.specs.Logs.{True, Log, none, then, Seen, saw}
 use Rattle.readoutbytes.specs.Demand.{Logged, packetSizeIn, leftIn, pollsDueOn, polled, DemandOn, LoggedReadout, countIn, unreadIn, AccountOn}
 use Rattle.readoutbytes.proofs.Held.{held-known, whole-held}
 use Rattle.readoutbytes.proofs.Same.{seen-socket}
-use Rattle.readoutbytes.proofs.Logs.{True, log-happened, log-reached, seen-faithful, log-holds}
+use Rattle.readoutbytes.proofs.Logs.{log-happened, log-reached, seen-faithful, log-holds}
 
 -- A log that goes on.
 log-joined : (Made : Call → Memory → Outcome → Type 0) {xs ys : List Happening} {a b c : Memory} → Log Made xs a b → Log Made ys b c → Log Made (xs ++ ys) a c

@@ -1,23 +1,18 @@
 -- A log of exported calls is a history, and a history by value: what is proved of those holds of the calls that firmware makes. Assumes
 -- nothing.
---     True             what is said of calls is true
---     seen-faithful    then what the firmware reads of a call is what its event does: this is all that a theorem over histories asks for
+--     seen-faithful    if what is said of calls is true, what the firmware reads of a call is what its event does: this is all that a theorem over histories asks for
 --     log-happened     each happening of a log is what the firmware read of a call
 --     log-reached      the socket that a log reaches is the one in its last memory
 --     log-holds        bytes that hold a record hold one at the end of every log
 use mathlib.Core.Path.{_≡_, refl, sym, ap, _∙_, subst}
 use mathlib.Core.List.{List}
-use Rattle.readout.specs.History.{Socket, Event, Shows, Happening, reached, Throughout, ByValue}
+use Rattle.readout.specs.History.{Socket, Event, Shows, Happening, reached, Throughout, ByValue, Faithful}
 use Rattle.readout.proofs.Histories.{throughout-map}
-use Rattle.readout.proofs.Demand.{Faithful}
 use Rattle.readout.proofs.Keeping.{WholeIn, run-whole}
 use Rattle.readoutbytes.specs.Calls.{Memory, socketIn, HoldsRecord, Call, Outcome, seen}
-use Rattle.readoutbytes.specs.Logs.{ByBytes, Log, none, then, Seen, saw}
+use Rattle.readoutbytes.specs.Logs.{True, Log, none, then, Seen, saw}
 use Rattle.readoutbytes.proofs.Held.{held-whole, whole-held}
 use Rattle.readoutbytes.proofs.Same.{same, seen-socket}
-
-abbrev pub True : (Call → Memory → Outcome → Type 0) → Type 0
-True Made = (c : Call) (m : Memory) (o : Outcome) → Made c m o → ByBytes c m o
 
 module _ (Made : Call → Memory → Outcome → Type 0) where
   pub log-happened : {xs : List Happening} {m last : Memory} → Log Made xs m last → Throughout (Seen Made) xs (socketIn m)

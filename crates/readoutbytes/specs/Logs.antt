@@ -4,10 +4,14 @@ use mathlib.Core.List.{List, [], _∷_}
 use Rattle.readout.specs.History.{Socket, Event, Shows, Happening, did}
 use Rattle.readoutbytes.specs.Calls.{Memory, socketIn, Call, Outcome, callOn, eventOf, seen}
 
--- `Made` says of a call, of the memory that it was lent and of an outcome that the call returned and left this. By the definitions it is
--- so.
+-- `Made` says of a call, of the memory that it was lent and of an outcome that the call returned and left this. Here it is so by the
+-- definitions.
 abbrev pub ByBytes : Call → Memory → Outcome → Type 0
 ByBytes c m o = o ≡ callOn c m
+
+-- What `Made` says of calls is true.
+abbrev pub True : (Call → Memory → Outcome → Type 0) → Type 0
+True Made = (c : Call) (m : Memory) (o : Outcome) → Made c m o → ByBytes c m o
 
 -- "the firmware keeps one device record": the log of a history that starts with one memory and ends with another. Each call was lent the
 -- memory that the call before left. What happened is what the firmware read.
