@@ -15,6 +15,7 @@
 #ifndef LENDING_H
 #define LENDING_H
 
+#include "random.h"
 #include "souklavanh.h"
 
 #include <stdbool.h>
@@ -26,29 +27,6 @@
 #endif
 
 #define BIT(n) (1u << (n))
-
-/* ---- Numbers that are the same in every run. No expression draws two of them if C leaves open which comes first. */
-
-static inline uint64_t random_word(void) {
-    static uint64_t seed = 1;
-    seed += 0x9E3779B97F4A7C15u;
-    uint64_t z = seed;
-    z = (z ^ z >> 30) * 0xBF58476D1CE4E5B9u;
-    z = (z ^ z >> 27) * 0x94D049BB133111EBu;
-    return z ^ z >> 31;
-}
-
-static inline uint32_t random_below(uint32_t limit) {
-    return (uint32_t)(random_word() >> 32) % limit;
-}
-
-static inline bool one_in(uint32_t n) {
-    return random_below(n) == 0;
-}
-
-static inline uint8_t random_byte(void) {
-    return (uint8_t)random_below(256);
-}
 
 /* For a call that is told 0 or 1: mostly another number, a small one, or one that is 0 or 1 in fewer bits. */
 static inline uint32_t wild_extended(void) {

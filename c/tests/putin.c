@@ -3,6 +3,8 @@
    unread bytes are this count less the bytes sent, that is tested too, also behind filler, which then has to be added.
    The count is driven past its end twice: from numbers that are written into the record, and, where a length has 64 bits, by as
    many bytes truly put in. The first difference is reported and ends the program. */
+#include "random.h"
+
 #include <souklavanh.h>
 #include <stdbool.h>
 #include <stdio.h>
@@ -22,6 +24,10 @@ static uint32_t packet_size; /* P */
 static size_t io_length;
 static unsigned events;   /* so far */
 static const char *event; /* the present one */
+
+static uint64_t least(uint64_t a, uint64_t b) {
+    return a < b ? a : b;
+}
 
 /* ---- What happened. If one of these never did, the test has tested less than it says. */
 
@@ -79,29 +85,6 @@ static void same(const char *part, uint64_t found, uint64_t due) {
     printf("P %u, after %u events, %s: %s is %llu, and %llu is due\n", (unsigned)packet_size, events, event, part,
            (unsigned long long)found, (unsigned long long)due);
     exit(1);
-}
-
-/* ---- Numbers that are the same in every run. No expression draws two of them if C leaves open which comes first. */
-
-static uint64_t random_word(void) {
-    static uint64_t seed = 1;
-    seed += 0x9E3779B97F4A7C15u;
-    uint64_t z = seed;
-    z = (z ^ z >> 30) * 0xBF58476D1CE4E5B9u;
-    z = (z ^ z >> 27) * 0x94D049BB133111EBu;
-    return z ^ z >> 31;
-}
-
-static uint32_t random_below(uint32_t limit) {
-    return (uint32_t)(random_word() >> 32) % limit;
-}
-
-static bool one_in(uint32_t n) {
-    return random_below(n) == 0;
-}
-
-static uint64_t least(uint64_t a, uint64_t b) {
-    return a < b ? a : b;
 }
 
 /* ---- The record, as it is now */

@@ -1,32 +1,12 @@
 //! What the firmware has put in since the wrapper. `c/tests/putin.c` has random events, and more than 2^32 bytes truly put in.
 
-use souklavanh::{CommandStatus, Device, Endpoints, Error, In, Out, Poll, State};
+mod host;
 
-const PACKET_SIZES: [usize; 4] = [8, 16, 32, 64];
-const IO: usize = 128;
-const DATA: [u8; 2 * IO] = [0x41; 2 * IO];
+use host::{DATA, IO, PACKET_SIZES, feed, poll, wrapper};
+use souklavanh::{CommandStatus, Device, Endpoints, Error, In, Out, State};
+
 /// Where the count stands in the record.
 const PUT_IN: usize = 52;
-
-fn wrapper(length: u32, to_host: bool) -> [u8; 31] {
-    let mut bytes = [0; 31];
-    bytes[..4].copy_from_slice(b"USBC");
-    bytes[8..12].copy_from_slice(&length.to_le_bytes());
-    bytes[12] = if to_host { 0x80 } else { 0 };
-    bytes[14] = 6;
-    bytes
-}
-
-fn poll(device: &mut Device, endpoints: Endpoints) -> Poll {
-    device.poll(endpoints, &mut [0; 64])
-}
-
-/// In packets; each has to be taken.
-fn feed(device: &mut Device, bytes: &[u8], packet_size: usize) {
-    for packet in bytes.chunks(packet_size) {
-        assert_eq!(poll(device, Endpoints::offering(packet)).taken, 1);
-    }
-}
 
 /// A device that has taken a wrapper to the host.
 fn reading(packet_size: usize, io: &mut [u8], length: u32) -> Device<'_> {

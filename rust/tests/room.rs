@@ -1,32 +1,11 @@
 //! Answer 1 says how many bytes of room are missing: with as many more the same call succeeds, and with one byte less it does
 //! not. `c/tests/room.c` has more of these, and a source that lacks more than 32 bits can say.
 
+mod host;
+
+use host::{DATA, IO, PACKET_SIZES, feed, poll, wrapper};
 use souklavanh::ffi::Word;
-use souklavanh::{CommandStatus, Device, Endpoints, Error, Poll, Stalls, State};
-
-const PACKET_SIZES: [usize; 4] = [8, 16, 32, 64];
-const IO: usize = 128;
-const DATA: [u8; 2 * IO] = [0x41; 2 * IO];
-
-fn wrapper(length: u32, to_host: bool) -> [u8; 31] {
-    let mut bytes = [0; 31];
-    bytes[..4].copy_from_slice(b"USBC");
-    bytes[8..12].copy_from_slice(&length.to_le_bytes());
-    bytes[12] = if to_host { 0x80 } else { 0 };
-    bytes[14] = 6;
-    bytes
-}
-
-fn poll(device: &mut Device, endpoints: Endpoints) -> Poll {
-    device.poll(endpoints, &mut [0; 64])
-}
-
-/// In packets of this many bytes; each has to be taken.
-fn feed(device: &mut Device, bytes: &[u8], piece: usize) {
-    for packet in bytes.chunks(piece) {
-        assert_eq!(poll(device, Endpoints::offering(packet)).taken, 1);
-    }
-}
+use souklavanh::{CommandStatus, Device, Endpoints, Error, Stalls, State};
 
 /// The result of a poll that is offered this packet and does not take it.
 fn refused(device: &mut Device, packet: &[u8]) -> Result<(), Error> {

@@ -59,18 +59,18 @@ module _ (r : List ℕ) (f : Fixed) where
       (λ e. of-picked Left (eqb (length r) recordSize) (λ _ _. (eqb-true _ _ e, refl)) (λ _ ten. absurd (omega (arith, ten))))
       (λ e zero. absurd (eqb-false (creationChecks f) 0 e zero))
 
-  pub created : (io : List ℕ) → length io ≡ f .size → createOn r f .result ≡ 0 → StartsNew f (createOn r f .bytes) io
-  created io long done =
-      let (accepted, bytes) = left-new done in
-      rw bytes (new-starts f io accepted long)
+pub created : (r : List ℕ) (f : Fixed) (io : List ℕ) → length io ≡ f .size → createOn r f .result ≡ 0 → StartsNew f (createOn r f .bytes) io
+created r f io long done =
+    let (accepted, bytes) = left-new r f done in
+    rw bytes (new-starts f io accepted long)
 
-  pub create-refused : (createOn r f .result ≡ 0 → ⊥) → createOn r f .bytes ≡ r
-  unfolding createOn
-  create-refused =
-      let Stays : CallOutcome → Type 0 = λ (o : CallOutcome). (o .result ≡ 0 → ⊥) → o .bytes ≡ r in
-      of-picked Stays (eqb (creationChecks f) 0)
-      (λ _. of-picked Stays (eqb (length r) recordSize) (λ _ not. absurd (not refl)) (λ _ _. refl))
-      (λ _ _. refl)
+pub create-refused : (r : List ℕ) (f : Fixed) → (createOn r f .result ≡ 0 → ⊥) → createOn r f .bytes ≡ r
+unfolding createOn
+create-refused r f =
+    let Stays : CallOutcome → Type 0 = λ (o : CallOutcome). (o .result ≡ 0 → ⊥) → o .bytes ≡ r in
+    of-picked Stays (eqb (creationChecks f) 0)
+    (λ _. of-picked Stays (eqb (length r) recordSize) (λ _ not. absurd (not refl)) (λ _ _. refl))
+    (λ _ _. refl)
 
 -- The call itself: `a` are its arguments, `x` is its result, and `z` is the record as it left it.
 pub created-called : (κs : Lfts 1) (a : Dens κs create-kinds.ps) (x : resT create-kinds.r κs .Denot) (z : AtExit (endedOf 1 create-kinds.ps create-kinds.r) κs) → create-reads.Post κs a x z

@@ -55,7 +55,7 @@ module _ (Made : Call → Memory → Outcome → Type 0) (true-of : True Made) w
     ended-is = log-reached Made (l .since)
 
     pub left-is : R t ≡ leftIn before
-    left-is = reads (beforeStatus t) before before-is (log-holds Made true-of (l .to-status) holds) .left
+    left-is = reads (beforeStatus t) before before-is (log-holds Made true-of (toStatus t) first before (l .to-status) holds) .left
 
     pub due-is : pollsDue t ≡ pollsDueOn first before
     due-is = ap₂ (λ (r p : ℕ). ceiling r p + ceiling 13 p) left-is (reads (t .start) first (l .starts) holds .packetsize)
@@ -73,22 +73,12 @@ module _ (Made : Call → Memory → Outcome → Type 0) (true-of : True Made) w
           reachable = λ less g o made w. d .reachable (rw due-is less) g (polled g o) (made-last g o made) (subst (Willing g) (sym ended-is) w);
         }
 
-  pub demand : (t : Story) (first before last : Memory) → Logged Made t first before last → Supposed t → DemandOn Made t first before last
-  demand t first before last l u =
-      from-value t first before last l (whole-held first (subst WholeIn (l .starts) (u .between .whole)))
-      (value.demand (Seen Made) (seen-faithful Made true-of) t (happened t first before last l) u)
-
-  -- The record need not be supposed to be whole, nor that no reset comes before the status: a history from bytes that hold no record meets
-  -- none of the other premises.
-  pub enough : (t : Story) (first before last : Memory) → Logged Made t first before last → Enough t → DemandOn Made t first before last
-  enough t first before last l n = demand t first before last l (supposed t (throughout-map (Seen Made) ByValue (seen-faithful Made true-of) (history t) (t .start) (happened t first before last l)) n)
-
   -- ---- request 7
 
   -- What the record's bytes say of a read-out, where they hold a record at its start.
   module _ (r : Readout) (first last : Memory) (l : LoggedReadout Made r first last) (holds : HoldsRecord first) where
     device-is : reachedBy r .device ≡ deviceAt (last .bytes)
-    device-is = ap (λ (x : Socket). x .device) (ap (reached (allSince r)) (l .starts) ∙ log-reached Made (l .calls) ∙ held-known last (log-holds Made true-of (l .calls) holds .known))
+    device-is = ap (λ (x : Socket). x .device) (ap (reached (allSince r)) (l .starts) ∙ log-reached Made (l .calls) ∙ held-known last (log-holds Made true-of (allSince r) first last (l .calls) holds .known))
 
     pub count-is : countSince r ≡ countIn last
     unfolding deviceAt
@@ -106,8 +96,23 @@ module _ (Made : Call → Memory → Outcome → Type 0) (true-of : True Made) w
       within = λ c. rw count-is at (a .within (record { unfilled = c .unfilled; below = rw count-is (c .below) }));
     }
 
-  pub account : (r : Readout) (first last : Memory) → LoggedReadout Made r first last → SupposedReadout r → AccountOn r last
-  account r first last l u =
-      let happens : Throughout (Seen Made) (allSince r) (r .start) = subst (Throughout (Seen Made) (allSince r)) (sym (l .starts)) (log-happened Made (l .calls)) in
-      let completes : ByValue (poll (r .completing)) (r .start) (r .completed) = seen-faithful Made true-of (poll (r .completing)) (r .start) (r .completed) (happens .0) in
-      account-from-value r first last l (whole-held first (subst WholeIn (l .starts) (value-account.starts-whole r completes u))) (value-account.account (Seen Made) (seen-faithful Made true-of) r happens u)
+-- ---- the theorems
+
+pub demand : (Made : Call → Memory → Outcome → Type 0) → True Made → (t : Story) (first before last : Memory) → Logged Made t first before last → Supposed t → DemandOn Made t first before last
+demand Made true-of t first before last l u =
+    let holds : HoldsRecord first = whole-held first (subst WholeIn (l .starts) (u .between .whole)) in
+    from-value Made true-of t first before last l holds (value.demand (Seen Made) (seen-faithful Made true-of) t (happened Made true-of t first before last l) u)
+
+-- The record need not be supposed to be whole, nor that no reset comes before the status: a history from bytes that hold no record meets
+-- none of the other premises.
+pub enough : (Made : Call → Memory → Outcome → Type 0) → True Made → (t : Story) (first before last : Memory) → Logged Made t first before last → Enough t → DemandOn Made t first before last
+enough Made true-of t first before last l n =
+    let by-value : Happened ByValue t = throughout-map (Seen Made) ByValue (seen-faithful Made true-of) (history t) (t .start) (happened Made true-of t first before last l) in
+    demand Made true-of t first before last l (supposed t by-value n)
+
+pub account : (Made : Call → Memory → Outcome → Type 0) → True Made → (r : Readout) (first last : Memory) → LoggedReadout Made r first last → SupposedReadout r → AccountOn r last
+account Made true-of r first last l u =
+    let happens : Throughout (Seen Made) (allSince r) (r .start) = subst (Throughout (Seen Made) (allSince r)) (sym (l .starts)) (log-happened Made (l .calls)) in
+    let completes : ByValue (poll (r .completing)) (r .start) (r .completed) = seen-faithful Made true-of (poll (r .completing)) (r .start) (r .completed) (happens .0) in
+    let holds : HoldsRecord first = whole-held first (subst WholeIn (l .starts) (value-account.starts-whole r completes u)) in
+    account-from-value Made true-of r first last l holds (value-account.account (Seen Made) (seen-faithful Made true-of) r happens u)

@@ -23,16 +23,13 @@ module _ (Made : Call → Memory → Outcome → Type 0) where
   log-reached none = refl
   log-reached (then {c} {m} {last} {o} {xs} made rest) = ap (reached xs) (seen-socket c o) ∙ log-reached rest
 
-  module _ (true-of : True Made) where
-    seen-does : {e : Event} {s : Socket} {o : Shows} → Seen Made e s o → ByValue e s o
-    seen-does (saw {c} {m} {o} made) = ap (seen c) (true-of c m o made) ∙ same c m
+  seen-does : True Made → {e : Event} {s : Socket} {o : Shows} → Seen Made e s o → ByValue e s o
+  seen-does true-of (saw {c} {m} {o} made) = ap (seen c) (true-of c m o made) ∙ same c m
 
-    pub seen-faithful : Faithful (Seen Made)
-    seen-faithful e s o x = seen-does x
+pub seen-faithful : (Made : Call → Memory → Outcome → Type 0) → True Made → Faithful (Seen Made)
+seen-faithful Made true-of e s o x = seen-does Made true-of x
 
-    pub log-whole : {xs : List Happening} {m last : Memory} → Log Made xs m last → WholeIn (socketIn m) → WholeIn (socketIn last)
-    log-whole {xs} {m} {last} l w =
-        subst WholeIn (log-reached l) (run-whole xs (socketIn m) w (throughout-map (Seen Made) ByValue seen-faithful xs (socketIn m) (log-happened l)))
-
-    pub log-holds : {xs : List Happening} {m last : Memory} → Log Made xs m last → HoldsRecord m → HoldsRecord last
-    log-holds {xs} {m} {last} l h = whole-held last (log-whole l (held-whole m h))
+pub log-holds : (Made : Call → Memory → Outcome → Type 0) → True Made → (xs : List Happening) (m last : Memory) → Log Made xs m last → HoldsRecord m → HoldsRecord last
+log-holds Made true-of xs m last l h =
+    let happened : Throughout ByValue xs (socketIn m) = throughout-map (Seen Made) ByValue (seen-faithful Made true-of) xs (socketIn m) (log-happened Made l) in
+    whole-held last (subst WholeIn (log-reached Made l) (run-whole xs (socketIn m) (held-whole m h) happened))

@@ -116,7 +116,7 @@ reaches q size accepted h =
     let l : Log ByBytes (historyOf h (newSocket q size)) first (ranOn h first) = realised-from h (newSocket q size) first (new-held q size accepted) in
     record {
       starts = ap (reached (historyOf h (newSocket q size))) (new-held q size accepted) ∙ log-reached ByBytes l;
-      holds = log-holds ByBytes (λ c m o is. is) l (new-holds q size accepted);
+      holds = log-holds ByBytes (λ c m o is. is) (historyOf h (newSocket q size)) first (ranOn h first) l (new-holds q size accepted);
     }
 
 -- The story of the script `p`, called from the memory `m` on, is one of those that demand 3 speaks of.

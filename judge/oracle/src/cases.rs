@@ -89,6 +89,19 @@ fn bad_signature() -> Wrapper {
     }
 }
 
+/// A wrapper with more bytes behind it.
+fn glued(wrapper: Wrapper, behind: &[u8]) -> Vec<u8> {
+    [&wrapper.bytes()[..], behind].concat()
+}
+
+/// The host wants 10 bytes at P 8. Four are put in, and the status is set.
+fn four_of_ten() -> Script {
+    create(8, 0, 64)
+        .wrapper(reading(10))
+        .write(&counted(4))
+        .status(0, 4)
+}
+
 /// After a wrapper without data, a status was set and has been sent: state 3, nothing unread.
 fn finished(packet_size: u16, buffer: u32) -> Script {
     create(packet_size, 0, buffer)
@@ -202,7 +215,7 @@ fn wrappers() -> Vec<Named> {
         named(
             "wrapper-invalid-keeps-the-one-before",
             finished(64, 64)
-                .packet(&[bad_signature().bytes(), vec![9, 9]].concat())
+                .packet(&glued(bad_signature(), &[9, 9]))
                 .command(),
         ),
         named(
@@ -216,7 +229,7 @@ fn wrappers() -> Vec<Named> {
         named(
             "wrapper-behind-31-unread-bytes-needs-a-packet",
             create(64, 0, 128)
-                .packet(&[bad_signature().bytes(), ready(3).bytes()].concat())
+                .packet(&glued(bad_signature(), &ready(3).bytes()))
                 .reset()
                 .poll()
                 .packet(&[]),
@@ -228,7 +241,7 @@ fn wrappers() -> Vec<Named> {
         named(
             "wrapper-glued-behind-is-lost-with-the-status",
             create(64, 0, 64)
-                .packet(&[ready(1).bytes(), ready(2).bytes()].concat())
+                .packet(&glued(ready(1), &ready(2).bytes()))
                 .status(0, 0)
                 .poll()
                 .poll(),
@@ -263,31 +276,18 @@ fn to_host() -> Vec<Named> {
         ),
         named(
             "to-host-p-8-l-10-four-bytes-then-status",
-            create(8, 0, 64)
-                .wrapper(reading(10))
-                .write(&counted(4))
-                .status(0, 4)
-                .polls(4),
+            four_of_ten().polls(4),
         ),
         named(
             "to-host-is-not-filled-again-behind-a-busy-poll",
-            create(8, 0, 64)
-                .wrapper(reading(10))
-                .write(&counted(4))
-                .status(0, 4)
+            four_of_ten()
                 .in_answers(InAnswer::Busy)
                 .in_answers(InAnswer::Error(9))
                 .polls(4),
         ),
         named(
             "to-host-unserved-polls-do-not-count",
-            (0..4).fold(
-                create(8, 0, 64)
-                    .wrapper(reading(10))
-                    .write(&counted(4))
-                    .status(0, 4),
-                |script, _| unserved(script).poll(),
-            ),
+            (0..4).fold(four_of_ten(), |script, _| unserved(script).poll()),
         ),
         named(
             "to-host-bytes-put-in-behind-the-status-go-out",
@@ -340,7 +340,7 @@ fn to_host() -> Vec<Named> {
         ),
         named(
             "to-host-bytes-behind-the-wrapper-are-sent",
-            create(64, 0, 64).packet(&[reading(2).bytes(), vec![0xAB, 0xCD]].concat()),
+            create(64, 0, 64).packet(&glued(reading(2), &[0xAB, 0xCD])),
         ),
     ]
 }
@@ -420,7 +420,7 @@ fn from_host() -> Vec<Named> {
         named(
             "from-host-bytes-behind-the-wrapper-do-not-count-for-left",
             create(64, 0, 128)
-                .packet(&[writing(4).bytes(), counted(4)].concat())
+                .packet(&glued(writing(4), &counted(4)))
                 .read(4),
         ),
     ]
@@ -472,7 +472,7 @@ fn endpoints() -> Vec<Named> {
             [InAnswer::Busy, InAnswer::Error(4)].into_iter().fold(
                 create(64, 0, 64),
                 |script, in_answer| {
-                    let glued = [reading(2).bytes(), vec![1, 2]].concat();
+                    let glued = glued(reading(2), &[1, 2]);
                     script
                         .wrapper(ready(1))
                         .status(0, 0)
@@ -844,7 +844,7 @@ fn differences() -> Vec<Named> {
         ),
         named(
             "diff-accepts-longer-messages",
-            create(64, 0, 64).packet(&[&wrapper[..], &[0]].concat()),
+            create(64, 0, 64).packet(&glued(ready(1), &[0])),
         ),
         named(
             "diff-reset-keeps-unread-bytes",
@@ -1002,7 +1002,6 @@ fn premises() -> Vec<Named> {
             .status(0, 0)
             .poll()
     };
-    let glued = |bytes: &[u8], byte| [bytes, &[byte]].concat();
     vec![
         // waits: in state 1 nothing is read, so there is no message and no status either.
         named(
@@ -1046,7 +1045,7 @@ fn premises() -> Vec<Named> {
                 .offers(
                     InAnswer::Accepts,
                     OutAnswer::Packet(writing(32).bytes()),
-                    OutAnswer::Packet(glued(&reading(1).bytes(), 0xAB)),
+                    OutAnswer::Packet(glued(reading(1), &[0xAB])),
                 )
                 .reset()
                 .packet(&[])
@@ -1055,7 +1054,7 @@ fn premises() -> Vec<Named> {
         // valid: 32 bytes.
         named(
             "premise-byte-behind-the-wrapper-goes-out-as-data",
-            glued(&reading(1).bytes(), 0xAB)
+            glued(reading(1), &[0xAB])
                 .chunks(8)
                 .fold(waiting(), |script, packet| script.packet(packet))
                 .status(0, 0),
@@ -1155,7 +1154,7 @@ fn premises() -> Vec<Named> {
 
 /// How much room is missing with answer 1. Calls and polls that lack a single byte are in files above.
 fn missing() -> Vec<Named> {
-    let glued = OutAnswer::Packet([writing(100).bytes(), counted(33)].concat());
+    let glued = OutAnswer::Packet(glued(writing(100), &counted(33)));
     let one_byte = OutAnswer::Packet(vec![0x55]);
     // At P 64: P is wanted whatever OUT would answer. 11 and 3 come before any room is wanted.
     let whatever_out_answers = |script: Script| {
@@ -1238,7 +1237,7 @@ fn put_in() -> Vec<Named> {
         |script| closed(script).out_answers(OutAnswer::Error(9)),
         |script| closed(script).wrapper(reading(1)).reset(),
         |script| closed(script).wrapper(bad_signature()).reset(),
-        |script| closed(script).packet(&[writing(100).bytes(), counted(33)].concat()),
+        |script| closed(script).packet(&glued(writing(100), &counted(33))),
     ];
     vec![
         named(
@@ -1274,10 +1273,7 @@ fn put_in() -> Vec<Named> {
         ),
         named(
             "put-in-behind-the-status-counts-while-4-lasts",
-            create(8, 0, 64)
-                .wrapper(reading(10))
-                .write(&counted(4))
-                .status(0, 4)
+            four_of_ten()
                 .write(&counted(4))
                 .write_all(&counted(3))
                 .poll()
@@ -1287,7 +1283,7 @@ fn put_in() -> Vec<Named> {
         named(
             "put-in-62-behind-2-bytes-that-came-with-the-wrapper",
             create(64, 0, 128)
-                .packet(&[reading(64).bytes(), vec![0xAB, 0xCD]].concat())
+                .packet(&glued(reading(64), &[0xAB, 0xCD]))
                 .write_all(&counted(62))
                 .poll(),
         ),
@@ -1295,7 +1291,7 @@ fn put_in() -> Vec<Named> {
             "put-in-5-for-l-4-behind-a-wrapper-kept-by-a-reset",
             create(64, 0, 128)
                 .wrapper(writing(64))
-                .packet(&[reading(4).bytes(), vec![0xAB]].concat())
+                .packet(&glued(reading(4), &[0xAB]))
                 .reset()
                 .packet(&[])
                 .write_all(&counted(5))
