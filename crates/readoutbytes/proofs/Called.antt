@@ -33,7 +33,7 @@ use Rattle.exported.proofs.souk_command_step_told.Reads as told-reads
 use Rattle.readout.specs.Demand.{Story, Supposed}
 use Rattle.readout.specs.Account.{Readout, SupposedReadout}
 use Rattle.readoutbytes.specs.Calls.{Memory, memory, Call, souk-poll, souk-set-status, souk-write-data, souk-try-write-data-all, souk-read-data, souk-reset, souk-control, souk-command, souk-command-step, souk-command-step-told, Outcome, outcome, ofPolled, ofCalled, ofWritten, ofReadOff, ofLooked, callOn}
-use Rattle.readoutbytes.specs.Logs.{True}
+use Rattle.readoutbytes.specs.Logs.{Truthful}
 use Rattle.readoutbytes.specs.Demand.{Logged, DemandOn, LoggedReadout, AccountOn}
 use Rattle.readoutbytes.proofs.Demand.{demand, account}
 
@@ -77,13 +77,13 @@ called-is (command-called κs a x z p) = ap (ofLooked (memory (now (a .0)) (now 
 called-is (step-called κs a x z p) = ap (ofLooked (memory (now (a .0)) (now (a .1 .0)))) p
 called-is (told-called κs a x z p) = ap (ofLooked (memory (now (a .0)) (now (a .1 .0)))) p
 
-pub called-true : True Called
-called-true c m o called = called-is called
+pub called-truthful : Truthful Called
+called-truthful c m o called = called-is called
 
 -- Demand 3 for the calls that firmware makes.
 pub kept : (t : Story) (first before last : Memory) → Logged Called t first before last → Supposed t → DemandOn Called t first before last
-kept = demand Called called-true
+kept = demand Called called-truthful
 
 -- Request 7 for the calls that firmware makes.
 pub counted : (r : Readout) (first last : Memory) → LoggedReadout Called r first last → SupposedReadout r → AccountOn r last
-counted = account Called called-true
+counted = account Called called-truthful

@@ -17,7 +17,7 @@ use Rattle.readout.proofs.Keeping.{WholeIn}
 use Rattle.readout.proofs.Demand as value
 use Rattle.readout.proofs.Account as value-account
 use Rattle.readoutbytes.specs.Calls.{Memory, socketIn, HoldsRecord, Call, souk-poll, Outcome}
-use Rattle.readoutbytes.specs.Logs.{True, Log, none, then, Seen, saw}
+use Rattle.readoutbytes.specs.Logs.{Truthful, Log, none, then, Seen, saw}
 use Rattle.readoutbytes.specs.Demand.{Logged, packetSizeIn, leftIn, pollsDueOn, polled, DemandOn, LoggedReadout, countIn, unreadIn, AccountOn}
 use Rattle.readoutbytes.proofs.Held.{held-known, whole-held}
 use Rattle.readoutbytes.proofs.Same.{seen-socket}
@@ -39,7 +39,7 @@ reads s m e h =
     let same : s .device ≡ deviceAt (m .bytes) = ap (λ (x : Socket). x .device) (e ∙ held-known m (h .known)) in
     record { packetsize = ap (λ (d : Device). d .fixed .packetsize) same; left = ap (λ (d : Device). d .left .0) same }
 
-module _ (Made : Call → Memory → Outcome → Type 0) (true-of : True Made) where
+module _ (Made : Call → Memory → Outcome → Type 0) (true-of : Truthful Made) where
   -- ---- demand 3
 
   happened : (t : Story) (first before last : Memory) → Logged Made t first before last → Happened (Seen Made) t
@@ -98,19 +98,19 @@ module _ (Made : Call → Memory → Outcome → Type 0) (true-of : True Made) w
 
 -- ---- the theorems
 
-pub demand : (Made : Call → Memory → Outcome → Type 0) → True Made → (t : Story) (first before last : Memory) → Logged Made t first before last → Supposed t → DemandOn Made t first before last
+pub demand : (Made : Call → Memory → Outcome → Type 0) → Truthful Made → (t : Story) (first before last : Memory) → Logged Made t first before last → Supposed t → DemandOn Made t first before last
 demand Made true-of t first before last l u =
     let holds : HoldsRecord first = whole-held first (subst WholeIn (l .starts) (u .between .whole)) in
     from-value Made true-of t first before last l holds (value.demand (Seen Made) (seen-faithful Made true-of) t (happened Made true-of t first before last l) u)
 
--- The record need not be supposed to be whole, nor that no reset comes before the status: a history from bytes that hold no record meets
--- none of the other premises.
-pub enough : (Made : Call → Memory → Outcome → Type 0) → True Made → (t : Story) (first before last : Memory) → Logged Made t first before last → Enough t → DemandOn Made t first before last
+-- It need not be supposed that the record is whole, nor that no reset comes before the status. Where bytes hold no record every call is
+-- refused, so that no wrapper comes; and a reset leaves the command.
+pub enough : (Made : Call → Memory → Outcome → Type 0) → Truthful Made → (t : Story) (first before last : Memory) → Logged Made t first before last → Enough t → DemandOn Made t first before last
 enough Made true-of t first before last l n =
     let by-value : Happened ByValue t = throughout-map (Seen Made) ByValue (seen-faithful Made true-of) (history t) (t .start) (happened Made true-of t first before last l) in
     demand Made true-of t first before last l (supposed t by-value n)
 
-pub account : (Made : Call → Memory → Outcome → Type 0) → True Made → (r : Readout) (first last : Memory) → LoggedReadout Made r first last → SupposedReadout r → AccountOn r last
+pub account : (Made : Call → Memory → Outcome → Type 0) → Truthful Made → (r : Readout) (first last : Memory) → LoggedReadout Made r first last → SupposedReadout r → AccountOn r last
 account Made true-of r first last l u =
     let happens : Throughout (Seen Made) (allSince r) (r .start) = subst (Throughout (Seen Made) (allSince r)) (sym (l .starts)) (log-happened Made (l .calls)) in
     let completes : ByValue (poll (r .completing)) (r .start) (r .completed) = seen-faithful Made true-of (poll (r .completing)) (r .start) (r .completed) (happens .0) in

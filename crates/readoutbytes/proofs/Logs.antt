@@ -10,7 +10,7 @@ use Rattle.readout.specs.History.{Socket, Event, Shows, Happening, reached, Thr
 use Rattle.readout.proofs.Histories.{throughout-map}
 use Rattle.readout.proofs.Keeping.{WholeIn, run-whole}
 use Rattle.readoutbytes.specs.Calls.{Memory, socketIn, HoldsRecord, Call, Outcome, seen}
-use Rattle.readoutbytes.specs.Logs.{True, Log, none, then, Seen, saw}
+use Rattle.readoutbytes.specs.Logs.{Truthful, Log, none, then, Seen, saw}
 use Rattle.readoutbytes.proofs.Held.{held-whole, whole-held}
 use Rattle.readoutbytes.proofs.Same.{same, seen-socket}
 
@@ -23,13 +23,13 @@ module _ (Made : Call → Memory → Outcome → Type 0) where
   log-reached none = refl
   log-reached (then {c} {m} {last} {o} {xs} made rest) = ap (reached xs) (seen-socket c o) ∙ log-reached rest
 
-  seen-does : True Made → {e : Event} {s : Socket} {o : Shows} → Seen Made e s o → ByValue e s o
+  seen-does : Truthful Made → {e : Event} {s : Socket} {o : Shows} → Seen Made e s o → ByValue e s o
   seen-does true-of (saw {c} {m} {o} made) = ap (seen c) (true-of c m o made) ∙ same c m
 
-pub seen-faithful : (Made : Call → Memory → Outcome → Type 0) → True Made → Faithful (Seen Made)
+pub seen-faithful : (Made : Call → Memory → Outcome → Type 0) → Truthful Made → Faithful (Seen Made)
 seen-faithful Made true-of e s o x = seen-does Made true-of x
 
-pub log-holds : (Made : Call → Memory → Outcome → Type 0) → True Made → (xs : List Happening) (m last : Memory) → Log Made xs m last → HoldsRecord m → HoldsRecord last
+pub log-holds : (Made : Call → Memory → Outcome → Type 0) → Truthful Made → (xs : List Happening) (m last : Memory) → Log Made xs m last → HoldsRecord m → HoldsRecord last
 log-holds Made true-of xs m last l h =
     let happened : Throughout ByValue xs (socketIn m) = throughout-map (Seen Made) ByValue (seen-faithful Made true-of) xs (socketIn m) (log-happened Made l) in
     whole-held last (subst WholeIn (log-reached Made l) (run-whole xs (socketIn m) (held-whole m h) happened))

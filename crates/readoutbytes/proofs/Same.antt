@@ -93,7 +93,7 @@ step-read : (m : Memory) (was : List ℕ) (extended : Bool) (d : Device) (io : L
 step-read m was extended d io = by-step extended d io (StepRead m was) (none-read m was .0) (none-read m was .1) (none-read m was .2) (λ w c. offer-read m was (d .wrapper .lun) c (w .lun))
 
 -- Of a call in the memory `m` the firmware reads what its event shows at the socket that is held there.
-abbrev pub Same : Memory → Call → Type 0
+abbrev Same : Memory → Call → Type 0
 Same m c = seen c (callOn c m) ≡ shows (eventOf c) (socketIn m)
 
 -- ---- a memory whose bytes are a record
@@ -211,20 +211,15 @@ told-same m extended numbers =
 
 -- ---- every call
 
--- Both ways: the bytes are a record, or they are none.
-module _ (m : Memory) {A : Type 0} where
-  either-way : (isKnown (m .bytes) ≡ true → A) → (isKnown (m .bytes) ≡ false → A) → A
-  either-way = cases (isKnown (m .bytes))
-
-pub same : (c : Call) (m : Memory) → Same m c
+pub same : (c : Call) (m : Memory) → seen c (callOn c m) ≡ shows (eventOf c) (socketIn m)
 unfolding callOn seen commandStepOn
-same (souk-poll g) m = either-way m (λ k. poll-same m k g) (λ k. poll-none m k g)
-same (souk-set-status f) m = either-way m (λ k. status-same m k f) (λ k. status-none m k f)
-same (souk-write-data src) m = either-way m (λ k. write-same m k src) (λ k. write-none m k src)
-same (souk-try-write-data-all src) m = either-way m (λ k. write-all-same m k src) (λ k. write-all-none m k src)
-same (souk-read-data dst) m = either-way m (λ k. read-same m k dst) (λ k. read-none m k dst)
-same souk-reset m = either-way m (reset-same m) (reset-none m)
-same (souk-control q) m = either-way m (λ k. control-same m k q) (λ k. control-none m k q)
+same (souk-poll g) m = cases (isKnown (m .bytes)) (λ k. poll-same m k g) (λ k. poll-none m k g)
+same (souk-set-status f) m = cases (isKnown (m .bytes)) (λ k. status-same m k f) (λ k. status-none m k f)
+same (souk-write-data src) m = cases (isKnown (m .bytes)) (λ k. write-same m k src) (λ k. write-none m k src)
+same (souk-try-write-data-all src) m = cases (isKnown (m .bytes)) (λ k. write-all-same m k src) (λ k. write-all-none m k src)
+same (souk-read-data dst) m = cases (isKnown (m .bytes)) (λ k. read-same m k dst) (λ k. read-none m k dst)
+same souk-reset m = cases (isKnown (m .bytes)) (reset-same m) (reset-none m)
+same (souk-control q) m = cases (isKnown (m .bytes)) (λ k. control-same m k q) (λ k. control-none m k q)
 same (souk-command block) m = command-same m block
 same (souk-command-step numbers) m = step-same m plainIsExtended numbers
 same (souk-command-step-told extended numbers) m = told-same m extended numbers

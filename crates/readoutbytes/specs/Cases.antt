@@ -71,8 +71,8 @@ due p m = pollsDueOn m (ranOn (eventsBefore p) m)
 
 -- 01's starred cases of demand 3. A result has the answer in its lowest byte, the packets taken in the fourth, and from 2^32 on the bytes
 -- sent or put in.
-unfoldable pub starred : List Case
-starred =
+unfoldable pub table : List Case
+table =
     -- "P 64, R 130: 4 served polls*.": the wrapper's packet is taken, with answer 4; the status is set; then 64 bytes go out, IN is busy (6), 64
     -- bytes, a poll is refused (11), 2 bytes, and the 13 of the status.
     case (leftIn (ranOn (eventsBefore read64) (newMemory 64 64))) 130

@@ -10,8 +10,8 @@ abbrev pub ByBytes : Call → Memory → Outcome → Type 0
 ByBytes c m o = o ≡ callOn c m
 
 -- What `Made` says of calls is true.
-abbrev pub True : (Call → Memory → Outcome → Type 0) → Type 0
-True Made = (c : Call) (m : Memory) (o : Outcome) → Made c m o → ByBytes c m o
+abbrev pub Truthful : (Call → Memory → Outcome → Type 0) → Type 0
+Truthful Made = (c : Call) (m : Memory) (o : Outcome) → Made c m o → ByBytes c m o
 
 -- "the firmware keeps one device record": the log of a history that starts with one memory and ends with another. Each call was lent the
 -- memory that the call before left. What happened is what the firmware read.
