@@ -17,7 +17,7 @@ use Rattle.readout.proofs.Keeping.{WholeIn}
 use Rattle.readout.proofs.Demand as value
 use Rattle.readout.proofs.Account as value-account
 use Rattle.readoutbytes.specs.Calls.{Memory, socketIn, HoldsRecord, Call, souk-poll, Outcome}
-use Rattle.readoutbytes.specs.Logs.{Truthful, Log, none, then, Seen, saw}
+use Rattle.readoutbytes.specs.Logs.{Truthful, Log, none, then, beside, Seen, saw}
 use Rattle.readoutbytes.specs.Demand.{Logged, packetSizeIn, leftIn, pollsDueOn, polled, DemandOn, LoggedReadout, countIn, unreadIn, AccountOn}
 use Rattle.readoutbytes.proofs.Held.{held-known, whole-held}
 use Rattle.readoutbytes.proofs.Same.{seen-socket}
@@ -27,6 +27,7 @@ use Rattle.readoutbytes.proofs.Logs.{log-happened, log-reached, seen-fa
 log-joined : (Made : Call → Memory → Outcome → Type 0) {xs ys : List Happening} {a b c : Memory} → Log Made xs a b → Log Made ys b c → Log Made (xs ++ ys) a c
 log-joined Made none l = l
 log-joined Made (then made rest) l = then made (log-joined Made rest l)
+log-joined Made (beside made not rest) l = beside made not (log-joined Made rest l)
 
 -- What the record's bytes say of a socket.
 record Reads (s : Socket) (m : Memory) : Type 0 where
