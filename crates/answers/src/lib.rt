@@ -1,9 +1,11 @@
 // Endpoints and calls give these answers: document 01's numbers, by name.
+#![tactic(auto)]
+
 ghost use Rattle.std.specs.Prelude.{◌≡◌};
 ghost use Rattle.answers.specs.Answers.{answer_of, endpoint_of, serves, answered_by, stalls_of};
 
 // An endpoint that is asked does its part, or is busy, or fails with an error number.
-#[derive(Drop)]
+#[derive(Clone, Copy)]
 pub enum Endpoint {
     Served,
     Busy,
@@ -12,7 +14,7 @@ pub enum Endpoint {
 
 // These are document 01's answers 0 to 13, in its order. EndpointError carries the number of the endpoint's error, and IoBufferOverflow says
 // how many bytes of room are missing.
-#[derive(Drop)]
+#[derive(Clone, Copy)]
 pub enum Answer {
     Done,
     IoBufferOverflow(usize),
@@ -31,7 +33,7 @@ pub enum Answer {
 }
 
 // This is asked of both endpoints at once. In the last case they are first unstalled and then stalled.
-#[derive(Drop)]
+#[derive(Clone, Copy)]
 pub enum Stalls {
     Kept,
     Stalled,

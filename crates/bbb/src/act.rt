@@ -17,7 +17,7 @@ use ring::{Before, Kind, Row};
 use wrapper::counters::{Left, left_after};
 
 // An act gives the marks, left, the bytes sent, the answer, the packets taken in the whole poll, and whether both endpoints are stalled.
-#[derive(Drop)]
+#[derive(Clone, Copy)]
 pub struct Did {
     pub marks: Marks,
     pub left: Left,

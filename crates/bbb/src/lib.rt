@@ -26,7 +26,7 @@ use wrapper::counters::{Left, PutIn};
 use wrapper::{Wrapper, in_wrapper};
 
 // These are the endpoints' answers for this poll, for two OUT reads and one IN write: 0 does its part, 1 is busy, and others are errors.
-#[derive(Drop)]
+#[derive(Clone, Copy)]
 pub struct Turn {
     pub first: u8,
     pub second: u8,
@@ -34,7 +34,7 @@ pub struct Turn {
 }
 
 // A poll reports its answer, the OUT packets taken, the bytes sent, and what is asked of the endpoints.
-#[derive(Drop)]
+#[derive(Clone, Copy)]
 pub struct Report {
     pub answer: Answer,
     pub taken: u8,
@@ -43,14 +43,14 @@ pub struct Report {
 }
 
 // A poll gives the record and its report.
-#[derive(Drop)]
+#[derive(Clone, Copy)]
 pub struct Polled {
     pub device: Device,
     pub report: Report,
 }
 
 // A poll changes these parts of the record, apart from the wrapper, and reports this. `cleared` says that the status is cleared.
-#[derive(Drop)]
+#[derive(Clone, Copy)]
 pub struct Change {
     pub state: State,
     pub marks: Marks,

@@ -15,7 +15,7 @@ use wrapper::counters::Left;
 use wrapper::{DataDirection, in_wrapper};
 
 // Opening gives what it found and how far the poll has come then. `direction` counts only if a valid wrapper was found.
-#[derive(Drop)]
+#[derive(Clone, Copy)]
 pub struct Opened {
     pub found: Found,
     pub marks: Marks,

@@ -19,7 +19,7 @@ use wrapper::Wrapper;
 
 // What a call left and told: the record, the answer, the count of the line, what was asked of the endpoints, how many of the lent bytes
 // the line shows, and what a command step offered, decoded. No line shows the decoded command.
-#[derive(Drop)]
+#[derive(Clone, Copy)]
 pub struct Acted {
     pub device: Device,
     pub answer: Answer,

@@ -6,7 +6,7 @@ use fields::{byte, le16};
 
 // What stands at an offset: whether it is a whole event that the rules allow, its kind, and the length of its body. Where no event
 // stands, the numbers are 0.
-#[derive(Drop)]
+#[derive(Clone, Copy)]
 pub struct EventHead {
     pub whole: bool,
     pub kind: u8,

@@ -1,5 +1,7 @@
 // The bench file of document 01, judged as a whole before anything runs.
 //     event    what stands at an offset: a kind byte, 2 bytes length n, n bytes
+#![tactic(auto)]
+
 pub mod event;
 
 ghost use Rattle.std.specs.Prelude.{◌≡◌, length};
@@ -16,7 +18,7 @@ const LONGEST: usize = 65536;
 pub const TRAILER: usize = 12;
 
 // What a walk over the events found: whether events fill the bytes, how many there are, and the offset of the last one.
-#[derive(Drop)]
+#[derive(Clone, Copy)]
 struct Tally {
     filled: bool,
     count: usize,

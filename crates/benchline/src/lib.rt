@@ -1,5 +1,7 @@
 // A line of `bench` as text: decimal numbers, stalls and bytes in lower-case hex, with a space between two fields. Every function that
 // puts text into the buffer `text` returns the index at which the text ends.
+#![tactic(auto)]
+
 ghost use Rattle.std.specs.Prelude.{◌≡◌, ◌+◌, ◌≤◌, ◌<◌, length};
 ghost use Rattle.benchline.specs.Line.{digit, decimal, number_text, numbers_text, stalls_text, fields_text, hex, bytes_text, end_text, line_of};
 ghost use Rattle.benchline.specs.Inner.Line.{numbers_length, room_for, Puts};
@@ -7,7 +9,7 @@ ghost use Rattle.benchline.specs.Inner.Line.{numbers_length, room_for, Puts};
 use answers::Stalls;
 
 // Everything that a line tells apart from its bytes.
-#[derive(Drop)]
+#[derive(Clone, Copy)]
 pub struct Line {
     pub index: usize,
     pub answer: u8,

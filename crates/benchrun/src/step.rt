@@ -19,7 +19,7 @@ use ring::state_number;
 
 // How far a run has come: the device, the offset and the index of the next event, the length of the last event's line, and whether the
 // run goes on.
-#[derive(Drop)]
+#[derive(Clone, Copy)]
 pub struct Run {
     pub device: Device,
     pub at: usize,

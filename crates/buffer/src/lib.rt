@@ -1,6 +1,8 @@
 // This is the linear buffer of document 01, after buffer.rs: the bytes are lent, and a read mark and a write mark go by value. The calls
 // here take any marks: if these are out of order or past the bytes, the answer is Broken and nothing changes. `marked` has the same calls
 // for a caller that has already tested its marks.
+#![tactic(auto)]
+
 pub mod marked;
 pub mod span;
 
@@ -9,14 +11,14 @@ ghost use Rattle.buffer.specs.Buffer.{buffer, is_sound};
 ghost use Rattle.buffer.specs.Calls.{answer_of, available_call, clean_call, shift_call, write_call, write_all_call, fill_call, read_call, read_into};
 
 // `read` is the index of the next byte to read, and `write` that of the next byte to write.
-#[derive(Drop)]
+#[derive(Clone, Copy)]
 pub struct Marks {
     pub read: usize,
     pub write: usize,
 }
 
 // Every call of the buffer gives one of these answers.
-#[derive(Drop)]
+#[derive(Clone, Copy)]
 pub enum Answer {
     // The call is done: it took, gave or found this many bytes, and the marks after it are these.
     Done(usize, Marks),

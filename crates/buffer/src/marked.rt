@@ -10,7 +10,7 @@ use crate::span::{fill, move_front, put};
 use fields::least;
 
 // `count` is how many bytes a call took or gave, and `marks` are the marks after it.
-#[derive(Drop)]
+#[derive(Clone, Copy)]
 pub struct Taken {
     pub count: usize,
     pub marks: Marks,
@@ -18,7 +18,7 @@ pub struct Taken {
 
 // `missing` is how many bytes of room were missing: with 0 all bytes were taken, and else none. `marks` are the marks after the call: a
 // refusal keeps the move.
-#[derive(Drop)]
+#[derive(Clone, Copy)]
 pub struct Put {
     pub missing: usize,
     pub marks: Marks,

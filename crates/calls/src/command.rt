@@ -11,7 +11,7 @@ use scsi::{Decoded, PLAIN_IS_EXTENDED, ScsiCommand};
 
 // The call that shows the command gives the answer, whether a command is shown, its LUN, and its block: the first `blocklength` bytes of
 // `block`.
-#[derive(Drop)]
+#[derive(Clone, Copy)]
 pub struct Shown {
     pub answer: Answer,
     pub shown: bool,
@@ -21,14 +21,14 @@ pub struct Shown {
 }
 
 // A step offers nothing, or a command with its LUN.
-#[derive(Drop)]
+#[derive(Clone, Copy)]
 pub enum Offer {
     Nothing,
     Command(u8, ScsiCommand),
 }
 
 // The command step gives the answer and the offer.
-#[derive(Drop)]
+#[derive(Clone, Copy)]
 pub struct Step {
     pub answer: Answer,
     pub offer: Offer,

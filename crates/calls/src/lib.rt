@@ -21,49 +21,49 @@ use wrapper::counters::{Left, PutIn, put_in_after, residue_of};
 use wrapper::status::{StatusByte, status_of};
 
 // The firmware gives a status byte and its figure: how many bytes it dealt with.
-#[derive(Drop)]
+#[derive(Clone, Copy)]
 pub struct FirmwareStatus {
     pub status: u8,
     pub figure: u32,
 }
 
 // `set_status` gives the record and the answer.
-#[derive(Drop)]
+#[derive(Clone, Copy)]
 pub struct Stated {
     pub device: Device,
     pub answer: Answer,
 }
 
 // A read or write reports the answer and how many bytes were read or written.
-#[derive(Drop)]
+#[derive(Clone, Copy)]
 pub struct Count {
     pub answer: Answer,
     pub count: usize,
 }
 
 // A read or write gives the record and that report.
-#[derive(Drop)]
+#[derive(Clone, Copy)]
 pub struct Moved {
     pub device: Device,
     pub report: Count,
 }
 
 // These are the first two bytes of a control request.
-#[derive(Drop)]
+#[derive(Clone, Copy)]
 pub struct Request {
     pub requesttype: u8,
     pub request: u8,
 }
 
 // The host gets nothing back from a control request, or one byte.
-#[derive(Drop)]
+#[derive(Clone, Copy)]
 pub enum Reply {
     Nothing,
     MaxLun(u8),
 }
 
 // A reset or a control request reports the answer, what is asked of both endpoints, and what goes back to the host.
-#[derive(Drop)]
+#[derive(Clone, Copy)]
 pub struct Controlled {
     pub answer: Answer,
     pub stalls: Stalls,
@@ -71,7 +71,7 @@ pub struct Controlled {
 }
 
 // A reset or a control request gives the record and that report.
-#[derive(Drop)]
+#[derive(Clone, Copy)]
 pub struct Handled {
     pub device: Device,
     pub report: Controlled,

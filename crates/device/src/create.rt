@@ -10,7 +10,7 @@ use ring::State;
 use wrapper::counters::{Left, PutIn};
 
 // Creation gives an answer and a device. With any answer but 0 there is no device, and every number of this one is 0.
-#[derive(Drop)]
+#[derive(Clone, Copy)]
 pub struct Created {
     pub answer: Answer,
     pub device: Device,

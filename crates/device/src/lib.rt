@@ -13,14 +13,14 @@ use wrapper::counters::{Left, PutIn, Residue};
 use wrapper::status::CommandStatus;
 
 // This is the firmware's status, with the residue that the host is told.
-#[derive(Drop)]
+#[derive(Clone, Copy)]
 pub enum Status {
     Absent,
     Present(CommandStatus, Residue),
 }
 
 // These numbers never change after creation: the packet size P, the max LUN, and the length of the IO buffer.
-#[derive(Drop)]
+#[derive(Clone, Copy)]
 pub struct Fixed {
     pub packetsize: usize,
     pub maxlun: u8,
@@ -28,7 +28,7 @@ pub struct Fixed {
 }
 
 // The device record holds everything that a poll or a call must know from before.
-#[derive(Drop)]
+#[derive(Clone, Copy)]
 pub struct Device {
     pub fixed: Fixed,
     pub state: State,
@@ -41,7 +41,7 @@ pub struct Device {
 
 // These numbers of the record decide whether it is broken and what a poll does. They are numbers and small enums; the command block and
 // the count of what was put in are not among them.
-#[derive(Drop)]
+#[derive(Clone, Copy)]
 pub struct Numbers {
     pub fixed: Fixed,
     pub state: State,

@@ -1,6 +1,8 @@
 // These functions read and write the fields of the public standards' tables: numbers in byte slices, in both orders of their bytes, and
 // bits of one byte. A number of twice the width is two numbers side by side, so each function that reads one calls the function for half
 // its width. `least` stands here because several crates need it.
+#![tactic(auto)]
+
 ghost use Rattle.std.specs.Prelude.{◌≡◌, ◌+◌, ◌≤◌, ◌<◌, min, length};
 ghost use Rattle.fields.specs.Field.{little_endian, big_endian, one_byte, get, put, bits, get_bits, put_bits};
 

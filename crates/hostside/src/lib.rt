@@ -14,7 +14,7 @@ use wrapper::status::{CommandStatus, StatusByte, status_of};
 use wrapper::{in_status, in_wrapper};
 
 // The host wants this: its `tag` comes back in the status; `length` is L, and the data goes to the host or from it; `lun` is the unit.
-#[derive(Drop)]
+#[derive(Clone, Copy)]
 pub struct HostCommand {
     pub tag: u32,
     pub length: u32,
@@ -23,7 +23,7 @@ pub struct HostCommand {
 }
 
 // A wrapper is written, or one of the things that were handed over is refused.
-#[derive(Drop)]
+#[derive(Clone, Copy)]
 pub enum WrapperWritten {
     Done,
     BufferRefused,
@@ -32,7 +32,7 @@ pub enum WrapperWritten {
 }
 
 // A status is taken, with what it says of the command, or something in it is refused.
-#[derive(Drop)]
+#[derive(Clone, Copy)]
 pub enum StatusRead {
     Taken(CommandStatus, Residue),
     LengthRefused,

@@ -2,5 +2,7 @@
 // and Rust a slice is two arguments, its pointer and its length.
 //     codecs    wrapper, status, verdict, decoder
 //     linear    the linear buffer
+#![tactic(auto)]
+
 pub mod codecs;
 pub mod linear;

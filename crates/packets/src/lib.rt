@@ -1,4 +1,6 @@
 // One packet is read into the IO buffer or sent from it; before a send the buffer may be filled up or get the status.
+#![tactic(auto)]
+
 ghost use Rattle.std.specs.Prelude.{◌≡◌, ◌≤◌, length};
 ghost use Rattle.buffer.specs.Buffer.{buffer, at};
 ghost use Rattle.buffer.specs.Inner.Buffer.{Sound, Leaves};
@@ -16,7 +18,7 @@ use wrapper::in_status;
 use wrapper::status::CommandStatus;
 
 // After OUT was asked for a packet, these are the answer, whether a packet was taken, how many bytes it brought, and the marks.
-#[derive(Drop)]
+#[derive(Clone, Copy)]
 pub struct Received {
     pub answer: Answer,
     pub taken: bool,
@@ -25,7 +27,7 @@ pub struct Received {
 }
 
 // After a packet was offered to IN, these are the answer, how many bytes IN took, and the marks.
-#[derive(Drop)]
+#[derive(Clone, Copy)]
 pub struct Sent {
     pub answer: Answer,
     pub count: usize,

@@ -1,6 +1,8 @@
 // The handlers of a poll, as in bbb.rs: "the handlers call each other in a ring". From numbers and small enums they decide to which act a
 // poll comes; the act itself is done in one place elsewhere (`act` in crates/bbb/src/act.rt). Every call from handler to handler lowers
 // `n`, the number of handlers that may still be called, so the chain ends.
+#![tactic(auto)]
+
 ghost use Rattle.std.specs.Prelude.{◌≡◌, ◌+◌, ◌≤◌};
 ghost use Rattle.ring.specs.declared.Act.TheVariants.{Enter};
 ghost use Rattle.ring.specs.States.{state_number, state_of_number};
@@ -9,7 +11,7 @@ ghost use Rattle.ring.specs.Inner.Ring.{row_of, extra, whole_ring, read_cbw_act,
 use wrapper::DataDirection;
 
 // These are document 01's states, in its order.
-#[derive(Drop)]
+#[derive(Clone, Copy)]
 pub enum State {
     CommandTransfer,
     CommandTransferInvalid,
@@ -23,7 +25,7 @@ pub enum State {
 }
 
 // A poll that waits for a wrapper finds no whole one, an invalid one, or a valid one.
-#[derive(Drop)]
+#[derive(Clone, Copy)]
 pub enum Found {
     Nothing,
     Invalid,
@@ -32,7 +34,7 @@ pub enum Found {
 
 // A poll comes to one of these acts: it stays in 0, stalls both in 1, sends the next packet of the status in 3, enters 3, sends data in
 // 4, waits in 5, fills up and sends in 6, takes a packet in 7, or drops what is unread and takes one in 8.
-#[derive(Drop)]
+#[derive(Clone, Copy)]
 pub enum Act {
     Stay,
     Stall,
@@ -46,7 +48,7 @@ pub enum Act {
 }
 
 // An act moves this across the wire: nothing; nothing, but it stalls both endpoints; a packet that it reads; a packet that it sends.
-#[derive(Drop)]
+#[derive(Clone, Copy)]
 pub enum Kind {
     Rest,
     Stall,
@@ -56,7 +58,7 @@ pub enum Kind {
 
 // Before the packet, an act does this to the buffer: nothing; nothing, but it answers 4 if a whole packet is due and not there; it fills
 // it up; it writes the status into it; it empties it.
-#[derive(Drop)]
+#[derive(Clone, Copy)]
 pub enum Before {
     Nothing,
     Whole,
@@ -67,7 +69,7 @@ pub enum Before {
 
 // The row of an act has the state in which the act is done, what crosses the wire, what is done to the buffer first, and whether left
 // falls.
-#[derive(Drop)]
+#[derive(Clone, Copy)]
 pub struct Row(pub State, pub Kind, pub Before, pub bool);
 
 // In the longest chain, 3, 0, the start, 2 and 5, the first handler is followed by four more.
@@ -150,7 +152,7 @@ pub fn row_of(a: Act) -> Row
 }
 
 // This is state 0. No status is present in it, so only `found` decides, and for a valid wrapper its `direction` and `length`.
-#[cycle(enter_from_host_from_host_ending_no_data_read_cbw_start_status_await_status_transfer_to_host_to_host_ending)]
+#[cycle(handlers)]
 fn read_cbw(n: u8, found: Found, direction: DataDirection, length: u32) -> Act
     requires { 3 ≤ n }
     ensures { result ≡ read_cbw_act found direction length }
@@ -163,7 +165,7 @@ fn read_cbw(n: u8, found: Found, direction: DataDirection, length: u32) -> Act
 }
 
 // A valid wrapper goes on by its `direction`, with its `length` left.
-#[cycle(enter_from_host_from_host_ending_no_data_read_cbw_start_status_await_status_transfer_to_host_to_host_ending)]
+#[cycle(handlers)]
 fn start(n: u8, direction: DataDirection, length: u32) -> Act
     requires { 2 ≤ n }
     ensures { result ≡ start_act direction length }
@@ -176,7 +178,7 @@ fn start(n: u8, direction: DataDirection, length: u32) -> Act
 }
 
 // State 2 always goes on to 5.
-#[cycle(enter_from_host_from_host_ending_no_data_read_cbw_start_status_await_status_transfer_to_host_to_host_ending)]
+#[cycle(handlers)]
 fn no_data(n: u8, present: bool) -> Act
     requires { 1 + extra present ≤ n }
     ensures { result ≡ no_data_act present }
@@ -186,7 +188,7 @@ fn no_data(n: u8, present: bool) -> Act
 
 // This is state 3. `empty` says that nothing is unread, and `entered` that this poll has just entered 3 and still has to write the
 // status.
-#[cycle(enter_from_host_from_host_ending_no_data_read_cbw_start_status_await_status_transfer_to_host_to_host_ending)]
+#[cycle(handlers)]
 fn status_transfer(
     n: u8,
     empty: bool,
@@ -208,7 +210,7 @@ fn status_transfer(
 }
 
 // 5, 6 and 8 enter 3 here, in the same poll. The status is unread then, so `found`, `direction` and `length` do not count.
-#[cycle(enter_from_host_from_host_ending_no_data_read_cbw_start_status_await_status_transfer_to_host_to_host_ending)]
+#[cycle(handlers)]
 fn enter(n: u8) -> Act
     requires { 1 ≤ n }
     ensures { result ≡ Enter }
@@ -224,7 +226,7 @@ fn enter(n: u8) -> Act
 }
 
 // State 4 sends data until none is left or a status is present.
-#[cycle(enter_from_host_from_host_ending_no_data_read_cbw_start_status_await_status_transfer_to_host_to_host_ending)]
+#[cycle(handlers)]
 fn to_host(n: u8, left: u32, present: bool) -> Act
     requires { 1 + extra present ≤ n }
     ensures { result ≡ to_host_act left present }
@@ -239,7 +241,7 @@ fn to_host(n: u8, left: u32, present: bool) -> Act
 }
 
 // State 5 waits for a status, and a status that is present is sent at once.
-#[cycle(enter_from_host_from_host_ending_no_data_read_cbw_start_status_await_status_transfer_to_host_to_host_ending)]
+#[cycle(handlers)]
 fn status_await(n: u8, present: bool) -> Act
     requires { extra present ≤ n }
     ensures { result ≡ status_await_act present }
@@ -251,7 +253,7 @@ fn status_await(n: u8, present: bool) -> Act
 }
 
 // State 6 sends what is unread and then filler until nothing is left, because the host still expects data.
-#[cycle(enter_from_host_from_host_ending_no_data_read_cbw_start_status_await_status_transfer_to_host_to_host_ending)]
+#[cycle(handlers)]
 fn to_host_ending(n: u8, left: u32) -> Act
     requires { 2 ≤ n }
     ensures { result ≡ to_host_ending_act left }
@@ -263,7 +265,7 @@ fn to_host_ending(n: u8, left: u32) -> Act
 }
 
 // State 7 reads data until none is left or a status is present.
-#[cycle(enter_from_host_from_host_ending_no_data_read_cbw_start_status_await_status_transfer_to_host_to_host_ending)]
+#[cycle(handlers)]
 fn from_host(n: u8, left: u32, present: bool) -> Act
     requires { 1 + extra present ≤ n }
     ensures { result ≡ from_host_act left present }
@@ -278,7 +280,7 @@ fn from_host(n: u8, left: u32, present: bool) -> Act
 }
 
 // State 8 reads data and drops it until nothing is left, because the host still sends it.
-#[cycle(enter_from_host_from_host_ending_no_data_read_cbw_start_status_await_status_transfer_to_host_to_host_ending)]
+#[cycle(handlers)]
 fn from_host_ending(n: u8, left: u32) -> Act
     requires { 2 ≤ n }
     ensures { result ≡ from_host_ending_act left }

@@ -13,7 +13,7 @@ use native.Mathlib.Numerals.{add-one}
 use lib.Dec.{eqb, leb}
 use lib.ListN.{length, get_or, drop, get_or-map}
 use lib.Seq.{drop-cons}
-use borrow.Author.Tests.{eq-eqb, ne_eqb, not_true, leb-true}
+use borrow.Author.Tests.{eq-eqb, ne_eqb, not-true, leb-true}
 use Rattle.fields.specs.Field.{Bits, bits, get_bits}
 use Rattle.fields.proofs.Bools.{and_left, and_right}
 use Rattle.scsi.specs.declared.PageControl.{PageControl}
@@ -111,7 +111,7 @@ known_by (r ∷ rs) op n b k e =
   where
     picked : (h : Bool) → cond h (leb r.shortest n) (lists rs op n) ≡ true
         → (lists rs op n ≡ true → is_unknown (fields_by rs op b) ≡ false) → is_unknown (cond h (r.fields b) (fields_by rs op b)) ≡ false
-    picked true e behind = not_true _ (and_left (not (is_unknown (r.fields b))) (all_known rs b) k)
+    picked true e behind = not-true _ (and_left (not (is_unknown (r.fields b))) (all_known rs b) k)
     picked false e behind = behind e
 
 rows_known : (b : List ℕ) → all_known rows b ≡ true

@@ -2,6 +2,8 @@
 //     table       which opcodes are listed, and how long a block has to be
 //     commands    the fields of each listed command
 //     numbers     a command as six numbers, for callers in C and Rust
+#![tactic(auto)]
+
 mod commands;
 pub mod numbers;
 mod table;
@@ -14,7 +16,7 @@ use crate::table::listed;
 use fields::byte;
 
 // A MODE SENSE asks for one of these kinds of values.
-#[derive(Drop)]
+#[derive(Clone, Copy)]
 pub enum PageControl {
     CurrentValues,
     ChangeableValues,
@@ -23,7 +25,7 @@ pub enum PageControl {
 }
 
 // A block decodes to one of these commands. They are named and ordered as in the Rust.
-#[derive(Drop)]
+#[derive(Clone, Copy)]
 pub enum ScsiCommand {
     Unknown {
         cmd: u8,
@@ -70,7 +72,7 @@ pub enum ScsiCommand {
 }
 
 // A block with at least one byte decodes to a command.
-#[derive(Drop)]
+#[derive(Clone, Copy)]
 pub enum Decoded {
     Command(ScsiCommand),
     // The block has no byte, and so no opcode.

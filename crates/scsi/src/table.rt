@@ -3,7 +3,7 @@ ghost use Rattle.std.specs.Prelude.{◌≡◌};
 ghost use Rattle.scsi.specs.Decoding.{rows, lists, opcode_counts, is_listed};
 
 // A row has an opcode, and the length of its shortest block.
-#[derive(Drop)]
+#[derive(Clone, Copy)]
 pub(crate) struct Row(u8, u8);
 
 // These are document 01's twelve rows, in its order.

@@ -4,15 +4,15 @@ ghost use Rattle.std.specs.Prelude.{◌≡◌};
 ghost use Rattle.wrapper.specs.Counters.{fallen, residue_of, risen};
 
 // This many bytes of L have not crossed the wire yet.
-#[derive(Drop)]
+#[derive(Clone, Copy)]
 pub struct Left(pub u32);
 
 // This many bytes of L were not processed, by the firmware's figure.
-#[derive(Drop)]
+#[derive(Clone, Copy)]
 pub struct Residue(pub u32);
 
 // This many bytes were accepted by the two write calls since the wrapper.
-#[derive(Drop)]
+#[derive(Clone, Copy)]
 pub struct PutIn(pub u32);
 
 // Gives `left` after `moved` bytes crossed the wire. It never falls below 0.

@@ -1,6 +1,8 @@
 // This is the wrapper (CBW) of document 01, after bbb.rs. The modules have the status (CSW), three counters, and BOT's verdict on a
 // message. Every entry of this crate takes any bytes of any length and any number, and ends with an answer. Two public functions are for
 // the layers above and require 31 bytes: `head_of` and `read_wrapper`. Their callers have tested the message before.
+#![tactic(auto)]
+
 pub mod counters;
 pub mod in_status;
 pub mod in_wrapper;
@@ -18,7 +20,7 @@ use fields::{bits_of, byte, le32};
 pub const SIGNED: u32 = 0x43425355;
 
 // The data goes from the host (Out) or to the host (In), or there is none (NotExpected).
-#[derive(Drop)]
+#[derive(Clone, Copy)]
 pub enum DataDirection {
     Out,
     In,
@@ -26,7 +28,7 @@ pub enum DataDirection {
 }
 
 // A wrapper has these fields. `length` is L, and `blocklength` says how many bytes of `block` are the command.
-#[derive(Drop)]
+#[derive(Clone, Copy)]
 pub struct Wrapper {
     pub tag: u32,
     pub length: u32,
@@ -37,7 +39,7 @@ pub struct Wrapper {
 }
 
 // A wrapper without its command block is enough for a poll to decide.
-#[derive(Drop)]
+#[derive(Clone, Copy)]
 pub struct Head {
     pub tag: u32,
     pub length: u32,
@@ -47,7 +49,7 @@ pub struct Head {
 }
 
 // A parsed message is valid and has all its fields, or it is invalid and all fields are blank.
-#[derive(Drop)]
+#[derive(Clone, Copy)]
 pub struct Parsed {
     pub valid: bool,
     pub wrapper: Wrapper,

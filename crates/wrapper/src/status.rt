@@ -12,7 +12,7 @@ use crate::in_status;
 pub const SIGNED: u32 = 0x53425355;
 
 // A command ends in one of these three ways.
-#[derive(Drop)]
+#[derive(Clone, Copy)]
 pub enum CommandStatus {
     Passed,
     Failed,
@@ -20,7 +20,7 @@ pub enum CommandStatus {
 }
 
 // A status byte stands for a status, or is refused.
-#[derive(Drop)]
+#[derive(Clone, Copy)]
 pub enum StatusByte {
     Known(CommandStatus),
     Refused,

@@ -6,7 +6,7 @@ use crate::in_wrapper;
 use fields::{bits_of, byte};
 
 // A message gets one of these three verdicts.
-#[derive(Drop)]
+#[derive(Clone, Copy)]
 pub enum Verdict {
     Invalid,
     ValidOnly,

@@ -1,0 +1,10 @@
+-- `benchfile::event::may_stand` meets its contract. Assumes nothing.
+use Rattle.std.proofs.Common.{rules}
+use Rattle.benchfile.proofs.Rules.{rules}
+use Rattle.benchfile.proofs.event.may_stand.Goals as goal
+
+pub returns-then-first : goal.returns-then-first
+returns-then-first c = ?
+
+pub returns : goal.returns
+returns c = ?

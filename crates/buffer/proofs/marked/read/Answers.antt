@@ -1,0 +1,8 @@
+-- `buffer::marked::read` meets its contract: `given` says what is copied. Assumes nothing.
+use Rattle.std.proofs.Common.{rules}
+use Rattle.buffer.proofs.Ways.{reads}
+use Rattle.buffer.proofs.marked.read.Goals as goal
+
+pub returns : goal.returns
+returns c =
+    reads _ _ _ _ c.requires.0 c.least-n.ensures _ c.put.ensures

@@ -1,0 +1,10 @@
+-- `buffer::marked::write` meets its contract: `written` says what its three calls leave. Assumes nothing.
+use Rattle.std.proofs.Common.{rules}
+use mathlib.Core.Path.{sym}
+use native.Mathlib.Omega.{arith}
+use Rattle.buffer.proofs.Ways.{cut, fits, writes}
+use Rattle.buffer.proofs.marked.write.Goals as goal
+
+pub returns : goal.returns
+returns c =
+    (fits _ _ _ _ c.make_room-t.ensures c.least-n.ensures, writes _ _ _ _ c.requires c.make_room-t.ensures c.least-n.ensures _ c.put.ensures)

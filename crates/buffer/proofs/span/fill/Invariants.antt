@@ -1,0 +1,11 @@
+use mathlib.Core.Path.{sym}
+use Prim.Native.Nat.{◌-◌}
+use lib.ListN.{replicate, length-replicate, get_or-replicate}
+use Rattle.fields.proofs.Overlay.{Laid, laid_start, laid_turn, laid_end}
+use Rattle.buffer.proofs.span.fill.Given as goal
+
+abbrev pub invariant-loop-i : goal.invariant-loop-i
+invariant-loop-i l = Laid l.initial.io l.at (replicate l.n l.v) l.i l.io
+
+abbrev pub decreases-loop-i : goal.decreases-loop-i
+decreases-loop-i l = l.n - l.i

@@ -1,0 +1,11 @@
+use Prim.Native.Nat.{◌-◌}
+use lib.ListN.{take, drop}
+use Rattle.fields.proofs.Overlay.{Laid, laid_start, laid_turn, laid_end, unmoved}
+use Rattle.fields.proofs.Seq.{length_part}
+use Rattle.buffer.proofs.span.move_bytes.Given as goal
+
+abbrev pub invariant-loop-i : goal.invariant-loop-i
+invariant-loop-i l = Laid l.initial.io l.at (take l.n (drop l.from l.initial.io)) l.i l.io
+
+abbrev pub decreases-loop-i : goal.decreases-loop-i
+decreases-loop-i l = l.n - l.i

@@ -1,0 +1,7 @@
+-- `fields::byte` meets its contract. Assumes nothing.
+use Rattle.std.proofs.Common.{rules}
+use Rattle.fields.proofs.Field.{byte_read}
+use Rattle.fields.proofs.byte.Goals as goal
+
+pub returns : goal.returns
+returns c = byte_read _ _ (search rules) (c.shared_slice_known-1.given _).fits

@@ -1,8 +1,0 @@
--- `scsi::numbers::decode_told_into` meets its contract: it decodes as the entry that is told does. Assumes nothing.
-use borrow.Author.Rules.{rules}
-use Rattle.scsi.proofs.Six.{ways}
-use Rattle.scsi.proofs.numbers.decode_told_into.Statement.{statement}
-use Rattle.scsi.proofs.numbers.decode_told_into.Tie as tie
-
-pub decode_told_into_spec : {M : Type 1} → statement M
-decode_told_into_spec = tie.close (tie.spec (λ c. search (ways, rules)) (λ c. search rules) (λ c. search rules) (λ c. search (ways, rules)))

@@ -1,0 +1,13 @@
+-- `wrapper::valid` meets its contract: it makes the two tests in turn. Assumes nothing.
+use Rattle.std.proofs.Common.{rules}
+use Rattle.wrapper.proofs.Cbw.{ways}
+use Rattle.wrapper.proofs.valid.Goals as goal
+
+pub byte-requires : goal.byte-requires
+byte-requires c = search (ways, rules)
+
+pub returns-then-signed : goal.returns-then-signed
+returns-then-signed c = search (ways, rules)
+
+pub returns : goal.returns
+returns c = search (ways, rules)
