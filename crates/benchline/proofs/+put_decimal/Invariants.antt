@@ -1,5 +1,5 @@
-use Prim.Native.Nat.{ℕ, ◌<◌}
-use Rattle.benchline.proofs.Ways.{ways}
-use Rattle.benchline.proofs.+put_decimal.{statement}
+-- The digits before the last are those of n / 10. Assumes nothing.
 use Rattle.benchline.proofs.+put_decimal.Given as goal
 
+abbrev pub decreases-put_decimal : goal.decreases-put_decimal
+decreases-put_decimal l = l.n
