@@ -1,5 +1,4 @@
 -- `benchfile::event::may_stand` meets its contract. Assumes nothing.
-use Rattle.std.proofs.Common.{rules}
 use Rattle.benchfile.proofs.Rules.{rules}
 use Rattle.benchfile.proofs.event.may_stand.Goals as goal
 

@@ -1,5 +1,4 @@
 -- `benchfile::event::step_fits` meets its contract. Assumes nothing.
-use Rattle.std.proofs.Common.{rules}
 use Rattle.benchfile.proofs.Rules.{rules}
 use Rattle.benchfile.proofs.event.step_fits.Goals as goal
 
