@@ -1,4 +1,6 @@
 // The device record, a test whether it is broken, and its creation.
+#![tactic(auto)]
+
 pub mod create;
 
 ghost use Rattle.std.specs.Prelude.{◌≡◌, true, false};

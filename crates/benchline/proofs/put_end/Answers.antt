@@ -15,7 +15,7 @@ pub bounds-text-end : goal.bounds-text-end
 bounds-text-end c = search (ways, rules)
 
 pub overflow_add-result : goal.overflow_add-result
-overflow_add-result c = omega (arith, slice-write-text-2 c, simp length-set at (same_length c))
+overflow_add-result c = omega (arith, bounds-text-end c, simp length-set at (c.put_decimal-end.auto.text))
 
 pub returns : goal.returns
 returns c = search (ways, rules)
