@@ -6,6 +6,8 @@
 //     act      the act is done in one place: a packet crosses the wire, or none
 // In every function `io` is the IO buffer, `packet` is the packet buffer, `one` and `two` are the offered packets, and `turn` holds the
 // endpoints' answers.
+#![tactic(auto)]
+
 mod act;
 pub mod open;
 

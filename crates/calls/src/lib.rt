@@ -1,6 +1,8 @@
 // The firmware and the bus make these calls between polls, on the record by value. Every call takes any record, any buffers and any
 // numbers, and ends with one of document 01's answers; 10 is checked first. `device` is the record and `io` is the IO buffer.
 //     command    the command shown to the firmware, and the command step
+#![tactic(auto)]
+
 pub mod command;
 
 ghost use Rattle.std.specs.Prelude.{◌≡◌, not};

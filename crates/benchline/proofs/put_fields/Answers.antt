@@ -15,7 +15,7 @@ pub bounds-text-end : goal.bounds-text-end
 bounds-text-end c = search (ways, rules)
 
 pub overflow_add-result : goal.overflow_add-result
-overflow_add-result c = omega (arith, slice-write-text c)
+overflow_add-result c = omega (arith, bounds-text-end c)
 
 pub returns : goal.returns
 returns c = search (ways, rules)

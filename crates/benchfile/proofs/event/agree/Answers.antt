@@ -3,7 +3,7 @@ use Rattle.benchfile.proofs.Rules.{rules}
 use Rattle.benchfile.proofs.event.agree.Goals as goal
 
 pub returns-then-answer-eq0 : goal.returns-then-answer-eq0
-returns-then-answer-eq0 c = ?
+returns-then-answer-eq0 c = search rules
 
 pub returns : goal.returns
-returns c = ?
+returns c = search rules

@@ -3,7 +3,7 @@ use Rattle.benchfile.proofs.Rules.{rules}
 use Rattle.benchfile.proofs.event.may_stand.Goals as goal
 
 pub returns-then-first : goal.returns-then-first
-returns-then-first c = ?
+returns-then-first c = search rules
 
 pub returns : goal.returns
-returns c = ?
+returns c = search rules

@@ -1,8 +1,0 @@
--- `calls::command::command_step` meets its contract: it makes the step that is told, with extended addressing on. Assumes nothing.
-use borrow.Author.Rules.{rules}
-use Rattle.calls.proofs.Laws.{ways}
-use Rattle.calls.proofs.command.command_step.Statement.{statement}
-use Rattle.calls.proofs.command.command_step.Tie as tie
-
-pub command_step_spec : {M : Type 1} → statement M
-command_step_spec = tie.close (tie.spec (λ c. search rules) (λ c. search (ways, rules)))
