@@ -14,7 +14,7 @@ pub returns-then-not-e : goal.returns-then-not-e
 returns-then-not-e c = search (walks, rules)
 
 pub overflow_add-at-in-loop-at : goal.overflow_add-at-in-loop-at
-overflow_add-at-in-loop-at c = search (walks, rules)
+overflow_add-at-in-loop-at c = omega (arith, goes_within _ _ c.loop-at.invariant c.loop-at-test.true c.event_at-e.ensures c.if-not-e.false)
 
 pub loop-at-preserved : goal.loop-at-preserved
 loop-at-preserved c = search (walks, rules)
