@@ -7,25 +7,25 @@ use Rattle.bbb.proofs.poll.Goals as goal
 
 pub open-o-requires : goal.open-o-requires
 open-o-requires c =
-    (tested _ _ c.whole.ensures c.if-whole.true, first_fits _ _ _ _ c.fits2.ensures c.if-fits.true)
+    (tested _ _ c.whole.ensures c.if-whole.true, first_fits _ _ _ _ c.fits.ensures c.if-fits.true)
 
 pub go_on-c-requires : goal.go_on-c-requires
 go_on-c-requires c =
     (
       (tested _ _ c.whole.ensures c.if-whole.true).order,
-      c.«open».ensures.sound,
-      c.«open».ensures.once,
-      is_fitting_lem _ _ _ _ c.fits2.ensures c.if-fits.true,
+      c.open-o.ensures.sound,
+      c.open-o.ensures.once,
+      is_fitting_lem _ _ _ _ c.fits.ensures c.if-fits.true,
     )
 
 pub returns-then-fits : goal.returns-then-fits
 returns-then-fits c =
-    polls _ _ _ c.numbers_of-n.ensures c.whole.ensures c.if-whole.true c.fits2.ensures c.if-fits.true c.go_on-c.result
-    c.«open».ensures c.go_on-c.ensures c.wrapper_then-w.ensures c.put_in_then-putin.ensures c.changed-d.ensures
+    polls _ _ _ c.numbers_of-n.ensures c.whole.ensures c.if-whole.true c.fits.ensures c.if-fits.true c.go_on-c.result
+    c.open-o.ensures c.go_on-c.ensures c.wrapper_then-w.ensures c.put_in_then-putin.ensures c.changed-d.ensures
 
 pub returns-then-whole : goal.returns-then-whole
 returns-then-whole c =
-    refused_11 _ _ _ c.numbers_of-n.ensures c.whole.ensures c.if-whole.true c.fits2.ensures c.if-fits.false c.refused.ensures
+    refused_11 _ _ _ c.numbers_of-n.ensures c.whole.ensures c.if-whole.true c.fits.ensures c.if-fits.false c.refused.ensures
 
 pub returns : goal.returns
 returns c =
