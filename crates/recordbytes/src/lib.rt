@@ -4,6 +4,8 @@
 //     numbers_at, device_at    what they hold
 //     store                    a device's parts written back, one by one
 // In every function `r` is the bytes of the record.
+#![tactic(auto)]
+
 pub mod in_record;
 pub mod store;
 

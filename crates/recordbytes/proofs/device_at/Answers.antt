@@ -1,0 +1,7 @@
+-- `recordbytes::device_at` meets its contract: it reads three fields and the four parts. Assumes nothing.
+use Rattle.std.proofs.Common.{rules}
+use Rattle.recordbytes.proofs.Reading.{ways}
+use Rattle.recordbytes.proofs.device_at.Goals as goal
+
+pub returns : goal.returns
+returns c = search (ways, rules)
