@@ -4,6 +4,8 @@
 //     create    a new record
 //     status    the status of the command
 //     bus       a reset, and control requests
+#![tactic(auto)]
+
 pub mod bus;
 pub mod create;
 pub mod status;

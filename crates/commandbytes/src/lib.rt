@@ -2,6 +2,8 @@
 // first what it was lent. A refusal with 10 leaves all of it as it was.
 // The block is shown and decoded where it stands in the record: copies of the block, and of the command by value, would be most of what
 // these calls need of the firmware's stack.
+#![tactic(auto)]
+
 ghost use Rattle.std.specs.Prelude.{◌≡◌, ◌&&◌, ◌≤◌, length};
 ghost use Rattle.fields.specs.Field.{get};
 ghost use Rattle.scsi.specs.Decoding.{decode_call};

@@ -3,6 +3,8 @@
 // read. The tests may miss such a poll: then the ring makes it. They are in an order in which few numbers have to be kept, and so the
 // compiler needs almost no stack for them (docs/READOUT.md).
 //     ending    the poll that sends the status
+#![tactic(auto)]
+
 pub mod ending;
 
 ghost use Rattle.std.specs.Prelude.{◌≡◌, true, cond, ◌&&◌, leb, eqb, length};

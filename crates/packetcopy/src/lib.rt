@@ -1,4 +1,6 @@
 // A packet of one of the four packet sizes is copied. The compiler knows each size, and so it moves the bytes without a loop.
+#![tactic(auto)]
+
 ghost use Rattle.std.specs.Prelude.{◌≡◌, cond, ◌+◌, ◌≤◌, length, take, drop};
 ghost use Rattle.fields.specs.Overlay.{overlay};
 ghost use Rattle.device.specs.Create.{is_packet_size};

@@ -1,0 +1,17 @@
+-- `callbytes::status::set_status` meets its contract: it refuses, or makes the call by value on the device that the bytes hold. Only the
+-- status can change. Assumes nothing.
+use Rattle.std.proofs.Common.{rules}
+use Rattle.callbytes.proofs.Ways.{ways}
+use Rattle.callbytes.proofs.status.set_status.Goals as goal
+
+pub returns-then-not-known : goal.returns-then-not-known
+returns-then-not-known c = search (ways, rules)
+
+pub device_at-requires : goal.device_at-requires
+device_at-requires c = search (ways, rules)
+
+pub status-requires : goal.status-requires
+status-requires c = search (ways, rules)
+
+pub returns : goal.returns
+returns c = search (ways, rules)
