@@ -1,5 +1,6 @@
 -- `onward::ending::ends_on` meets its contract, test by test. Assumes nothing.
-use Rattle.std.proofs.Common.{rules}
+use Rattle.std.proofs.Common.{rules, ap}
+use mathlib.Core.Bool.{not}
 use Rattle.onward.proofs.Entering.{may_end}
 use Rattle.onward.proofs.Going.{fails}
 use Rattle.onward.proofs.ending.ends_on.Goals as goal
@@ -7,4 +8,4 @@ use Rattle.onward.proofs.ending.ends_on.Goals as goal
 pub returns : goal.returns
 returns c =
     may_end c.args.«record».now c.args.len c.args.packet c.args.one c.args.two c.args.write c.if-record-ne-SIZE.false c.byte-state.ensures c.if-state-lt4.false c.if-state-gt8.false c.byte.ensures c.if-byte-ne1.false c.if-write-ne0.false c.le32.ensures c.if-le32-ne0.false
-    c.steady.ensures c.if-not-steady.false c.byte-p.ensures c.fits2.ensures c.if-not-fits.false c.le32-to.ensures c.if-len-to.false c.le32-2.ensures c.if-to-le32.false c.is_packet_size.ensures
+    c.steady.ensures (ap not c.if-not-steady.false) c.byte-p.ensures c.fits.ensures (ap not c.if-not-fits.false) c.le32-to.ensures c.if-len-to.false c.le32-2.ensures c.if-to-le32.false c.is_packet_size.ensures
