@@ -1,6 +1,8 @@
 // The call that an event stands for. The bytes `lent` are lent to each call: they are the packet buffer of a poll and the destination of
 // a read, and LUN and block, or the answer to a control request, are put there. A line shows the first of them. `body` are the bytes of
 // the event after its first three.
+#![tactic(auto)]
+
 ghost use Rattle.std.specs.Prelude.{◌≡◌, true, ◌≤◌, length};
 ghost use Rattle.calls.specs.Bus.{replied};
 ghost use Rattle.calls.specs.Command.{offered_of};

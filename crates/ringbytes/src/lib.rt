@@ -1,4 +1,6 @@
 // One poll of a record of bytes: first the checks, and then the whole ring.
+#![tactic(auto)]
+
 ghost use Rattle.std.specs.Prelude.{◌≡◌, true, cond, ◌<◌, ◌^◌, length};
 ghost use Rattle.answers.specs.Answers as answers;
 ghost use Rattle.buffer.specs.Buffer.{buffer};

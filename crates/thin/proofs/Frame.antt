@@ -10,7 +10,7 @@ use Prim.Native.Nat.{ℕ, zero}
 use mathlib.Core.Path.{◌≡◌, refl, sym, subst}
 use mathlib.Core.List.{[], ◌∷◌, List}
 use seplogic.Ra.Ura.{Ura}
-use seplogic.Ra.TreeShare.{full_share}
+use base.Fraction.{full_share}
 use mir.Syntax.{Ty, Local, local, value_local, Step as PStep, place, Opd as Operand}
 use mir.Val.{Val}
 use base.Logic.{ent, via}

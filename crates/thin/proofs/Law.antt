@@ -11,7 +11,7 @@ use mathlib.Core.Path.{◌≡◌, refl, ap, subst}
 use mathlib.Core.List.{[], ◌∷◌, List, ◌++◌}
 use lib.ListN.{length}
 use seplogic.Ra.Ura.{Ura}
-use mir.Syntax.{Name, Fn, named, imm, w8, ty_int, ty_ref}
+use mir.Syntax.{Callee, Fn, named, imm, w8, ty_int, ty_ref}
 use mir.Val.{Val}
 use base.Logic.{SProp, ent, sep, wand, emp, via, comm∗, assoc∗, assoc', mono_r, fst∗, wand_i, apply∗}
 use base.Fml.{Lft, fsep}
@@ -26,8 +26,8 @@ use denote.RattleType.{Denots, Valss, owns, flat}
 use denote.Laws.{Are, Ises, Spells, valss, Tellss}
 use denote.Builtin.{u8}
 use denote.Exit.{yes}
-use denote.Ref.{Bor, MutRef, shr_vals, mut_vals, mut_Tells}
-use denote.Slice.{slice_val, slice_ty, shr_slice_vals, mut_slice_Tells, shr_slice_Tells}
+use denote.Ref.{MutBor, MutRef, mut_vals, mut_Tells}
+use denote.Slice.{slice_val, slice_ty, mut_slice_vals, shr_slice_vals, mut_slice_Tells, shr_slice_Tells}
 use denote.Signature.{Signature, Slot, plain, mut_slice_of, shr_slice_of, types_at}
 use denote.Steps.{said}
 use denote.Triple.End.{Kepts, all, Outs}
@@ -61,7 +61,7 @@ module _ {n : ℕ} where
   module _ (κs : Lfts n) where
     abbrev pub all_values : (ks : List (Kind n)) → Spells (types_at (slots ks) κs)
     all_values [] = tt
-    all_values (mutable i ok ∷ ks) = (shr_slice_vals, all_values ks)
+    all_values (mutable i ok ∷ ks) = (mut_slice_vals, all_values ks)
     all_values (shared i ok ∷ ks) = (shr_slice_vals, all_values ks)
     all_values (given P ∷ ks) = ((λ y. P.val y ∷ []), all_values ks)
 
@@ -112,7 +112,7 @@ module _ (D X : Data) (O : Pair D X) {n : ℕ} (ks : List (Kind n)) where
     abbrev pub TheCore : {M : Type 1} {𝓤 : Ura M} (𝓛 : Logic 𝓤) → Contract 𝓤
     TheCore 𝓛 = Core D X O n ss kept Rel 𝓛
 
-    abbrev pub the_thin : Name → Fn
+    abbrev pub the_thin : Callee → Fn
     the_thin k = thin D X O n ss kept Rel (passed suc ks) k
 
     module _ {M : Type 1} {𝓤 : Ura M} (𝓛 : Logic 𝓤) where
@@ -121,7 +121,7 @@ module _ (D X : Data) (O : Pair D X) {n : ℕ} (ks : List (Kind n)) where
       open 𝓛 use {H, A}
 
       abbrev Chosen : Type 0
-      Chosen = ((κs : Lfts (suc n)) × (qs : Shares (suc n)) × (Unit {0}) × (Bor D.row.Denot × Args κs.1) × (List Val × Vals κs.1)) × (Unit {0})
+      Chosen = ((κs : Lfts (suc n)) × (qs : Shares (suc n)) × (Unit {0}) × (MutBor D.row.Denot × Args κs.1) × (List Val × Vals κs.1)) × (Unit {0})
 
       module _ (y : Chosen) where
         abbrev κ : Lft
@@ -136,7 +136,7 @@ module _ (D X : Data) (O : Pair D X) {n : ℕ} (ks : List (Kind n)) where
         abbrev tokens : SProp 𝓤
         tokens = toks 𝓛 n κs y.0.1.1
 
-        abbrev x : Bor D.row.Denot
+        abbrev x : MutBor D.row.Denot
         x = y.0.3.0
 
         abbrev a : Args κs
@@ -163,14 +163,14 @@ module _ (D X : Data) (O : Pair D X) {n : ℕ} (ks : List (Kind n)) where
         post = post;
       }
 
-      module _ (C : Calls 𝓤 H) (Λ : Loops 𝓤 H) (k : Name) (fm : FmC 𝓤 H 𝓛.laws C) (known : Triple 𝓤 (C k) (TheCore 𝓛)) where
+      module _ (C : Calls 𝓤 H) (Λ : Loops 𝓤 H) (k : Callee) (fm : FmC 𝓤 H 𝓛.laws C) (known : Triple 𝓤 (C k) (TheCore 𝓛)) where
         module _ (y : Chosen) where
           -- These are the machine values of the arguments.
           abbrev spelt : Vals (κs y)
           spelt = valss (types_at ss (κs y)) (all_values (κs y) ks) (a y)
 
           abbrev told : List Val × Vals (κs y)
-          told = (shr_vals (x y), spelt)
+          told = (mut_vals (x y), spelt)
 
           abbrev runs : List Val × Vals (κs y) → SProp 𝓤
           runs vss = WpFn 𝓤 H C Λ (the_thin k) (row y vss) (post y)
@@ -202,7 +202,7 @@ module _ (D X : Data) (O : Pair D X) {n : ℕ} (ks : List (Kind n)) where
 
     -- The same holds of a function `f` whose code is thin, in the environment γ of that code, in which the core means a routine that is
     -- proved.
-    module _ {M : Type 1} {𝓤 : Ura M} (𝓛 : Logic 𝓤) (𝓜 : Model 𝓤 𝓛.H) (𝓡 : Running 𝓤 𝓛.H 𝓜) (γ : Env) (f core : Name) (body : Routine) where
+    module _ {M : Type 1} {𝓤 : Ura M} (𝓛 : Logic 𝓤) (𝓜 : Model 𝓤 𝓛.H) (𝓡 : Running 𝓤 𝓛.H 𝓜) (γ : Env) (f core : Callee) (body : Routine) where
       open 𝓛 use {H}
 
       abbrev 𝓣 : MachineTables 𝓤 H 𝓜

@@ -13,8 +13,8 @@ use Prim.Native.Nat.{ℕ, zero, suc}
 use mathlib.Core.Path.{◌≡◌, refl, sym, ap, subst}
 use mathlib.Core.List.{[], ◌∷◌, List}
 use seplogic.Ra.Ura.{Ura}
-use seplogic.Ra.TreeShare.{full_share}
-use mir.Syntax.{Ty, Name, Fn, Body, Local, local, value_local, memory_slot, place, copy, assign, rv_opd, addr_of, aggregate, call, seq, return, named, erased, mut, ty_ref}
+use base.Fraction.{full_share}
+use mir.Syntax.{Ty, Callee, Fn, Body, Local, local, value_local, memory_slot, place, copy, assign, rv_opd, addr_of, aggregate, call, seq, return, named, erased, mut, ty_ref}
 use mir.Val.{Val, vptr, vstruct, vcons, vnil}
 use mir.Raw.{raw as raw-type}
 use base.Logic.{SProp, ent, sep, emp, ex, guard, id⊢, via, fst∗}
@@ -129,13 +129,15 @@ module _ (D X : Data) (O : Pair D X) (B : Built D X O) {n : ℕ} (ks : List (Kin
       seq (assign (place w []) (rv_opd (copy (place d []))))
       (seq (assign (place 0 []) (aggregate (copy (place w []) ∷ copy (place x []) ∷ []))) return)
 
-  abbrev calls_thin : Name → Body
+  abbrev calls_thin : Callee → Body
   calls_thin k = seq (call k (copy (place r []) ∷ operands ps 2 t) (place x [])) takes_back
 
-  abbrev pub lender : Name → Fn
+  abbrev pub lender : Callee → Fn
   lender k = record {
     lifetimes = n;
     outlives = [];
+    ty_params = [];
+    givens = 0;
     params = suc (local_after ps 0);
     locals = local τ value_local ∷ local D.ty value_local ∷ locals (tys ps) own_locals;
     body = seq (assign (place d []) (rv_opd (copy (place 1 [])))) (seq (assign (place r []) (addr_of (place d []))) (borrowing ps 2 t (calls_thin k)));
@@ -147,16 +149,16 @@ module _ (D X : Data) (O : Pair D X) (B : Built D X O) {n : ℕ} (ks : List (Kin
     own_env = (D.ty, ld) ∷ (X.ty, lx) ∷ (D.ty, lw) ∷ (ref_ty, lr) ∷ []
 
     abbrev last : Env 𝓤 H
-    last = last_env 𝓤 H (τ, lo) (D.ty, lv) own_env ps bs cs
+    last = last_env 𝓤 H (τ, lo) (D.ty, lv) own_env [] ps bs cs
 
     abbrev E : Env 𝓤 H
-    E = whole_env 𝓤 H (τ, lo) (D.ty, lv) own_env ps bs cs
+    E = whole_env 𝓤 H (τ, lo) (D.ty, lv) own_env [] ps bs cs
 
     at_own : (i : ℕ) → spot_of 𝓤 H E (own_place i) ≡ spot_of 𝓤 H last i
-    at_own = own_found 𝓤 H (τ, lo) (D.ty, lv) own_env ps bs cs
+    at_own = own_found 𝓤 H (τ, lo) (D.ty, lv) own_env [] ps bs cs
 
     ps_found : Found 𝓤 H E ps 2 t bs cs
-    ps_found = found 𝓤 H (τ, lo) (D.ty, lv) own_env ps bs cs
+    ps_found = found 𝓤 H (τ, lo) (D.ty, lv) own_env [] ps bs cs
 
   module _ {M : Type 1} {𝓤 : Ura M} (𝓛 : Logic 𝓤) (κs : Lfts n) (qs : Shares n)
       (h : D.row.Denot) (a : Denots (types_at ss κs)) (vss : Valss (types_at ss κs)) where
@@ -216,7 +218,8 @@ module _ (D X : Data) (O : Pair D X) (B : Built D X O) {n : ℕ} (ks : List (Kin
 
       -- It leaves its answer y, and with it the last values and the promise.
       abbrev thin_says : X.row.Denot → D.row.Denot × Fins κs ss kept a → Item 𝓤
-      thin_says y zs = ‵ (fsep (fres γ (D.row.coded.code zs.0)) (lasts_of κs ss kept a zs.1)) ⊛ raw (fact 𝓤 (Related zs.0 y zs.1))
+      thin_says y zs =
+          ‵ (fsep (left ((MutRef (named 0) (α ∷ []) D.row).exit yes) lent zs.0) (lasts_of κs ss kept a zs.1)) ⊛ raw (fact 𝓤 (Related zs.0 y zs.1))
 
       abbrev thin_left : Val → X.row.Denot → Item 𝓤
       thin_left u y = ((the_token ⊛ raw tokens) ⊛ ‵ (X.row.own_val y (u ∷ []))) ⊛ some (thin_says y)
@@ -224,7 +227,7 @@ module _ (D X : Data) (O : Pair D X) (B : Built D X O) {n : ℕ} (ks : List (Kin
     -- ---- the walk
 
     module _ (is : Is D.row h (D.val h ∷ [])) (hs : Helds ps) (same : values (tys ps) (helds ps hs) ≡ flat (types_at ss κs) vss)
-        (C : Calls 𝓤 H) (Λ : Loops 𝓤 H) (k : Name) (fm : FmC 𝓤 H 𝓛.laws C) (known : Triple 𝓤 (C k) (Thin D X O ks Rel 𝓛)) where
+        (C : Calls 𝓤 H) (Λ : Loops 𝓤 H) (k : Callee) (fm : FmC 𝓤 H 𝓛.laws C) (known : Triple 𝓤 (C k) (Thin D X O ks Rel 𝓛)) where
       lender_runs : ent 𝓤 (sep 𝓤 tokens (sem 𝓛 (fsep (D.row.own_val h (D.val h ∷ [])) (owns (types_at ss κs) a vss))))
           (WpFn 𝓤 H C Λ (lender k) (D.val h ∷ values (tys ps) (helds ps hs)) Exit)
       lender_runs =
@@ -247,7 +250,7 @@ module _ (D X : Data) (O : Pair D X) (B : Built D X O) {n : ℕ} (ks : List (Kin
           (subst (Opds Go 𝓛 _ _ (operands ps 2 t)) same
           (opds_as ! (λ G. move ! (1 ∷ 2 ∷ 0 ∷ [])) (λ G. move ! (2 ∷ 0 ∷ 1 ∷ [])) (passed_on ! _ ps hs 2 t bs cs (ps_found 𝓤 H lo lv ld lx lw lr bs cs))))) (λ u.
           use1 𝓛 (later (some (thin_left α γ ld u))) (id⊢ 𝓤 _) $ await ! tt $ pick ! (λ y. split ! $ move ! (1 ∷ []) $ pick ! (λ zs. split ! $ move ! (1 ∷ []) $
-          heard ! (Related zs.0 y zs.1) (λ e. fsplit ! $ move ! (2 ∷ []) $ split ! $ split ! $ move ! (2 ∷ []) $
+          heard ! (Related zs.0 y zs.1) (λ e. fsplit ! $ fsplit ! $ move ! (1 ∷ []) $ drop ! $ move ! (2 ∷ []) $ split ! $ split ! $ move ! (2 ∷ []) $
           peeks ! X.row (Is X.row) (shows 𝓛 X.row) y (u ∷ []) (λ is₁. drop ! $
           let told : u ∷ [] ≡ X.val y ∷ [] = X.tells y (u ∷ []) is₁ in
           let is_y : Is X.row y (X.val y ∷ []) = subst (Is X.row y) told is₁ in
@@ -279,7 +282,7 @@ module _ (D X : Data) (O : Pair D X) (B : Built D X O) {n : ℕ} (ks : List (Kin
   S = (core_ended D X O n ss kept Rel).signature
 
   module _ {M : Type 1} {𝓤 : Ura M} (𝓛 : Logic 𝓤)
-      (C : Calls 𝓤 𝓛.H) (Λ : Loops 𝓤 𝓛.H) (k : Name) (fm : FmC 𝓤 𝓛.H 𝓛.laws C) (known : Triple 𝓤 (C k) (Thin D X O ks Rel 𝓛)) where
+      (C : Calls 𝓤 𝓛.H) (Λ : Loops 𝓤 𝓛.H) (k : Callee) (fm : FmC 𝓤 𝓛.H 𝓛.laws C) (known : Triple 𝓤 (C k) (Thin D X O ks Rel 𝓛)) where
     open 𝓛 use {H}
 
     pub lender_meets : Triple 𝓤 (WpFn 𝓤 H C Λ (lender k)) (TheCore D X O ks Rel 𝓛)
@@ -299,7 +302,7 @@ module _ (D X : Data) (O : Pair D X) (B : Built D X O) {n : ℕ} (ks : List (Kin
 
   -- The same holds of a function `f` whose code is that of a lender, in the environment γ of that code, in which the thin call means a
   -- routine that is proved.
-  module _ {M : Type 1} {𝓤 : Ura M} (𝓛 : Logic 𝓤) (𝓜 : Model 𝓤 𝓛.H) (𝓡 : Running 𝓤 𝓛.H 𝓜) (γ : Routines) (f thin : Name) (body : Routine) where
+  module _ {M : Type 1} {𝓤 : Ura M} (𝓛 : Logic 𝓤) (𝓜 : Model 𝓤 𝓛.H) (𝓡 : Running 𝓤 𝓛.H 𝓜) (γ : Routines) (f thin : Callee) (body : Routine) where
     open 𝓛 use {H}
 
     abbrev 𝓣 : MachineTables 𝓤 H 𝓜

@@ -6,6 +6,7 @@
 --     operands ps p t       what the call is passed
 --     borrows, passed_on    the code runs like this, and the operands have the values that the parameters had
 --     found              where the locals stand in an environment
+--     anew_after, end_found    the place after the locals in which slices are reborrowed, and what stands there
 use Prim.Native.Nat.{ℕ, zero, suc}
 use mathlib.Core.Path.{◌≡◌, refl, ap, ◌∙◌}
 use mathlib.Core.List.{[], ◌∷◌, List, ◌++◌}
@@ -91,6 +92,12 @@ abbrev pub local_after : List Passed → ℕ → ℕ
 local_after [] n = n
 local_after (k ∷ ps) n = suc (local_after ps n)
 
+-- This is the place after the locals in which slices are reborrowed.
+abbrev pub anew_after : List Passed → ℕ → ℕ
+anew_after [] n = n
+anew_after (lends ℓ ∷ ps) n = suc (suc (anew_after ps n))
+anew_after (copies τ ∷ ps) n = anew_after ps n
+
 -- This is the j-th place from p on.
 abbrev on : ℕ → ℕ → ℕ
 on zero p = p
@@ -118,6 +125,14 @@ module _ {M : Type 1} (𝓤 : Ura M) (H : Heap 𝓤) where
   skips_all [] bs E j n = refl
   skips_all (k ∷ ps) bs E j n = skips (type k, bs.0) (env 𝓤 H (tys ps) bs.1 E) j (local_after ps n) ∙ skips_all ps bs.1 E j n
 
+  skips_anew : (ps : List Passed) (cs : Addresses (anew ps)) (E : Env 𝓤 H) (n : ℕ) → local_at (env 𝓤 H (anew ps) cs E) (anew_after ps n) ≡ local_at E n
+  skips_anew [] cs E n = refl
+  skips_anew (lends ℓ ∷ ps) cs E n = skips_anew ps cs.1.1 E n
+  skips_anew (copies τ ∷ ps) cs E n = skips_anew ps cs E n
+
+  pub end_found : (ps : List Passed) (cs : Addresses (anew ps)) (E : Env 𝓤 H) (i : ℕ) → spot_of 𝓤 H (env 𝓤 H (anew ps) cs E) (anew_after ps i) ≡ spot_of 𝓤 H E i
+  end_found ps cs E i = ap spot (skips_anew ps cs E i)
+
   module _ (E : Env 𝓤 H) where
     abbrev pub Found : (ps : List Passed) → ℕ → ℕ → Addresses (tys ps) → Addresses (anew ps) → Type 0
     Found [] p t bs cs = Unit {0}
@@ -138,11 +153,11 @@ module _ {M : Type 1} (𝓤 : Ura M) (H : Heap 𝓤) where
   skips_these [] E j = ap (local_at E) (on_zero j)
   skips_these (g ∷ gs) E j = skips g (gs ++ E) j (length gs) ∙ skips_these gs E j
 
-  -- The environment of a call has its result, its first parameter, the parameters that are passed on, its own locals, and those for
-  -- slices that are reborrowed.
-  module _ (e f : Ty × ℕ) (gs : Env 𝓤 H) (ps : List Passed) (bs : Addresses (tys ps)) (cs : Addresses (anew ps)) where
+  -- The environment of a call has its result, its first parameter, the parameters that are passed on, its own locals, those for slices
+  -- that are reborrowed, and what stands at the end.
+  module _ (e f : Ty × ℕ) (gs ends : Env 𝓤 H) (ps : List Passed) (bs : Addresses (tys ps)) (cs : Addresses (anew ps)) where
     abbrev pub last_env : Env 𝓤 H
-    last_env = gs ++ env 𝓤 H (anew ps) cs []
+    last_env = gs ++ env 𝓤 H (anew ps) cs ends
 
     abbrev pub whole_env : Env 𝓤 H
     whole_env = e ∷ f ∷ env 𝓤 H (tys ps) bs last_env
@@ -152,10 +167,10 @@ module _ {M : Type 1} (𝓤 : Ura M) (H : Heap 𝓤) where
     own_found i = ap spot (skips_all ps bs last_env 0 i)
 
     pub found : Found whole_env ps 2 (suc (suc (local_after ps (length gs)))) bs cs
-    found = found_on whole_env ps 2 (suc (suc (local_after ps (length gs)))) bs cs last_env []
+    found = found_on whole_env ps 2 (suc (suc (local_after ps (length gs)))) bs cs last_env ends
         (λ j. skips e (f ∷ env 𝓤 H (tys ps) bs last_env) j 1 ∙ skips f (env 𝓤 H (tys ps) bs last_env) j 0 ∙ ap (local_at (env 𝓤 H (tys ps) bs last_env)) (on_zero j))
         (λ j. skips e (f ∷ env 𝓤 H (tys ps) bs last_env) j (suc (local_after ps (length gs))) ∙ skips f (env 𝓤 H (tys ps) bs last_env) j (local_after ps (length gs))
-        ∙ skips_all ps bs last_env j (length gs) ∙ skips_these gs (env 𝓤 H (anew ps) cs []) j)
+        ∙ skips_all ps bs last_env j (length gs) ∙ skips_these gs (env 𝓤 H (anew ps) cs ends) j)
 
 -- ---- the rules
 

@@ -1,8 +1,0 @@
--- `benchact::turn_of` meets its contract: it reads three fields of the body. Assumes nothing.
-use borrow.Author.Rules.{rules}
-use Rattle.benchact.proofs.Laws.{ways}
-use Rattle.benchact.proofs.turn_of.Statement.{statement}
-use Rattle.benchact.proofs.turn_of.Tie as tie
-
-pub turn_of_spec : {M : Type 1} → statement M
-turn_of_spec = tie.close (tie.spec (λ c. search rules) (λ c. search rules) (λ c. search rules) (λ c. search (ways, rules)))

@@ -1,0 +1,25 @@
+-- `ringbytes::go_round` meets its contract: what opening, the ring and the stores leave is what 01 says. Assumes nothing.
+use Rattle.std.proofs.Common.{rules}
+use mathlib.Core.Path.{refl, ◌∙◌}
+use Rattle.border.proofs.Lending.{known_long}
+use Rattle.ringbytes.proofs.Round.{keepable, rounds}
+use Rattle.ringbytes.proofs.go_round.Goals as goal
+
+pub count_anew-requires : goal.count_anew-requires
+count_anew-requires c = known_long _ refl c.requires.0
+
+pub keep_wrapper-requires : goal.keep_wrapper-requires
+keep_wrapper-requires c =
+    (c.count_anew.auto.0 ∙ known_long _ refl c.requires.0, c.«open».ensures.sound, c.«open».ensures.front)
+
+pub keep-requires : goal.keep-requires
+keep-requires c =
+    (c.keep_wrapper.auto.0 ∙ c.count_anew.auto.0 ∙ known_long _ refl c.requires.0, keepable _ _ _ c.requires.0 c.requires.1 c.requires.2 c.requires.3 _ _ c.«open».ensures c.go_on-c.result c.go_on-c.ensures)
+
+pub result-requires : goal.result-requires
+result-requires c =
+    (keepable _ _ _ c.requires.0 c.requires.1 c.requires.2 c.requires.3 _ _ c.«open».ensures c.go_on-c.result c.go_on-c.ensures).sent
+
+pub returns : goal.returns
+returns c =
+    rounds _ _ _ c.requires.0 c.requires.1 c.requires.2 c.requires.3 _ _ c.«open».ensures c.go_on-c.result c.go_on-c.ensures c.count_anew.ensures c.keep_wrapper.ensures c.keep.ensures c.result.ensures
