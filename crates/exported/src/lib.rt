@@ -4,9 +4,7 @@
 // as it was.
 // An archive has only the functions of its own crate. So each call is handed on here, from the crate that proves it.
 //     decode    the decoder's two entries, and BOT's verdict on a message
-//     host      the laptop's end, which no firmware calls
 mod decode;
-mod host;
 
 ghost use Rattle.std.specs.Prelude.{◌≡◌};
 ghost use Rattle.device.specs.Create.{fixed};
