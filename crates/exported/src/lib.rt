@@ -4,6 +4,8 @@
 // as it was.
 // An archive has only the functions of its own crate. So each call is handed on here, from the crate that proves it.
 //     decode    the decoder's two entries, and BOT's verdict on a message
+#![tactic(auto)]
+
 mod decode;
 
 ghost use Rattle.std.specs.Prelude.{◌≡◌};

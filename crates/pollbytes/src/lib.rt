@@ -1,5 +1,7 @@
 // One poll of a record of bytes. The polls of which a read-out is made go a short way. That way can be taken out: the promise is the same
 // as that of the ring.
+#![tactic(auto)]
+
 ghost use Rattle.std.specs.Prelude.{◌≡◌, length};
 ghost use Rattle.bbb.specs.Poll.{given};
 ghost use Rattle.recordbytes.specs.Layout.{record_size};
