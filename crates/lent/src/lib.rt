@@ -2,6 +2,8 @@
 // thin: it takes the record `d` out of the reference, makes the call of the same name on it by value, and puts the new record back. Every
 // call takes any record, any buffers and any numbers. It promises what the call by value promises, for what the reference holds at entry
 // and at exit.
+#![tactic(auto)]
+
 ghost use Rattle.std.specs.Prelude.{◌≡◌};
 ghost use Rattle.bbb.specs.Poll.{given, poll_call};
 ghost use Rattle.calls.specs.Status.{set_status_call};

@@ -1,4 +1,5 @@
 -- `lent::try_write_data_all` meets its contract, by the law of a thin call. Assumes nothing.
+use mathlib.Core.Path.{refl}
 use Rattle.lent.proofs.Types.{device, count, moved}
 use Rattle.thin.proofs.Law.{thin_spec}
 use Rattle.lent.proofs.Promises.{try_write_data_all_others, try_write_data_all_promise}
@@ -9,7 +10,6 @@ use Rattle.lent.proofs.try_write_data_all.Statement.{statement}
 use Rattle.lent.proofs.try_write_data_all.Code as code
 
 pub try_write_data_all_spec : {M : Type 1} → statement M
-unfolding code.routine
-try_write_data_all_spec 𝓤 𝓛 𝓜 𝓡 =
-    thin_spec device count moved try_write_data_all_others try_write_data_all_promise 𝓛 𝓜 𝓡 code.env this.name core.name core.routine
-    (code.unfolded 𝓤 𝓛.H 𝓜 𝓡) code.calls-calls::try-write-data-all (met 𝓤 𝓛 𝓜 𝓡)
+try_write_data_all_spec 𝓤 𝓛 𝓜 𝓡 w =
+    thin_spec device count moved try_write_data_all_others try_write_data_all_promise 𝓛 𝓜 𝓡 𝓡.env this.name core.name (𝓡.env core.name)
+    (code.unfolded 𝓤 𝓛.H 𝓜 𝓡 w) refl (met 𝓤 𝓛 𝓜 𝓡 (code.calls-calls::try_write_data_all 𝓡.env w))

@@ -1,4 +1,5 @@
 -- `lent::write_data` meets its contract, by the law of a thin call. Assumes nothing.
+use mathlib.Core.Path.{refl}
 use Rattle.lent.proofs.Types.{device, count, moved}
 use Rattle.thin.proofs.Law.{thin_spec}
 use Rattle.lent.proofs.Promises.{write_data_others, write_data_promise}
@@ -9,7 +10,6 @@ use Rattle.lent.proofs.write_data.Statement.{statement}
 use Rattle.lent.proofs.write_data.Code as code
 
 pub write_data_spec : {M : Type 1} → statement M
-unfolding code.routine
-write_data_spec 𝓤 𝓛 𝓜 𝓡 =
-    thin_spec device count moved write_data_others write_data_promise 𝓛 𝓜 𝓡 code.env this.name core.name core.routine
-    (code.unfolded 𝓤 𝓛.H 𝓜 𝓡) code.calls-calls::write-data (met 𝓤 𝓛 𝓜 𝓡)
+write_data_spec 𝓤 𝓛 𝓜 𝓡 w =
+    thin_spec device count moved write_data_others write_data_promise 𝓛 𝓜 𝓡 𝓡.env this.name core.name (𝓡.env core.name)
+    (code.unfolded 𝓤 𝓛.H 𝓜 𝓡 w) refl (met 𝓤 𝓛 𝓜 𝓡 (code.calls-calls::write_data 𝓡.env w))

@@ -1,4 +1,5 @@
 -- `listing::poll` meets its contract, by the law of a lender. Assumes nothing.
+use mathlib.Core.Path.{refl}
 use Rattle.thin.proofs.Lender.{lender_spec}
 use Rattle.lent.proofs.Types.{device, report, polled}
 use Rattle.lent.proofs.Promises.{poll_others, poll_promise}
@@ -10,7 +11,6 @@ use Rattle.listing.proofs.poll.Statement.{statement}
 use Rattle.listing.proofs.poll.Code as code
 
 pub poll_spec : {M : Type 1} → statement M
-unfolding code.routine
-poll_spec 𝓤 𝓛 𝓜 𝓡 =
-    lender_spec device report polled polled_built poll_others poll_promise 𝓛 𝓜 𝓡 code.env this.name thin.name thin.routine
-    (code.unfolded 𝓤 𝓛.H 𝓜 𝓡) code.calls-lent::poll (met 𝓤 𝓛 𝓜 𝓡)
+poll_spec 𝓤 𝓛 𝓜 𝓡 w =
+    lender_spec device report polled polled_built poll_others poll_promise 𝓛 𝓜 𝓡 𝓡.env this.name thin.name (𝓡.env thin.name)
+    (code.unfolded 𝓤 𝓛.H 𝓜 𝓡 w) refl (met 𝓤 𝓛 𝓜 𝓡 (code.calls-lent::poll 𝓡.env w))
