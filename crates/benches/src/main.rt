@@ -2,7 +2,9 @@
 // little-endian. On standard output a line `==` stands before the lines of each file.
 ghost use Rattle.std.specs.Prelude.{◌≡◌, length};
 
-use libc::{STDIN_FILENO, STDOUT_FILENO};
+// The descriptors of standard input and standard output.
+const STDIN: i32 = 0;
+const STDOUT: i32 = 1;
 
 // The most bytes that are read of a file: one more than a good file can have, as in bench.
 const MOST: usize = 65537;
@@ -13,17 +15,17 @@ fn next(file: &mut [u8]) -> bool
     requires { length file.old ≡ 65537 }
 {
     let mut head = [0u8; 4];
-    if io::read_full(STDIN_FILENO, &mut head) < 4 {
+    if io::read_full(STDIN, &mut head) < 4 {
         return false;
     }
     let n = fields::le32(&head, 0) as usize;
     if MOST < n {
         return false;
     }
-    if io::read_full(STDIN_FILENO, &mut file[..n]) < n {
+    if io::read_full(STDIN, &mut file[..n]) < n {
         return false;
     }
-    io::write_all(STDOUT_FILENO, b"==\n");
+    io::write_all(STDOUT, b"==\n");
     benchrun::print(&file[..n]);
     true
 }

@@ -5,6 +5,8 @@
 // No contract can say what a call of C's writes. Two things are promised: what text each turn puts in place, and that the loop leaves
 // what all turns of a run leave (specs/Turns.antt). That the one call in each turn is given the front of the text has to be read in
 // `play`.
+#![tactic(auto)]
+
 mod open;
 mod play;
 mod step;

@@ -7,7 +7,9 @@ ghost use Rattle.benchrun.specs.Turns.{Played, PlayedFile};
 
 use crate::open::{events_end, open};
 use crate::step::{Run, step};
-use libc::STDOUT_FILENO;
+
+// The descriptor of standard output.
+const STDOUT: i32 = 1;
 
 // Plays the run from `begun` on, turn by turn, to its end.
 pub fn play(begun: Run, events: &[u8], io: &mut [u8], lent: &mut [u8], text: &mut [u8])
@@ -17,7 +19,7 @@ pub fn play(begun: Run, events: &[u8], io: &mut [u8], lent: &mut [u8], text: &mu
     let mut run = begun;
     loop {
         let n = run.line;
-        io::write_all(STDOUT_FILENO, &text[..n]);
+        io::write_all(STDOUT, &text[..n]);
         let going = run.going;
         if !going {
             return;

@@ -13,8 +13,10 @@ use calls::{FirmwareStatus, Stated};
 use device::create::create;
 use device::{Device, Fixed};
 use fields::least;
-use libc::STDOUT_FILENO;
 use ring::state_number;
+
+// The descriptor of standard output.
+const STDOUT: i32 = 1;
 
 // Lends the record to a poll and takes it back.
 fn poll(
@@ -77,7 +79,7 @@ fn print(line: Line, packet: &[u8], sent: usize) {
     let n = least(least(sent, packet.len()), 64);
     let mut text = [0u8; 280];
     let end = put_line(line, &packet[..n], &mut text);
-    io::write_all(STDOUT_FILENO, &text[..end]);
+    io::write_all(STDOUT, &text[..end]);
 }
 
 // Makes a poll with the offer `one` and prints its line. There is no second packet.

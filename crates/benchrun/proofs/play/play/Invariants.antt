@@ -1,0 +1,12 @@
+use mathlib.Core.Path.{sym}
+use lib.Seq.{length-take-le}
+use Rattle.benchrun.specs.Run.{running_of}
+use Rattle.benchrun.proofs.After.{ahead}
+use Rattle.benchrun.proofs.Loop.{Comes, comes_first, comes_less, comes_on, comes_last}
+use Rattle.benchrun.proofs.play.play.Given as goal
+
+abbrev pub invariant-loop-run : goal.invariant-loop-run
+invariant-loop-run l = Comes l.events (running_of l.initial.run l.initial.io l.initial.lent l.initial.text) (running_of l.run l.io l.lent l.text)
+
+abbrev pub decreases-loop-run : goal.decreases-loop-run
+decreases-loop-run l = ahead l.events l.run
