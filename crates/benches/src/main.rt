@@ -1,9 +1,12 @@
 // benches does what bench does for many files in one process. On standard input 4 bytes stand before each file: its length,
 // little-endian. On standard output a line `==` stands before the lines of each file.
+#![tactic(auto)]
+
 ghost use Rattle.std.specs.Prelude.{◌≡◌, length};
 
 // The descriptors of standard input and standard output.
 const STDIN: i32 = 0;
+
 const STDOUT: i32 = 1;
 
 // The most bytes that are read of a file: one more than a good file can have, as in bench.

@@ -1,6 +1,8 @@
 // Document 01's listing, made by the calls over a lent record. This program stands for a firmware in Rattle that keeps one device record
 // and lends it. Only `poll` and `set_status` make a reference to the record. A record that is lent and then taken back gives the call by
 // value again, so each of the two has the contract of the call by value of its name.
+#![tactic(auto)]
+
 ghost use Rattle.std.specs.Prelude.{◌≡◌};
 ghost use Rattle.bbb.specs.Poll.{given, polling_of, poll_call};
 ghost use Rattle.calls.specs.Status.{stating_of, set_status_call};
