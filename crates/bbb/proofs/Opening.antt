@@ -10,7 +10,7 @@ use borrow.Author.Tests.{eq-eqb, ne_eqb, leb-true}
 use Rattle.fields.proofs.Bools.{and_right, clash}
 use Rattle.fields.proofs.Seq.{length_part}
 use Rattle.buffer.specs.declared.Marks.{Marks}
-use Rattle.buffer.specs.Buffer.{Buffer, buffer, at, unread}
+use Rattle.buffer.specs.Buffer.{Buffer, buffer, unread}
 use Rattle.buffer.specs.Inner.Buffer.{Sound}
 use Rattle.answers.specs.declared.Answer.TheVariants.{Done}
 use Rattle.answers.specs.declared.Endpoint.{Endpoint}

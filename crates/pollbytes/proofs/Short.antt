@@ -13,7 +13,7 @@ use borrow.Author.Tests.{ne_eqb}
 use Rattle.fields.specs.Field.{get}
 use Rattle.fields.proofs.Bools.{clash}
 use Rattle.buffer.specs.declared.Marks.{Marks}
-use Rattle.buffer.specs.Buffer.{buffer, at, emptied, ready}
+use Rattle.buffer.specs.Buffer.{buffer, emptied, ready}
 use Rattle.ring.specs.declared.State.TheVariants.{DataTransferToHostEnding}
 use Rattle.wrapper.specs.declared.counters.Left.{Left}
 use Rattle.packets.specs.Packets.{status_written}

@@ -6,7 +6,7 @@
 use mathlib.Core.Path.{◌≡◌, refl, sym, ap, ◌∙◌, subst}
 use mathlib.Core.Bool.{true, false, not}
 use mathlib.Core.List.{List, [], ◌∷◌, ◌++◌}
-use Prim.Native.Nat.{ℕ, ◌+◌, ◌-◌, ◌≤◌, min, zero-le}
+use Prim.Native.Nat.{ℕ, ◌+◌, ◌≤◌, min, zero-le}
 use native.Mathlib.Nat.{zero-add}
 use native.Mathlib.Omega.{arith}
 use lib.Dec.{eqb}
@@ -15,7 +15,7 @@ use borrow.Author.Tests.{eqb-true}
 use borrow.Table.Steps.{cases}
 use Rattle.fields.proofs.Bools.{of_picked, clash}
 use Rattle.fields.proofs.Seq.{none_of}
-use Rattle.buffer.specs.Buffer.{at, unread, unread_bytes}
+use Rattle.buffer.specs.Buffer.{unread, unread_bytes}
 use Rattle.buffer.specs.Inner.Buffer.{Sound}
 use Rattle.buffer.proofs.Kept.{length_unread}
 use Rattle.ring.specs.declared.State.{State}

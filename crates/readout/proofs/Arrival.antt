@@ -22,7 +22,7 @@ use Rattle.calls.specs.Checks.{is_in}
 use Rattle.calls.specs.Status.{Stating, takes_status}
 use Rattle.calls.specs.Bus.{Handling, handling_of_reset}
 use Rattle.calls.proofs.After.{by_status, data_elsewhere, reset_done, by_request}
-use Rattle.readout.specs.History.{Socket, socket, Event, poll, status, write, write_all, read, reset, control, command, command_step, mislent, Shows, quietly, of_status, of_bus, shows, next, history_of, reached, all, sent_in, put_in, taken_in, first_packet_of, arrived_in}
+use Rattle.readout.specs.History.{Socket, Event, poll, status, write, write_all, read, reset, control, command, command_step, mislent, Shows, quietly, of_status, of_bus, shows, next, history_of, reached, all, sent_in, put_in, taken_in, first_packet_of, arrived_in}
 use Rattle.readout.specs.Demand.{waits_in}
 use Rattle.readout.proofs.Rules.{bytes_of, packets_of}
 use Rattle.readout.proofs.Waiting.{Arriving, waits_by, apart, From, from_count, Reads, idle, short, ripe, ripe_first, by_reading}

@@ -8,7 +8,6 @@ use native.Mathlib.Omega.{arith}
 use lib.ListN.{length, drop, length-append}
 use lib.Seq.{drop_at}
 use Rattle.fields.proofs.Seq.{none_of}
-use Rattle.buffer.specs.Buffer.{unread}
 use Rattle.buffer.proofs.Kept.{length_unread}
 use Rattle.wrapper.specs.declared.DataDirection.{DataDirection}
 use Rattle.wrapper.specs.declared.DataDirection.TheVariants.{Out, In, NotExpected}

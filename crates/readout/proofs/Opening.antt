@@ -26,7 +26,7 @@ use Rattle.bbb.specs.Poll.{Given, Polling, Point, buffer_of_point, no_data_rule,
 use Rattle.bbb.proofs.Keeping.{Follows, follows_received, follows_31, by_call, call_whole, call_sizes, packet_is}
 use Rattle.bbb.proofs.After.{P, first_for, arrived, read_unread, parse_message, parse_rest, parse_valid}
 use Rattle.calls.specs.Status.{takes_status}
-use Rattle.readout.specs.History.{Socket, socket, poll, Shows, shows, first_packet_of}
+use Rattle.readout.specs.History.{Socket, poll, Shows, shows, first_packet_of}
 use Rattle.readout.proofs.Transfer.{Phase, to_host, waiting, to_host_ending, from_host, from_host_ending, sending, Transfer}
 use Rattle.readout.proofs.Rules.{bytes_of, packets_of, poll_long, owing, Fit, Leads, leads_await, leads_to, leads_from}
 use Rattle.readout.proofs.Waiting.{Arriving, From, from_count, Reads, idle, short, ripe, ripe_first, by_reading}

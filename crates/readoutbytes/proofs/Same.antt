@@ -40,7 +40,7 @@ use Rattle.databytes.specs.Data.{data_outcome_of, read_data_on, write_data_on, w
 use Rattle.callbytes.specs.Calls.{call_outcome_of_status, call_outcome_of_bus, set_status_on, reset_on, control_on}
 use Rattle.commandbytes.specs.Command.{command_outcome, command_outcome_of, command_outcome_of_step, command_on, command_step_by, command_step_on, command_step_told_on}
 use Rattle.readout.specs.History.{socket, Event, poll, status, write, write_all, read, reset, control, command_step, mislent, Shows, of_poll, of_status, of_write, of_read, of_bus, of_command, of_step, shows, next}
-use Rattle.readoutbytes.specs.Calls.{Memory, memory, socket_in, Call, souk_poll, souk_set_status, souk_write_data, souk_try_write_data_all, souk_read_data, souk_reset, souk_control, souk_command, souk_command_step, souk_command_step_told, Outcome, of_polled, of_called, of_written, of_read_off, of_looked, call_on, event_of, read_of_poll, read_of_write, read_of_read, read_of_status, read_of_bus, read_of_command, read_of_step, seen}
+use Rattle.readoutbytes.specs.Calls.{Memory, socket_in, Call, souk_poll, souk_set_status, souk_write_data, souk_try_write_data_all, souk_read_data, souk_reset, souk_control, souk_command, souk_command_step, souk_command_step_told, Outcome, of_polled, of_called, of_written, of_read_off, of_looked, call_on, event_of, read_of_poll, read_of_write, read_of_read, read_of_status, read_of_bus, read_of_command, read_of_step, seen}
 use Rattle.readoutbytes.proofs.Held.{no_record, Stores, stores_held, event_stores}
 
 -- ---- what is read of an outcome

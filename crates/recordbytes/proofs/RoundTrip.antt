@@ -7,7 +7,7 @@
 use mathlib.Core.Path.{◌≡◌, refl, sym, ap, ◌∙◌}
 use mathlib.Core.Bool.{true, ◌&&◌}
 use mathlib.Core.List.{List, [], ◌∷◌, ◌++◌}
-use Prim.Native.Nat.{ℕ, ◌+◌, ◌^◌, ◌≤◌, ◌<◌}
+use Prim.Native.Nat.{ℕ, ◌^◌, ◌≤◌, ◌<◌}
 use native.Mathlib.Omega.{arith}
 use lib.Dec.{leb, lit<}
 use lib.ListN.{length, replicate}
@@ -15,7 +15,6 @@ use borrow.Author.Tests.{leb-true}
 use Rattle.fields.specs.Field.{Field, bytes_at, counted, ordered, get}
 use Rattle.fields.proofs.Bools.{and_left}
 use Rattle.fields.proofs.Overlay.{part_inside}
-use Rattle.buffer.specs.Buffer.{at}
 use Rattle.ring.specs.States.{state_number, state_of_number}
 use Rattle.ring.proofs.Numbers.{state_back, state_small}
 use Rattle.wrapper.specs.declared.Wrapper.{Wrapper}

@@ -1,5 +1,4 @@
 -- `bbb::fits` meets its contract: it tests the three lengths in turn. Assumes nothing.
-use Rattle.std.proofs.Common.{rules}
 use Rattle.bbb.proofs.Polling.{ways}
 use Rattle.bbb.proofs.fits.Goals as goal
 

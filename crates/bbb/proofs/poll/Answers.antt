@@ -1,6 +1,5 @@
 -- `bbb::poll` meets its contract: it answers 10 or 11, or it opens, decides and acts, which `Same` shows to be 01's rule. Assumes
 -- nothing.
-use Rattle.std.proofs.Common.{rules}
 use Rattle.device.proofs.Wholly.{tested}
 use Rattle.bbb.proofs.Polling.{first_fits, is_fitting_lem, broken_10, refused_11, polls}
 use Rattle.bbb.proofs.poll.Goals as goal
@@ -10,13 +9,12 @@ open-o-requires c =
     (tested _ _ c.whole.ensures c.if-whole.true, first_fits _ _ _ _ c.fits.ensures c.if-fits.true)
 
 pub go_on-c-requires : goal.go_on-c-requires
-go_on-c-requires c =
-    (
-      (tested _ _ c.whole.ensures c.if-whole.true).order,
-      c.open-o.ensures.sound,
-      c.open-o.ensures.once,
-      is_fitting_lem _ _ _ _ c.fits.ensures c.if-fits.true,
-    )
+go_on-c-requires c = (
+  (tested _ _ c.whole.ensures c.if-whole.true).order,
+  c.open-o.ensures.sound,
+  c.open-o.ensures.once,
+  is_fitting_lem _ _ _ _ c.fits.ensures c.if-fits.true,
+)
 
 pub returns-then-fits : goal.returns-then-fits
 returns-then-fits c =

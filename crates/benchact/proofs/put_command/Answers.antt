@@ -1,7 +1,5 @@
 -- `benchact::put_command` meets its contract: nothing is put at the front, or the LUN and the block after it. Assumes nothing.
 use Rattle.std.proofs.Common.{rules}
-use native.Mathlib.Omega.{arith}
-use lib.ListN.{length-set}
 use Rattle.benchact.proofs.Laws.{ways}
 use Rattle.benchact.proofs.put_command.Goals as goal
 

@@ -1,9 +1,6 @@
 -- `benchact::read_data` meets its contract: a room of two bytes is at most 65535, so the destination lies within the lent bytes. Assumes
 -- nothing.
 use Rattle.std.proofs.Common.{rules}
-use mathlib.Core.Path.{sym}
-use native.Mathlib.Omega.{arith}
-use lib.Seq.{length-take-le}
 use Rattle.benchact.proofs.Laws.{ways}
 use Rattle.benchact.proofs.read_data.Goals as goal
 

@@ -1,6 +1,5 @@
 -- `benchfile::magic` meets its contract. A byte is read as it stands, because the elements of a slice are bytes; the check knows that at
 -- the function's entry. Assumes nothing.
-use Rattle.std.proofs.Common.{rules}
 use Rattle.benchfile.proofs.Judged.{magic_0, magic_1, magic_2, magic_3}
 use Rattle.benchfile.proofs.magic.Goals as goal
 

@@ -1,10 +1,8 @@
 -- `benchfile::walk` meets its contract: after each turn it has read events, and any events that fill the bytes begin with these. Assumes
 -- nothing.
 use Rattle.std.proofs.Common.{rules}
-use Prim.Native.Nat.{◌-◌}
 use native.Mathlib.Omega.{arith}
-use lib.ListN.{length}
-use Rattle.benchfile.proofs.Walked.{Walked, walks, goes_within}
+use Rattle.benchfile.proofs.Walked.{walks, goes_within}
 use Rattle.benchfile.proofs.walk.Goals as goal
 
 pub loop-at-init : goal.loop-at-init

@@ -1,6 +1,6 @@
 use Prim.Native.Nat.{◌-◌}
 use lib.ListN.{length}
-use Rattle.benchfile.proofs.Walked.{Walked, walks, goes_within}
+use Rattle.benchfile.proofs.Walked.{Walked}
 use Rattle.benchfile.proofs.walk.Given as goal
 
 abbrev pub invariant-loop-at : goal.invariant-loop-at

@@ -1,7 +1,6 @@
 -- `benchline::put_decimal` meets its contract. It calls itself for the digits before the last, which are those of n / 10; the measure is
 -- n. Assumes nothing.
 use Rattle.std.proofs.Common.{rules}
-use Prim.Native.Nat.{ℕ, ◌<◌}
 use native.Mathlib.Omega.{arith}
 use Rattle.benchline.proofs.Ways.{ways}
 use Rattle.benchline.proofs.+put_decimal.Goals as goal

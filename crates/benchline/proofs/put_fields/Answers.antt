@@ -1,7 +1,6 @@
 -- `benchline::put_fields` meets its contract: numbers, stalls, and a store after them. Assumes nothing.
 use Rattle.std.proofs.Common.{rules}
 use native.Mathlib.Omega.{arith}
-use lib.ListN.{length-set}
 use Rattle.benchline.proofs.Ways.{ways}
 use Rattle.benchline.proofs.put_fields.Goals as goal
 

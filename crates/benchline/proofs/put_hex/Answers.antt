@@ -1,10 +1,8 @@
 -- `benchline::put_hex` meets its contract: after i turns the first 2 * i digits are laid over the text. Assumes nothing.
 use Rattle.std.proofs.Common.{rules}
-use Prim.Native.Nat.{◌*◌, ◌-◌}
 use native.Mathlib.Omega.{arith}
-use lib.ListN.{length, length-set}
-use Rattle.fields.proofs.Overlay.{Laid, laid_start}
-use Rattle.benchline.specs.Line.{hex}
+use lib.ListN.{length-set}
+use Rattle.fields.proofs.Overlay.{laid_start}
 use Rattle.benchline.proofs.Text.{length_hex}
 use Rattle.benchline.proofs.Ways.{ways}
 use Rattle.benchline.proofs.put_hex.Goals as goal

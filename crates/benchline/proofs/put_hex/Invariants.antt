@@ -1,9 +1,7 @@
 use Prim.Native.Nat.{◌*◌, ◌-◌}
-use lib.ListN.{length, length-set}
-use Rattle.fields.proofs.Overlay.{Laid, laid_start}
+use lib.ListN.{length}
+use Rattle.fields.proofs.Overlay.{Laid}
 use Rattle.benchline.specs.Line.{hex}
-use Rattle.benchline.proofs.Text.{length_hex}
-use Rattle.benchline.proofs.Ways.{ways}
 use Rattle.benchline.proofs.put_hex.Given as goal
 
 abbrev pub invariant-loop-i : goal.invariant-loop-i

@@ -1,6 +1,5 @@
 -- `benchline::put_numbers` meets its contract: six texts are put one after the other. Assumes nothing.
-use Rattle.std.proofs.Common.{rules}
-use Rattle.benchline.proofs.Ways.{last_number_fits, numbers_end}
+use Rattle.benchline.proofs.Ways.{numbers_end}
 use Rattle.benchline.proofs.put_numbers.Goals as goal
 
 pub returns : goal.returns

@@ -1,5 +1,4 @@
 -- `benchrun::print` is safe and ends: each array has the length that it needs. Assumes nothing.
-use Rattle.std.proofs.Common.{rules}
 use native.Mathlib.Omega.{arith}
 use Rattle.benchrun.proofs.After.{both_roomy}
 use Rattle.benchrun.proofs.print.Goals as goal

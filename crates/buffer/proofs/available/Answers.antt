@@ -1,5 +1,5 @@
 -- `buffer::available` meets its contract: the difference of sound marks is how many bytes are unread. Assumes nothing.
-use Rattle.std.proofs.Common.{rules, arith}
+use Rattle.std.proofs.Common.{arith}
 use mathlib.Core.Path.{refl}
 use native.Mathlib.Omega.{arith}
 use Rattle.buffer.specs.Buffer.{buffer}

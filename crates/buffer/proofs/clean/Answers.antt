@@ -1,5 +1,4 @@
 -- `buffer::clean` meets its contract: both marks go to 0. Assumes nothing.
-use Rattle.std.proofs.Common.{rules}
 use mathlib.Core.Path.{refl, ap}
 use Rattle.buffer.specs.Buffer.{emptied, buffer}
 use Rattle.buffer.specs.Calls.{clean_call}

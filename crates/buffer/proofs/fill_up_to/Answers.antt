@@ -1,5 +1,4 @@
 -- `buffer::fill_up_to` meets its contract: marks that pass the test are sound, and `marked::fill_up_to` does the rest. Assumes nothing.
-use Rattle.std.proofs.Common.{rules}
 use Rattle.buffer.specs.Calls.{fill_call}
 use Rattle.buffer.proofs.Ways.{tested, broken, passes, counts}
 use Rattle.buffer.proofs.fill_up_to.Goals as goal

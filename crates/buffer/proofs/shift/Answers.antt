@@ -1,5 +1,4 @@
 -- `buffer::shift` meets its contract: marks that pass the test are sound, and `marked::shift` does the rest. Assumes nothing.
-use Rattle.std.proofs.Common.{rules}
 use mathlib.Core.Path.{refl}
 use Rattle.buffer.specs.Calls.{shift_call}
 use Rattle.buffer.proofs.Ways.{tested, broken, passes, counts}

@@ -1,5 +1,4 @@
 -- `buffer::sound` meets its contract: its tests are those of `is_sound`. Assumes nothing.
-use Rattle.std.proofs.Common.{rules}
 use borrow.Author.Tests.{le-leb, lt-leb}
 use Rattle.buffer.specs.Buffer.{is_sound}
 use Rattle.buffer.proofs.sound.Goals as goal

@@ -1,5 +1,4 @@
 -- `buffer::write` meets its contract: marks that pass the test are sound, and `marked::write` does the rest. Assumes nothing.
-use Rattle.std.proofs.Common.{rules}
 use Rattle.buffer.specs.Calls.{write_call}
 use Rattle.buffer.proofs.Ways.{tested, broken, passes, counts}
 use Rattle.buffer.proofs.write.Goals as goal

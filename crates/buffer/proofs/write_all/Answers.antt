@@ -1,5 +1,4 @@
 -- `buffer::write_all` meets its contract: marks that pass the test are sound, and `marked::write_all` does the rest. Assumes nothing.
-use Rattle.std.proofs.Common.{rules}
 use Rattle.buffer.specs.Calls.{write_all_call}
 use Rattle.buffer.proofs.Ways.{tested, broken, passes, all_taken, overflows}
 use Rattle.buffer.proofs.write_all.Goals as goal

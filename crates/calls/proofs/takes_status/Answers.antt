@@ -1,5 +1,4 @@
 -- `calls::takes_status` meets its contract: it makes four comparisons, in order. Assumes nothing.
-use Rattle.std.proofs.Common.{rules}
 use Rattle.calls.proofs.Laws.{ways}
 use Rattle.calls.proofs.takes_status.Goals as goal
 

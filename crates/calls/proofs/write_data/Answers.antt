@@ -1,7 +1,6 @@
 -- `calls::write_data` meets its contract: to cut a source to min(left, its length) is to cut it to left. Assumes nothing.
 use Rattle.std.proofs.Common.{rules}
-use mathlib.Core.Path.{sym}
-use Rattle.calls.proofs.Laws.{length_cut, data_done, writes, ways}
+use Rattle.calls.proofs.Laws.{data_done, writes, ways}
 use Rattle.calls.proofs.write_data.Goals as goal
 
 pub returns-then-broken : goal.returns-then-broken

@@ -1,5 +1,4 @@
 -- `device::command_fits` meets its contract: the block length is tested, then the LUN. Assumes nothing.
-use Rattle.std.proofs.Common.{rules}
 use Rattle.device.proofs.Laws.{ways}
 use Rattle.device.proofs.command_fits.Goals as goal
 

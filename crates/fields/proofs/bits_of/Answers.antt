@@ -1,6 +1,5 @@
 -- `fields::bits_of` meets its contract: it shifts, and takes the remainder by a power of two. Assumes nothing.
 use Rattle.std.proofs.Common.{rules}
-use lib.Pow.{pow_pos}
 use Rattle.fields.specs.Field.{get_bits}
 use Rattle.fields.proofs.Field.{shifted_one}
 use Rattle.fields.proofs.bits_of.Goals as goal

@@ -1,7 +1,5 @@
 -- `fields::put_bits` meets its contract: no bit is lost by the shifts, and what is stored is the byte with the field written. Assumes nothing.
 use Rattle.std.proofs.Common.{rules}
-use lib.Pow.{pow_pos}
-use Rattle.fields.proofs.Field.{shifted_one}
 use Rattle.fields.proofs.Bits.{shifts_fit, bits_stored}
 use Rattle.fields.proofs.put_bits.Goals as goal
 

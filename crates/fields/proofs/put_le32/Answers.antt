@@ -1,7 +1,5 @@
 -- `fields::put_le32` meets its contract: its four stores in order write the field. Assumes nothing.
 use Rattle.std.proofs.Common.{rules}
-use native.Mathlib.Omega.{arith}
-use lib.ListN.{length-set}
 use Rattle.fields.proofs.Field.{four_stored}
 use Rattle.fields.proofs.put_le32.Goals as goal
 

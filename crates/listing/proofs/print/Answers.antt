@@ -1,5 +1,5 @@
 -- `listing::print` is safe and ends: a line with at most 64 bytes fits into the text. Assumes nothing.
-use Rattle.std.proofs.Common.{◌≡◌, ℕ, ◌≤◌, ◌*◌, List, length, take, sym, arith, min}
+use Rattle.std.proofs.Common.{◌≡◌, ℕ, ◌≤◌, List, length, take, sym, arith, min}
 use lib.Seq.{length-take-le}
 use Rattle.benchline.specs.declared.Line.{Line}
 use Rattle.benchline.specs.Line.{line_of}

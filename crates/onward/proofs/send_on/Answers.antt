@@ -1,7 +1,7 @@
 -- `onward::send_on` meets its contract: if the packet was copied, state, read mark and left are stored in the record. Assumes nothing.
-use Rattle.std.proofs.Common.{rules, ap}
+use Rattle.std.proofs.Common.{ap}
 use mathlib.Core.Bool.{not}
-use Rattle.onward.proofs.Going.{leaves_sent, ways}
+use Rattle.onward.proofs.Going.{leaves_sent}
 use Rattle.onward.proofs.send_on.Goals as goal
 
 pub returns : goal.returns

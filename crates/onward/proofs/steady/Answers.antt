@@ -1,6 +1,5 @@
 -- `onward::steady` meets its contract, test by test. Assumes nothing.
-use Rattle.std.proofs.Common.{rules}
-use Rattle.onward.proofs.Going.{fails, is_steady}
+use Rattle.onward.proofs.Going.{is_steady}
 use Rattle.onward.proofs.steady.Goals as goal
 
 pub returns : goal.returns

@@ -1,7 +1,7 @@
 -- `onward::take_on` meets its contract: if the packet was copied, write mark and left are stored in the record. Assumes nothing.
-use Rattle.std.proofs.Common.{rules, ap}
+use Rattle.std.proofs.Common.{ap}
 use mathlib.Core.Bool.{not}
-use Rattle.onward.proofs.Going.{leaves_taken, ways}
+use Rattle.onward.proofs.Going.{leaves_taken}
 use Rattle.onward.proofs.take_on.Goals as goal
 
 pub returns : goal.returns

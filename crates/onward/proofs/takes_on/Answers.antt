@@ -1,7 +1,7 @@
 -- `onward::takes_on` meets its contract, test by test. Assumes nothing.
-use Rattle.std.proofs.Common.{rules, ap}
+use Rattle.std.proofs.Common.{ap}
 use mathlib.Core.Bool.{not}
-use Rattle.onward.proofs.Going.{fails, may_take}
+use Rattle.onward.proofs.Going.{may_take}
 use Rattle.onward.proofs.takes_on.Goals as goal
 
 pub returns : goal.returns

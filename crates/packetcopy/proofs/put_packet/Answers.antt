@@ -1,5 +1,4 @@
 -- `packetcopy::put_packet` meets its contract: each packet size has its own copy, and any other number copies nothing. Assumes nothing.
-use Rattle.std.proofs.Common.{rules}
 use mathlib.Core.Path.{refl}
 use native.Mathlib.Omega.{arith}
 use Rattle.device.specs.Create.{is_packet_size}

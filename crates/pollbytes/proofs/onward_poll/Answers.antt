@@ -1,6 +1,5 @@
 -- `pollbytes::onward_poll` meets its contract: a packet of data comes in or goes out, or no poll is made. Assumes nothing.
-use Rattle.std.proofs.Common.{rules}
-use Rattle.pollbytes.proofs.Short.{can_take, can_send, short_takes, short_sends, short_none}
+use Rattle.pollbytes.proofs.Short.{short_takes, short_sends}
 use Rattle.pollbytes.proofs.onward_poll.Goals as goal
 
 pub returns-then-takes_on : goal.returns-then-takes_on

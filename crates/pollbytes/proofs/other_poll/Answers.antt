@@ -1,5 +1,4 @@
 -- `pollbytes::other_poll` meets its contract: the status goes out, or the ring makes the poll. Assumes nothing.
-use Rattle.std.proofs.Common.{rules}
 use Rattle.pollbytes.proofs.Short.{end_needs, ends}
 use Rattle.pollbytes.proofs.other_poll.Goals as goal
 

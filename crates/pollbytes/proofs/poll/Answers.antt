@@ -1,6 +1,5 @@
 -- `pollbytes::poll` meets its contract: a poll in the middle of a transfer goes the short way, and any other poll the other way. Assumes nothing.
-use Rattle.std.proofs.Common.{rules}
-use Rattle.pollbytes.proofs.Short.{other_length, goes_on}
+use Rattle.pollbytes.proofs.Short.{other_length}
 use mathlib.Core.Path.{refl, ◌∙◌}
 use Rattle.pollbytes.proofs.poll.Goals as goal
 

@@ -1,5 +1,4 @@
 -- `ring::state_of_number` meets its contract: each arm has one number, and the last arm has all others. Assumes nothing.
-use Rattle.std.proofs.Common.{rules}
 use Rattle.ring.specs.States.{state_of_number}
 use Rattle.ring.proofs.Numbers.{the_last_state}
 use Rattle.ring.proofs.state_of_number.Goals as goal

@@ -1,5 +1,4 @@
 -- `ringbytes::go_round` meets its contract: what opening, the ring and the stores leave is what 01 says. Assumes nothing.
-use Rattle.std.proofs.Common.{rules}
 use mathlib.Core.Path.{refl, ◌∙◌}
 use Rattle.border.proofs.Lending.{known_long}
 use Rattle.ringbytes.proofs.Round.{keepable, rounds}

@@ -1,5 +1,5 @@
 -- `ringbytes::poll` meets its contract: the answer is 10 or 11, or a whole round is made. Assumes nothing.
-use Rattle.std.proofs.Common.{rules, ap}
+use Rattle.std.proofs.Common.{ap}
 use mathlib.Core.Bool.{not}
 use Rattle.border.proofs.Lending.{known_then, long_then}
 use Rattle.ringbytes.proofs.Round.{whole_there, fits_there, poll_unknown, poll_broken, poll_refused}

@@ -1,5 +1,4 @@
 -- `wrapper::no_wrapper` meets its contract: both sides compute to the same. Assumes nothing.
-use Rattle.std.proofs.Common.{rules}
 use mathlib.Core.Path.{refl}
 use Rattle.wrapper.specs.Wrapper.{no_wrapper}
 use Rattle.wrapper.proofs.no_wrapper.Goals as goal

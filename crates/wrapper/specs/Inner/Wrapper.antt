@@ -1,5 +1,4 @@
 -- The code reads the head of a wrapper apart from the command block. Assumes nothing: these are definitions.
-use Rattle.std.specs.Prelude.{length}
 use Rattle.wrapper.specs.declared.Wrapper.{Wrapper}
 use Rattle.wrapper.specs.declared.Head.{Head}
 

@@ -1,5 +1,4 @@
 -- `bbb::open::reaches` meets its contract: in 0, and in 3 with nothing unread. Assumes nothing.
-use Rattle.std.proofs.Common.{rules}
 use Rattle.bbb.proofs.Opening.{ways}
 use Rattle.bbb.proofs.open.reaches.Goals as goal
 

@@ -1,8 +1,7 @@
 -- `benchrun::open::open` meets its contract. Assumes nothing.
-use Rattle.std.proofs.Common.{rules}
 use Rattle.std.proofs.Common.{ap}
 use mathlib.Core.Bool.{not}
-use Rattle.benchrun.proofs.Laws.{cut_fits, opens_refused, opens_begun}
+use Rattle.benchrun.proofs.Laws.{opens_refused, opens_begun}
 use Rattle.benchrun.proofs.open.open.Goals as goal
 
 pub returns-then-not-good : goal.returns-then-not-good

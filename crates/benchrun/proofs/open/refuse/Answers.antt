@@ -1,5 +1,4 @@
 -- `benchrun::open::refuse` meets its contract: there are three stores, and no device. Assumes nothing.
-use Rattle.std.proofs.Common.{rules}
 use Rattle.benchrun.proofs.Laws.{refuses_first, refuses_second, refuses_third, refuses}
 use Rattle.benchrun.proofs.open.refuse.Goals as goal
 

@@ -1,13 +1,8 @@
 -- `benchrun::play::play` meets its contract: after each event the loop has come one turn further, the lent bytes and the text have the
 -- same lengths as before, and fewer bytes of events are ahead. Assumes nothing.
-use Rattle.std.proofs.Common.{rules}
 use Rattle.std.proofs.Common.{ap}
 use mathlib.Core.Bool.{not}
-use mathlib.Core.Path.{sym}
-use lib.Seq.{length-take-le}
-use Rattle.benchrun.specs.Run.{running_of}
-use Rattle.benchrun.proofs.After.{ahead}
-use Rattle.benchrun.proofs.Loop.{Comes, comes_first, comes_less, comes_on, comes_last}
+use Rattle.benchrun.proofs.Loop.{comes_less, comes_on, comes_last}
 use Rattle.benchrun.proofs.play.play.Goals as goal
 
 pub returns-then-not-going : goal.returns-then-not-going

@@ -1,8 +1,6 @@
-use mathlib.Core.Path.{sym}
-use lib.Seq.{length-take-le}
 use Rattle.benchrun.specs.Run.{running_of}
 use Rattle.benchrun.proofs.After.{ahead}
-use Rattle.benchrun.proofs.Loop.{Comes, comes_first, comes_less, comes_on, comes_last}
+use Rattle.benchrun.proofs.Loop.{Comes}
 use Rattle.benchrun.proofs.play.play.Given as goal
 
 abbrev pub invariant-loop-run : goal.invariant-loop-run

@@ -1,9 +1,7 @@
 -- `benchrun::play::play_file` meets its contract: what `open` leaves is what `play` asks for. Assumes nothing.
-use Rattle.std.proofs.Common.{rules}
 use mathlib.Core.Path.{refl, sym}
 use lib.Seq.{length-take-le}
 use native.Mathlib.Nat.{le_trans}
-use Rattle.benchrun.proofs.Laws.{cut_fits}
 use Rattle.benchrun.proofs.After.{after_roomy, opened_index, opened_line, opened_size, none_roomy}
 use Rattle.benchrun.proofs.Loop.{plays_file}
 use Rattle.benchrun.proofs.play.play_file.Goals as goal

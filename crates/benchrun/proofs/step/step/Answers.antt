@@ -1,6 +1,5 @@
 -- `benchrun::step::step` meets its contract. Assumes nothing.
-use Rattle.std.proofs.Common.{rules}
-use Rattle.benchrun.proofs.Laws.{still_roomy, steps_none, steps_fits, steps_suits, steps_on}
+use Rattle.benchrun.proofs.Laws.{steps_none, steps_fits, steps_suits, steps_on}
 use native.Mathlib.Omega.{arith}
 use Rattle.benchrun.proofs.step.step.Goals as goal
 

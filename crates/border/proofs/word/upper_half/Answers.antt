@@ -1,6 +1,5 @@
 -- `border::word::upper_half` meets its contract: with answer 1 it is what is missing, cut to 32 bits, and else the count. Assumes nothing.
-use Rattle.std.proofs.Common.{rules}
-use Rattle.border.proofs.Upper.{upper_fits, upper_missing, upper_count}
+use Rattle.border.proofs.Upper.{upper_missing, upper_count}
 use Rattle.border.proofs.word.upper_half.Goals as goal
 
 pub returns-then-answer_number-eq1 : goal.returns-then-answer_number-eq1

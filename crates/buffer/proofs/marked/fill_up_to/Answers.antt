@@ -1,5 +1,4 @@
 -- `buffer::marked::fill_up_to` meets its contract: `filled` says what its three calls leave. Assumes nothing.
-use Rattle.std.proofs.Common.{rules}
 use Rattle.buffer.proofs.Ways.{fits, fills}
 use Rattle.buffer.proofs.marked.fill_up_to.Goals as goal
 

@@ -1,5 +1,4 @@
 -- `buffer::marked::read` meets its contract: `given` says what is copied. Assumes nothing.
-use Rattle.std.proofs.Common.{rules}
 use Rattle.buffer.proofs.Ways.{reads}
 use Rattle.buffer.proofs.marked.read.Goals as goal
 

@@ -1,5 +1,4 @@
 -- `buffer::marked::shift` meets its contract: what `move_front` leaves is what `moved` says. Assumes nothing.
-use Rattle.std.proofs.Common.{rules}
 use Rattle.buffer.proofs.Ways.{moves}
 use Rattle.buffer.proofs.marked.shift.Goals as goal
 

@@ -1,8 +1,5 @@
 -- `buffer::marked::write` meets its contract: `written` says what its three calls leave. Assumes nothing.
-use Rattle.std.proofs.Common.{rules}
-use mathlib.Core.Path.{sym}
-use native.Mathlib.Omega.{arith}
-use Rattle.buffer.proofs.Ways.{cut, fits, writes}
+use Rattle.buffer.proofs.Ways.{fits, writes}
 use Rattle.buffer.proofs.marked.write.Goals as goal
 
 pub returns : goal.returns

@@ -1,5 +1,4 @@
 -- `buffer::marked::write_all` meets its contract: what is wanted less the room is missing. Assumes nothing.
-use Rattle.std.proofs.Common.{rules}
 use Rattle.buffer.proofs.Ways.{refuses, takes_all}
 use Rattle.buffer.proofs.marked.write_all.Goals as goal
 

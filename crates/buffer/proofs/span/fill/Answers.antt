@@ -1,10 +1,8 @@
 -- `buffer::span::fill` meets its contract: after i turns the first i of the n bytes v are laid over io. Assumes nothing.
-use Rattle.std.proofs.Common.{rules}
 use mathlib.Core.Path.{sym}
-use Prim.Native.Nat.{◌-◌}
 use native.Mathlib.Omega.{arith}
-use lib.ListN.{replicate, length-replicate, get_or-replicate}
-use Rattle.fields.proofs.Overlay.{Laid, laid_start, laid_turn, laid_end}
+use lib.ListN.{length-replicate, get_or-replicate}
+use Rattle.fields.proofs.Overlay.{laid_start, laid_turn}
 use Rattle.buffer.proofs.span.fill.Goals as goal
 
 pub loop-i-init : goal.loop-i-init

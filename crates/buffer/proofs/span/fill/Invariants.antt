@@ -1,7 +1,6 @@
-use mathlib.Core.Path.{sym}
 use Prim.Native.Nat.{◌-◌}
-use lib.ListN.{replicate, length-replicate, get_or-replicate}
-use Rattle.fields.proofs.Overlay.{Laid, laid_start, laid_turn, laid_end}
+use lib.ListN.{replicate}
+use Rattle.fields.proofs.Overlay.{Laid}
 use Rattle.buffer.proofs.span.fill.Given as goal
 
 abbrev pub invariant-loop-i : goal.invariant-loop-i

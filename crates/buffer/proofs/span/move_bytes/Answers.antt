@@ -1,10 +1,7 @@
 -- `buffer::span::move_bytes` meets its contract: after i turns the first i of the n bytes are laid over io, and no turn has stored to the
 -- next of them. Assumes nothing.
-use Rattle.std.proofs.Common.{rules}
-use Prim.Native.Nat.{◌-◌}
 use native.Mathlib.Omega.{arith}
-use lib.ListN.{take, drop}
-use Rattle.fields.proofs.Overlay.{Laid, laid_start, laid_turn, laid_end, unmoved}
+use Rattle.fields.proofs.Overlay.{laid_start, laid_turn, unmoved}
 use Rattle.fields.proofs.Seq.{length_part}
 use Rattle.buffer.proofs.span.move_bytes.Goals as goal
 

@@ -1,7 +1,6 @@
 use Prim.Native.Nat.{◌-◌}
 use lib.ListN.{take, drop}
-use Rattle.fields.proofs.Overlay.{Laid, laid_start, laid_turn, laid_end, unmoved}
-use Rattle.fields.proofs.Seq.{length_part}
+use Rattle.fields.proofs.Overlay.{Laid}
 use Rattle.buffer.proofs.span.move_bytes.Given as goal
 
 abbrev pub invariant-loop-i : goal.invariant-loop-i

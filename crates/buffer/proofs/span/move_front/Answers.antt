@@ -1,10 +1,8 @@
 -- `buffer::span::move_front` meets its contract: at the head of the loop the first i of the n bytes are laid over the front, and the rest is
 -- moved then. Assumes nothing.
-use Rattle.std.proofs.Common.{rules}
-use Prim.Native.Nat.{◌-◌, ◌≤◌, zero-le}
+use Prim.Native.Nat.{zero-le}
 use native.Mathlib.Omega.{arith}
-use lib.ListN.{take, drop}
-use Rattle.fields.proofs.Overlay.{Laid, laid_start}
+use Rattle.fields.proofs.Overlay.{laid_start}
 use Rattle.buffer.proofs.Chunks.{next_moved, last_moved}
 use Rattle.buffer.proofs.span.move_front.Goals as goal
 

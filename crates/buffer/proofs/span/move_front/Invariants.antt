@@ -1,7 +1,6 @@
-use Prim.Native.Nat.{◌-◌, ◌≤◌, zero-le}
+use Prim.Native.Nat.{◌-◌, ◌≤◌}
 use lib.ListN.{take, drop}
-use Rattle.fields.proofs.Overlay.{Laid, laid_start}
-use Rattle.buffer.proofs.Chunks.{next_moved, last_moved}
+use Rattle.fields.proofs.Overlay.{Laid}
 use Rattle.buffer.proofs.span.move_front.Given as goal
 
 abbrev pub invariant-loop-i : goal.invariant-loop-i

@@ -1,5 +1,4 @@
 -- `buffer::span::put` meets its contract: from 8 bytes on its chunks cover src. Assumes nothing.
-use Rattle.std.proofs.Common.{rules}
 use native.Mathlib.Omega.{arith}
 use Rattle.buffer.proofs.Chunks.{both_ends}
 use Rattle.buffer.proofs.span.put.Goals as goal

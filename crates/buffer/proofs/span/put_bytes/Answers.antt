@@ -1,10 +1,6 @@
 -- `buffer::span::put_bytes` meets its contract: after i turns the first i bytes of src are laid over dst. Assumes nothing.
-use Rattle.std.proofs.Common.{rules}
 use mathlib.Core.Path.{refl}
-use Prim.Native.Nat.{◌-◌}
-use native.Mathlib.Omega.{arith}
-use lib.ListN.{length}
-use Rattle.fields.proofs.Overlay.{Laid, laid_start, laid_turn, laid_end}
+use Rattle.fields.proofs.Overlay.{laid_start, laid_turn}
 use Rattle.buffer.proofs.span.put_bytes.Goals as goal
 
 pub loop-i-init : goal.loop-i-init

@@ -1,7 +1,6 @@
-use mathlib.Core.Path.{refl}
 use Prim.Native.Nat.{◌-◌}
 use lib.ListN.{length}
-use Rattle.fields.proofs.Overlay.{Laid, laid_start, laid_turn, laid_end}
+use Rattle.fields.proofs.Overlay.{Laid}
 use Rattle.buffer.proofs.span.put_bytes.Given as goal
 
 abbrev pub invariant-loop-i : goal.invariant-loop-i

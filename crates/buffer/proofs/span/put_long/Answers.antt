@@ -1,10 +1,7 @@
 -- `buffer::span::put_long` meets its contract: at the head of the loop the first i bytes of src are laid over dst, and the last chunk
 -- lays the rest. Assumes nothing.
-use Rattle.std.proofs.Common.{rules}
-use Prim.Native.Nat.{◌-◌}
 use native.Mathlib.Omega.{arith}
-use lib.ListN.{length}
-use Rattle.fields.proofs.Overlay.{Laid, laid_start, laid_end}
+use Rattle.fields.proofs.Overlay.{laid_start}
 use Rattle.buffer.proofs.Chunks.{next_chunk, last_chunk}
 use Rattle.buffer.proofs.span.put_long.Goals as goal
 

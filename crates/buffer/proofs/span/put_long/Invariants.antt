@@ -1,7 +1,6 @@
 use Prim.Native.Nat.{◌-◌}
 use lib.ListN.{length}
-use Rattle.fields.proofs.Overlay.{Laid, laid_start, laid_end}
-use Rattle.buffer.proofs.Chunks.{next_chunk, last_chunk}
+use Rattle.fields.proofs.Overlay.{Laid}
 use Rattle.buffer.proofs.span.put_long.Given as goal
 
 abbrev pub invariant-loop-i : goal.invariant-loop-i

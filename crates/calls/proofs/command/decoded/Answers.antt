@@ -1,8 +1,5 @@
 -- `calls::command::decoded` meets its contract: the decoder decides, given the block's own bytes. Assumes nothing.
 use Rattle.std.proofs.Common.{rules}
-use mathlib.Core.Path.{sym}
-use native.Mathlib.Omega.{arith}
-use lib.Seq.{length-take-le}
 use Rattle.calls.proofs.Laws.{ways}
 use Rattle.calls.proofs.command.decoded.Goals as goal
 

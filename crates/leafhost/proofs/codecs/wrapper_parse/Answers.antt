@@ -1,7 +1,6 @@
 -- `leafhost::codecs::wrapper_parse` meets its contract: what is lent is refused, or the message is valid, or it is invalid.
 -- Assumes nothing.
 use Rattle.std.proofs.Common.{rules}
-use native.Mathlib.Omega.{arith}
 use Rattle.leafhost.proofs.CodecWays.{ways}
 use Rattle.leafhost.proofs.codecs.wrapper_parse.Goals as goal
 

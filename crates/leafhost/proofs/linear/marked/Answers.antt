@@ -1,5 +1,4 @@
 -- `leafhost::linear::marked` meets its contract. Assumes nothing.
-use Rattle.std.proofs.Common.{rules}
 use mathlib.Core.Path.{refl}
 use Rattle.leafhost.specs.Buffer.{marked_by}
 use Rattle.leafhost.proofs.linear.marked.Goals as goal

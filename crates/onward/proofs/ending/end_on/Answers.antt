@@ -1,6 +1,6 @@
 -- `onward::ending::end_on` meets its contract: the status is written and sent, and state and marks are stored. Assumes nothing.
 use Rattle.std.proofs.Common.{rules}
-use Rattle.onward.proofs.Entering.{marks_fit, count_fits, leaves_ended}
+use Rattle.onward.proofs.Entering.{count_fits}
 use Rattle.onward.proofs.ending.end_on.Goals as goal
 
 pub narrow-requires : goal.narrow-requires

@@ -1,8 +1,7 @@
 -- `onward::ending::ends_on` meets its contract, test by test. Assumes nothing.
-use Rattle.std.proofs.Common.{rules, ap}
+use Rattle.std.proofs.Common.{ap}
 use mathlib.Core.Bool.{not}
 use Rattle.onward.proofs.Entering.{may_end}
-use Rattle.onward.proofs.Going.{fails}
 use Rattle.onward.proofs.ending.ends_on.Goals as goal
 
 pub returns : goal.returns

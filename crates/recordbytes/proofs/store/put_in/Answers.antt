@@ -1,5 +1,4 @@
 -- `recordbytes::store::put_in` meets its contract: it stores one number. Assumes nothing.
-use Rattle.std.proofs.Common.{rules}
 use Rattle.recordbytes.proofs.Storing.{leaves_put_in}
 use Rattle.recordbytes.proofs.store.put_in.Goals as goal
 

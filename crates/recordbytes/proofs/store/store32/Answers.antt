@@ -1,6 +1,5 @@
 -- `recordbytes::store::store32` meets its contract: four bytes are written. If their number stood there already, they stay, because the
 -- elements of a slice are bytes; the check knows that at the function's entry. Assumes nothing.
-use Rattle.std.proofs.Common.{rules}
 use Rattle.recordbytes.proofs.Storing.{leaves_four}
 use Rattle.recordbytes.proofs.store.store32.Goals as goal
 

@@ -1,5 +1,4 @@
 -- `scsi::commands::control_of` meets its contract: three numbers have an arm each, and all others share the last one. Assumes nothing.
-use Rattle.std.proofs.Common.{rules}
 use Rattle.scsi.specs.Commands.{page_control_of_number}
 use Rattle.scsi.proofs.Laws.{control_other}
 use Rattle.scsi.proofs.commands.control_of.Goals as goal

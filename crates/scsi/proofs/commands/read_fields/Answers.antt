@@ -1,5 +1,4 @@
 -- `scsi::commands::read_fields` meets its contract: each arm follows the table at its opcode. Assumes nothing.
-use Rattle.std.proofs.Common.{rules}
 use Rattle.scsi.specs.Decoding.{rows, fields_by}
 use Rattle.scsi.proofs.Laws.{missing, long_enough}
 use Rattle.scsi.proofs.commands.read_fields.Goals as goal

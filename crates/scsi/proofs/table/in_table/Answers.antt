@@ -1,9 +1,7 @@
 -- `scsi::table::in_table` meets its contract: before each turn, the rows from i on list what the whole table lists. Assumes nothing.
 use Rattle.std.proofs.Common.{rules}
-use mathlib.Core.Path.{◌≡◌, refl, ◌∙◌}
-use Prim.Native.Nat.{◌≤◌, ◌-◌}
+use mathlib.Core.Path.{◌≡◌, ◌∙◌}
 use native.Mathlib.Omega.{arith}
-use lib.ListN.{drop}
 use Rattle.scsi.specs.Decoding.{rows, lists}
 use Rattle.scsi.proofs.Laws.{here, past}
 use Rattle.scsi.proofs.table.in_table.Goals as goal

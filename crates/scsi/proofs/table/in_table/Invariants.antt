@@ -1,8 +1,7 @@
-use mathlib.Core.Path.{◌≡◌, refl, ◌∙◌}
+use mathlib.Core.Path.{◌≡◌}
 use Prim.Native.Nat.{◌≤◌, ◌-◌}
 use lib.ListN.{drop}
 use Rattle.scsi.specs.Decoding.{rows, lists}
-use Rattle.scsi.proofs.Laws.{here, past}
 use Rattle.scsi.proofs.table.in_table.Given as goal
 
 abbrev pub invariant-loop-i : goal.invariant-loop-i

@@ -1,6 +1,5 @@
 -- `wrapper::counters::put_in_after` meets its contract: it gives the sum, or the largest number where the sum would be above it. Assumes
 -- nothing.
-use Rattle.std.proofs.Common.{rules}
 use mathlib.Core.Path.{ap}
 use Prim.Native.Nat.{ℕ}
 use native.Mathlib.Omega.{arith}

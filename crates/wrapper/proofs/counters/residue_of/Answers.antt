@@ -1,5 +1,4 @@
 -- `wrapper::counters::residue_of` meets its contract: it gives the difference, or 0 where that would be below 0. Assumes nothing.
-use Rattle.std.proofs.Common.{rules}
 use mathlib.Core.Path.{refl, ap}
 use Prim.Native.Nat.{ℕ}
 use native.Mathlib.Omega.{arith}

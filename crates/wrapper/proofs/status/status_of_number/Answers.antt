@@ -1,5 +1,4 @@
 -- `wrapper::status::status_of_number` meets its contract: each arm but the last has one number, and the last has the rest. Assumes nothing.
-use Rattle.std.proofs.Common.{rules}
 use Rattle.wrapper.specs.Status.{status_of_number}
 use Rattle.wrapper.proofs.Numbers.{the_last_status}
 use Rattle.wrapper.proofs.status.status_of_number.Goals as goal
