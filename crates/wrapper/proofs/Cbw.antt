@@ -20,7 +20,7 @@ use Rattle.wrapper.specs.declared.DataDirection.TheVariants.{Out, In, NotExpecte
 use Rattle.wrapper.specs.declared.Wrapper.{Wrapper}
 use Rattle.wrapper.specs.declared.Head.{Head}
 use Rattle.wrapper.specs.declared.Parsed.{Parsed}
-use Rattle.wrapper.specs.Wrapper.{wrapper_signature, d_cbw_signature, d_cbw_tag, d_cbw_data_transfer_length, direction_bit, b_cbwlun, b_cbwcb_length, cbwcb, Valid, is_signed, is_block_length, is_valid, direction_of_flags, wrapper_of, no_wrapper, parsed_as, parsed}
+use Rattle.wrapper.specs.Wrapper.{wrapper_signature, d_cbw_signature, d_cbw_tag, d_cbw_data_transfer_length, direction_bit, b_cbw_lun, b_cbw_cb_length, cbwcb, Valid, is_signed, is_block_length, is_valid, direction_of_flags, wrapper_of, no_wrapper, parsed_as, parsed}
 use Rattle.wrapper.specs.Inner.Wrapper.{head_of}
 
 -- ---- the tests
@@ -57,7 +57,7 @@ fits_bounds : (n : ℕ) → is_block_length n ≡ true → (1 ≤ n) × (n ≤ 1
 unfolding is_block_length
 fits_bounds n e = (leb-true 1 n (and_left (leb 1 n) (leb n 16) e), leb-true n 16 (and_right (leb 1 n) (leb n 16) e))
 
-pub valid_by : (m : List ℕ) {s r : Bool} {b : ℕ} → s ≡ is_signed m → s ≡ true → b ≡ get b_cbwcb_length m → r ≡ is_block_length b → r ≡ is_valid m
+pub valid_by : (m : List ℕ) {s r : Bool} {b : ℕ} → s ≡ is_signed m → s ≡ true → b ≡ get b_cbw_cb_length m → r ≡ is_block_length b → r ≡ is_valid m
 unfolding is_valid
 valid_by m es e eb er = rw (sym es ∙ e, ← eb) er
 
@@ -70,8 +70,8 @@ invalid_by m es e = rw (sym es ∙ e)
 pub is_valid_lem : (m : List ℕ) → is_valid m ≡ true → Valid m
 unfolding is_valid
 is_valid_lem m e =
-    let b = fits_bounds (get b_cbwcb_length m) (and_right (is_signed m) (is_block_length (get b_cbwcb_length m)) e) in
-    let s = and_left (is_signed m) (is_block_length (get b_cbwcb_length m)) e in
+    let b = fits_bounds (get b_cbw_cb_length m) (and_right (is_signed m) (is_block_length (get b_cbw_cb_length m)) e) in
+    let s = and_left (is_signed m) (is_block_length (get b_cbw_cb_length m)) e in
     record { whole = signed_whole m refl s; signature = signed_signature m s; least = b.0; most = b.1 }
 
 pub valid_is : (m : List ℕ) → Valid m → is_valid m ≡ true
@@ -132,7 +132,7 @@ unfolding bytes_at
 block_listed m h = sym (part_listed m 15 16 (omega arith))
 
 pub heads : (m : List ℕ) {t l x u b : ℕ} {d : DataDirection}
-    → t ≡ get d_cbw_tag m → l ≡ get d_cbw_data_transfer_length m → x ≡ get_bits direction_bit m → d ≡ direction_of_flags l x → u ≡ get_bits b_cbwlun m → b ≡ get b_cbwcb_length m
+    → t ≡ get d_cbw_tag m → l ≡ get d_cbw_data_transfer_length m → x ≡ get_bits direction_bit m → d ≡ direction_of_flags l x → u ≡ get_bits b_cbw_lun m → b ≡ get b_cbw_cb_length m
     → ◌≡◌ {A = Head} (record { tag = t; length = l; direction = d; lun = u; blocklength = b }) (head_of (wrapper_of m))
 unfolding wrapper_of
 heads m et el ex ed eu eb = rw (ed, ex, et, el, eu, eb)

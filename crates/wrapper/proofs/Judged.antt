@@ -13,7 +13,7 @@ use Rattle.fields.proofs.Bools.{and_left, and_right}
 use Rattle.fields.proofs.Bits.{bits_split, clear_parts}
 use Rattle.wrapper.specs.declared.verdict.Verdict.{Verdict}
 use Rattle.wrapper.specs.declared.verdict.Verdict.TheVariants.{Invalid, ValidOnly, Meaningful}
-use Rattle.wrapper.specs.Wrapper.{obsolete_flag, reserved_flags, b_cbwlun, reserved_beside_lun, b_cbwcb_length, is_signed, is_block_length, is_valid}
+use Rattle.wrapper.specs.Wrapper.{obsolete_flag, reserved_flags, b_cbw_lun, reserved_beside_lun, b_cbw_cb_length, is_signed, is_block_length, is_valid}
 use Rattle.wrapper.specs.Verdict.{bits0_to6_of_byte12, bits4_to7_of_byte13, is_clear, is_meaningful, verdict_of, verdict_number, MeaningfulCBW}
 use Rattle.wrapper.proofs.Cbw.{is_valid_lem, valid_is}
 
@@ -37,8 +37,8 @@ pub cbw_meaningful : (max : ℕ) (m : List ℕ) → MeaningfulCBW max m → verd
 unfolding verdict_of is_meaningful is_valid
 cbw_meaningful max m h =
     let valid = valid_is m h.valid in
-    let signed = and_left (is_signed m) (is_block_length (get b_cbwcb_length m)) valid in
-    let fits = and_right (is_signed m) (is_block_length (get b_cbwcb_length m)) valid in
+    let signed = and_left (is_signed m) (is_block_length (get b_cbw_cb_length m)) valid in
+    let fits = and_right (is_signed m) (is_block_length (get b_cbw_cb_length m)) valid in
     rw (signed, clear_fields m h.flags h.obsolete h.beside, le-leb _ _ h.lun, fits)
 
 -- The two tests are read off a verdict.
@@ -55,8 +55,8 @@ both false t = refl
 pub meaningful_cbw : (max : ℕ) (m : List ℕ) → verdict_of max m ≡ Meaningful → MeaningfulCBW max m
 unfolding verdict_of is_meaningful is_valid
 meaningful_cbw max m e =
-    let in-range = leb (get_bits b_cbwlun m) max in
-    let fits = is_block_length (get b_cbwcb_length m) in
+    let in-range = leb (get_bits b_cbw_lun m) max in
+    let fits = is_block_length (get b_cbw_cb_length m) in
     let told = sym (both (is_signed m) (is_meaningful max m)) ∙ ap says_meaningful e in
     let meant = and_right (is_signed m) (is_meaningful max m) told in
     let front = and_left (is_clear m && in-range) fits meant in
@@ -80,11 +80,11 @@ pub clears_not : (m : List ℕ) {x : ℕ} → x ≡ get_bits bits0_to6_of_byte12
 unfolding is_clear
 clears_not m ex n = rw (← ex, ne_eqb _ _ n)
 
-pub means : (m : List ℕ) (max : ℕ) {c r : Bool} {x b : ℕ} → c ≡ is_clear m → c ≡ true → x ≡ get_bits b_cbwlun m → x ≤ max → b ≡ get b_cbwcb_length m → r ≡ is_block_length b → r ≡ is_meaningful max m
+pub means : (m : List ℕ) (max : ℕ) {c r : Bool} {x b : ℕ} → c ≡ is_clear m → c ≡ true → x ≡ get_bits b_cbw_lun m → x ≤ max → b ≡ get b_cbw_cb_length m → r ≡ is_block_length b → r ≡ is_meaningful max m
 unfolding is_meaningful
 means m max ec c ex le eb er = rw (← ec, c, ← ex, le-leb _ _ le, ← eb) er
 
-pub means_not : (m : List ℕ) (max : ℕ) {c : Bool} {x : ℕ} → c ≡ is_clear m → c ≡ true → x ≡ get_bits b_cbwlun m → max < x → false ≡ is_meaningful max m
+pub means_not : (m : List ℕ) (max : ℕ) {c : Bool} {x : ℕ} → c ≡ is_clear m → c ≡ true → x ≡ get_bits b_cbw_lun m → max < x → false ≡ is_meaningful max m
 unfolding is_meaningful
 means_not m max ec c ex lt = rw (← ec, c, ← ex, lt-leb _ _ lt)
 

@@ -18,7 +18,7 @@ use Rattle.fields.specs.Field.{Field, bits, one_byte, bytes_at, get, get_bits, p
 use Rattle.fields.proofs.Field.{byte_held}
 use Rattle.fields.proofs.Bits.{clear_parts, bit_clear, length_put_bits, get_put_bits, bits_below, bits_above, bits_elsewhere, bytes_before_bits, bytes_behind_bits}
 use Rattle.wrapper.specs.declared.verdict.Verdict.TheVariants.{ValidOnly, Meaningful}
-use Rattle.wrapper.specs.Wrapper.{d_cbw_signature, d_cbw_tag, d_cbw_data_transfer_length, bm_cbw_flags, direction_bit, b_cbwlun, b_cbwcb_length, cbwcb, Valid, is_signed, is_valid, wrapper_of, parsed}
+use Rattle.wrapper.specs.Wrapper.{d_cbw_signature, d_cbw_tag, d_cbw_data_transfer_length, bm_cbw_flags, direction_bit, b_cbw_lun, b_cbw_cb_length, cbwcb, Valid, is_signed, is_valid, wrapper_of, parsed}
 use Rattle.wrapper.specs.Verdict.{bits0_to6_of_byte12, bits4_to7_of_byte13, is_clear, verdict_of, cleared}
 use Rattle.wrapper.proofs.Cbw.{is_valid_lem, valid_is}
 use Rattle.wrapper.proofs.Judged.{clear_bits, meaningful_cbw, cbw_meaningful, unclear_means_not, valid_verdict}
@@ -97,7 +97,7 @@ module _ (m : List ℕ) where
 
   valid_cleared : is_valid (cleared m) ≡ is_valid m
   unfolding is_valid is_signed
-  valid_cleared = rw (length_cleared, before_cleared d_cbw_signature (lit≤ tt), behind_cleared b_cbwcb_length (lit< tt))
+  valid_cleared = rw (length_cleared, before_cleared d_cbw_signature (lit≤ tt), behind_cleared b_cbw_cb_length (lit< tt))
 
   module _ (whole : length m ≡ 31) where
     direction_cleared : get_bits direction_bit (cleared m) ≡ get_bits direction_bit m
@@ -106,10 +106,10 @@ module _ (m : List ℕ) where
         bits_above bits0_to6_of_byte12 0 _ (omega (arith, length_put_bits bits4_to7_of_byte13 0 m, whole)) 7 1 (lit≤ tt)
         ∙ bits_elsewhere bits4_to7_of_byte13 0 m direction_bit (λ e. absurd (omega (arith, e)))
 
-    lun_cleared : get_bits b_cbwlun (cleared m) ≡ get_bits b_cbwlun m
+    lun_cleared : get_bits b_cbw_lun (cleared m) ≡ get_bits b_cbw_lun m
     unfolding cleared
     lun_cleared =
-        bits_elsewhere bits0_to6_of_byte12 0 _ b_cbwlun (λ e. absurd (omega (arith, e))) ∙ bits_below bits4_to7_of_byte13 0 m (omega (arith, whole)) 0 4 (lit≤ tt)
+        bits_elsewhere bits0_to6_of_byte12 0 _ b_cbw_lun (λ e. absurd (omega (arith, e))) ∙ bits_below bits4_to7_of_byte13 0 m (omega (arith, whole)) 0 4 (lit≤ tt)
 
     flags_cleared : get_bits bits0_to6_of_byte12 (cleared m) ≡ 0
     unfolding cleared
@@ -122,20 +122,20 @@ module _ (m : List ℕ) where
     wrapper_cleared : wrapper_of (cleared m) ≡ wrapper_of m
     unfolding wrapper_of
     wrapper_cleared =
-        rw (before_cleared d_cbw_tag (lit≤ tt), before_cleared d_cbw_data_transfer_length (lit≤ tt), direction_cleared, lun_cleared, behind_cleared b_cbwcb_length (lit< tt), bytes_cleared cbwcb (lit< tt))
+        rw (before_cleared d_cbw_tag (lit≤ tt), before_cleared d_cbw_data_transfer_length (lit≤ tt), direction_cleared, lun_cleared, behind_cleared b_cbw_cb_length (lit< tt), bytes_cleared cbwcb (lit< tt))
 
 pub parsed_cleared : (m : List ℕ) → parsed (cleared m) ≡ parsed m
 unfolding parsed
 parsed_cleared m =
     rw (valid_cleared m) (cases (is_valid m) (λ v. rw (v, wrapper_cleared m (is_valid_lem m v).whole)) (λ v. rw v))
 
-pub cleared_meaningful : (max : ℕ) (m : List ℕ) → verdict_of max (cleared m) ≡ Meaningful → Valid m × (get_bits b_cbwlun m ≤ max)
+pub cleared_meaningful : (max : ℕ) (m : List ℕ) → verdict_of max (cleared m) ≡ Meaningful → Valid m × (get_bits b_cbw_lun m ≤ max)
 cleared_meaningful max m e =
     let cbw = meaningful_cbw max (cleared m) e in
     let valid = is_valid_lem m (sym (valid_cleared m) ∙ valid_is (cleared m) cbw.valid) in
     (valid, rw (lun_cleared m valid.whole) at cbw.lun)
 
-pub meaningful_cleared : (max : ℕ) (m : List ℕ) → Valid m → get_bits b_cbwlun m ≤ max → verdict_of max (cleared m) ≡ Meaningful
+pub meaningful_cleared : (max : ℕ) (m : List ℕ) → Valid m → get_bits b_cbw_lun m ≤ max → verdict_of max (cleared m) ≡ Meaningful
 meaningful_cleared max m valid lun =
     let flags = clear_parts (cleared m) 12 0 6 1 (flags_cleared m valid.whole) in
     cbw_meaningful max (cleared m) (record {

@@ -7,7 +7,7 @@ use Rattle.wrapper.specs.declared.status.StatusByte.{StatusByte}
 use Rattle.wrapper.specs.declared.status.StatusByte.TheVariants.{Known, Refused}
 use Rattle.wrapper.specs.declared.counters.Residue.{Residue}
 
--- These are the fields of BOT's table by their names there, each with its first byte and its number
+-- These are the fields of BOT's table by their names there, in snake case, each with its first byte and its number
 -- of bytes. All numbers in BOT are little-endian.
 abbrev pub d_csw_signature : Field
 d_csw_signature = little_endian 0 4

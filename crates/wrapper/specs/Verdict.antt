@@ -2,7 +2,7 @@
 -- Assumes nothing: these are definitions.
 use Rattle.std.specs.Prelude.{◌≡◌, ℕ, ◌≤◌, Bool, cond, ◌&&◌, List, eqb, leb}
 use Rattle.fields.specs.Field.{Bits, bits, get, get_bits, put_bits}
-use Rattle.wrapper.specs.Wrapper.{obsolete_flag, reserved_flags, b_cbwlun, reserved_beside_lun, b_cbwcb_length, Valid, is_signed, is_block_length}
+use Rattle.wrapper.specs.Wrapper.{obsolete_flag, reserved_flags, b_cbw_lun, reserved_beside_lun, b_cbw_cb_length, Valid, is_signed, is_block_length}
 use Rattle.wrapper.specs.declared.verdict.Verdict.{Verdict}
 use Rattle.wrapper.specs.declared.verdict.Verdict.TheVariants.{Invalid, ValidOnly, Meaningful}
 
@@ -20,7 +20,7 @@ is_clear m = eqb (get_bits bits0_to6_of_byte12 m) 0 && eqb (get_bits bits4_to7_o
 -- 01: "meaningful if also the LUN's low four bits are at most max LUN and block length is 1 to 16"; and `is_clear`, by request 3. `max_lun`
 -- is max LUN, and `m` is a message that has 31 bytes and the signature.
 unfoldable pub is_meaningful : ℕ → List ℕ → Bool
-is_meaningful max_lun m = is_clear m && leb (get_bits b_cbwlun m) max_lun && is_block_length (get b_cbwcb_length m)
+is_meaningful max_lun m = is_clear m && leb (get_bits b_cbw_lun m) max_lun && is_block_length (get b_cbw_cb_length m)
 
 -- This is the verdict on the message `m` for a device with the max LUN `max_lun`:
 -- "invalid unless 31 bytes with the signature; meaningful if also ..; otherwise valid only".
@@ -38,7 +38,7 @@ verdict_number Meaningful = 2
 -- reserved too; they are 0 where that byte is 1 to 16.
 pub record MeaningfulCBW (max_lun : ℕ) (m : List ℕ) : Type 0 where
   pub valid : Valid m
-  pub lun : get_bits b_cbwlun m ≤ max_lun
+  pub lun : get_bits b_cbw_lun m ≤ max_lun
   pub flags : get_bits reserved_flags m ≡ 0
   pub obsolete : get_bits obsolete_flag m ≡ 0
   pub beside : get_bits reserved_beside_lun m ≡ 0

@@ -6,7 +6,7 @@ use Rattle.wrapper.specs.declared.DataDirection.TheVariants.{Out, In, NotExpecte
 use Rattle.wrapper.specs.declared.Wrapper.{Wrapper}
 use Rattle.wrapper.specs.declared.Parsed.{Parsed}
 
--- These are the fields of BOT's table by their names there, each with its first byte and its number
+-- These are the fields of BOT's table by their names there, in snake case, each with its first byte and its number
 -- of bytes. All numbers in BOT are little-endian.
 abbrev pub d_cbw_signature : Field
 d_cbw_signature = little_endian 0 4
@@ -35,24 +35,24 @@ abbrev pub reserved_flags : Bits
 reserved_flags = bits 12 0 6
 
 -- 01 says of it: "13 LUN, low four bits". BOT reserves the other four.
-abbrev pub b_cbwlun : Bits
-b_cbwlun = bits 13 0 4
+abbrev pub b_cbw_lun : Bits
+b_cbw_lun = bits 13 0 4
 
 abbrev pub reserved_beside_lun : Bits
 reserved_beside_lun = bits 13 4 4
 
 -- For the block length BOT has bits 0 to 4 of this byte and reserves the others. 01 and the Rust look at the whole
 -- byte, which is above 16 if a reserved bit is set.
-abbrev pub b_cbwcb_length : Field
-b_cbwcb_length = one_byte 14
+abbrev pub b_cbw_cb_length : Field
+b_cbw_cb_length = one_byte 14
 
 -- 01 says of it: "15 to 30 the command block". It is not a number: only its bytes are used, and its order never counts.
 abbrev pub cbwcb : Field
 cbwcb = little_endian 15 16
 
--- This is BOT's whole table, in order. The byte at 13 stands here as a whole; `b_cbwlun` is a part of it.
+-- This is BOT's whole table, in order. The byte at 13 stands here as a whole; `b_cbw_lun` is a part of it.
 abbrev pub wrapper_table : List Field
-wrapper_table = d_cbw_signature ∷ d_cbw_tag ∷ d_cbw_data_transfer_length ∷ bm_cbw_flags ∷ one_byte 13 ∷ b_cbwcb_length ∷ cbwcb ∷ []
+wrapper_table = d_cbw_signature ∷ d_cbw_tag ∷ d_cbw_data_transfer_length ∷ bm_cbw_flags ∷ one_byte 13 ∷ b_cbw_cb_length ∷ cbwcb ∷ []
 
 -- "0 to 3 are 55 53 42 43": as a little-endian number this is BOT's 43425355h.
 abbrev pub wrapper_signature : ℕ
@@ -71,11 +71,11 @@ is_block_length n = leb 1 n && leb n 16
 pub record Valid (m : List ℕ) : Type 0 where
   pub whole : length m ≡ 31
   pub signature : get d_cbw_signature m ≡ wrapper_signature
-  pub least : 1 ≤ get b_cbwcb_length m
-  pub most : get b_cbwcb_length m ≤ 16
+  pub least : 1 ≤ get b_cbw_cb_length m
+  pub most : get b_cbw_cb_length m ≤ 16
 
 unfoldable pub is_valid : List ℕ → Bool
-is_valid m = is_signed m && is_block_length (get b_cbwcb_length m)
+is_valid m = is_signed m && is_block_length (get b_cbw_cb_length m)
 
 -- "L = 0 means no data, flags ignored; otherwise flag bit 7 set means to the host." `length` is L, and `to_host` is that bit.
 unfoldable pub direction_of_flags : ℕ → ℕ → DataDirection
@@ -97,8 +97,8 @@ wrapper_of m = record {
   tag = get d_cbw_tag m;
   length = get d_cbw_data_transfer_length m;
   direction = direction_of_flags (get d_cbw_data_transfer_length m) (get_bits direction_bit m);
-  lun = get_bits b_cbwlun m;
-  blocklength = get b_cbwcb_length m;
+  lun = get_bits b_cbw_lun m;
+  blocklength = get b_cbw_cb_length m;
   block = bytes_at cbwcb m;
 }
 
