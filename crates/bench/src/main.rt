@@ -1,8 +1,8 @@
 // bench prints the lines of a bench file that it reads from standard input. It reads up to one byte more than a good file can have, so
 // that a longer file is noticed.
-// The descriptor of standard input.
 #![tactic(auto)]
 
+// The descriptor of standard input.
 const STDIN: i32 = 0;
 
 fn main() {

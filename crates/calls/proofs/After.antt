@@ -1,14 +1,14 @@
 -- Laws for callers: what is true after a call, for any record, or for a whole one if the law says so.
 --     by-..         what holds of a refusal and of what is done holds of the call, whatever the answer
---     ..-keeps      what of the record is as before, whatever the answer
---     ..-done       what a call gives on a whole record, if it is accepted
---     ..-unread     the unread bytes after it
---     ..-count      how many bytes a read or a write moves
---     ..-counts     the record counts what a write moved
---     ..-storable   that count is the one before, or has 32 bits
---     ..-within     the count is not above the write mark
---     ..-tells      if the answer is 10, nothing has moved; if it is any other, the record is whole
---     ..-whole      a whole record stays whole, over the IO buffer that the call leaves
+--     .._keeps      what of the record is as before, whatever the answer
+--     .._done       what a call gives on a whole record, if it is accepted
+--     .._unread     the unread bytes after it
+--     .._count      how many bytes a read or a write moves
+--     .._counts     the record counts what a write moved
+--     .._storable   that count is the one before, or has 32 bits
+--     .._within     the count is not above the write mark
+--     .._tells      if the answer is 10, nothing has moved; if it is any other, the record is whole
+--     .._whole      a whole record stays whole, over the IO buffer that the call leaves
 -- Assumes nothing.
 use mathlib.Core.Path.{◌≡◌, refl, sym, ap, ◌∙◌, subst}
 use mathlib.Core.Bool.{Bool, true, false, not, cond}

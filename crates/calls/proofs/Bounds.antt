@@ -1,8 +1,8 @@
 -- What every call leaves and answers is in bounds, for any record over any IO buffer: laws for callers that keep it in bytes.
---     ..-narrow            a narrow device stays narrow
---     ..-plain             the answer is one byte and not 1; it carries nothing, and nothing is missing
---     write_all_legible    a result word can show its answer and the count; write-all-carries: it carries nothing
---     ..-replies           what goes back to the host is one byte or nothing
+--     .._narrow            a narrow device stays narrow
+--     .._plain             the answer is one byte and not 1; it carries nothing, and nothing is missing
+--     write_all_legible    a result word can show its answer and the count; write_all_carries: it carries nothing
+--     .._replies           what goes back to the host is one byte or nothing
 --     command_lun          the LUN of a command shown is at most 15
 --     by_step              what holds of every answer of the command step, and of an offer on a whole record, holds of the step
 -- Assumes nothing.

@@ -1,7 +1,7 @@
 -- Request 7 of document 02: the account of a read-out.
 --     carried    from any whole record in 4 or 6, through every history that stays there
 --     begins     the poll that parses the wrapper starts the count at 0, and leaves nothing unread
---     account    the two together; starts-whole: its record is not broken
+--     account    the two together; starts_whole: its record is not broken
 -- Assumes nothing.
 use mathlib.Core.Path.{◌≡◌, refl, sym, ap, ◌∙◌, subst}
 use mathlib.Core.Bool.{true, false, not}

@@ -1,6 +1,6 @@
 -- What every event keeps, whatever the endpoints answer.
 --     refused         an event at a broken record leaves it as it is, and takes no packet
---     stays_whole     a whole record stays whole; run-whole: through a history
+--     stays_whole     a whole record stays whole; run_whole: through a history
 --     stays_fixed     what creation fixed stays
 --     stays_narrow    the numbers of a device keep their place in a record
 -- Assumes nothing.

@@ -1,7 +1,7 @@
 -- The simulation: of every call, in every memory, the firmware reads what the event shows at the socket that the memory holds. Nothing is
 -- supposed: bytes that are no record, broken records and things of a wrong length are among them. Assumes nothing.
 --     same      what the firmware reads
---     leaves    the socket that is held after the call is the one that the event leaves; seen-socket: it is the one that is seen
+--     leaves    the socket that is held after the call is the one that the event leaves; seen_socket: it is the one that is seen
 use mathlib.Core.Path.{◌≡◌, refl, sym, ap, ◌∙◌}
 use mathlib.Core.Bool.{Bool, true, false, cond}
 use mathlib.Core.List.{List, [], ◌∷◌}
