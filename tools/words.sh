@@ -11,11 +11,15 @@ rustc=${RUSTC:-rustc}
 
 # ---- for every script
 
-# the_kit: sets kit to the folder of the Rattle kit, and own to what it has for this processor.
+# the_kit: sets kit to the folder of the Rattle kit, and bin and lib to its tools and its C library, which are for x86-64.
 the_kit() {
     kit=$(rt doc)
-    kit=${kit%/*/*} own=$kit/on/$(uname -m)
+    kit=${kit%/*}
+    bin=$kit/toolchain/bin lib=$kit/toolchain/lib
 }
+
+# llvm TOOL WORD..: a tool of LLVM that the kit's clang has under another name, as llvm-nm or llvm-objdump. It wants the_kit first.
+llvm() { (exec -a "$1" "$bin/clang" "${@:2}"); }
 
 # scratch: sets dir to a new folder in TMPDIR, which is gone when the script ends, also when a signal ends it.
 scratch() {
