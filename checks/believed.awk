@@ -3,17 +3,17 @@
 # of the code CRATE::TYPE or CRATE::MODULE::TYPE, a function likewise.
 #
 # What a text rests on is read off its words: a word is the file's own definition, or an imported one, or a name of an imported module.
-# Names that a definition gives to its parameters are no such words, and nor are fields, which come after a point.
+# Names that a definition gives to its parameters are no such words, and nor are fields, which come after a point, before ' = ' in a record
+# that is made, and before ' : ' in one that is declared.
 
-# 'Rattle·buffer·specs.specs.Buffer' and 'Rattle·buffer.specs.Buffer' are buffer.specs.Buffer; types of the code are declared in it.
+# 'Rattle.buffer.specs.Buffer' is buffer.specs.Buffer; types of the code are declared in it, with their variants beside them.
 function module_of(path,    crate, rest, at) {
-    sub(/^Rattle·/, "", path)
+    sub(/^Rattle\./, "", path)
     at = index(path, ".")
     crate = substr(path, 1, at - 1); rest = substr(path, at + 1)
-    sub(/·.*/, "", crate)
     if (rest !~ /^specs\.declared\./) return crate "." rest
     sub(/^specs\.declared\./, "", rest)
-    sub(/\.the-variants$/, "", rest)
+    sub(/\.TheVariants$/, "", rest)
     gsub(/\./, "::", rest)
     return crate "::" rest
 }
@@ -36,11 +36,11 @@ function import_line(line,    at, list, names, n, i, module, as) {
     } else if ((at = index(line, " as ")) > 0) alias[here, substr(line, at + 4)] = module_of(substr(line, 1, at - 1))
 }
 
-# A name of this file, with the parts of one that is written around its arguments, as _++_.
+# A name of this file, with the parts of one that is written around its arguments, as ◌++◌.
 function bring(name, target,    parts, n, i) {
     known[here, name] = target
-    if (name !~ /_/) return
-    n = split(name, parts, "_")
+    if (!index(name, "◌")) return
+    n = split(name, parts, "◌")
     for (i = 1; i <= n; i++) if (parts[i] != "" && !((here, parts[i]) in known)) known[here, parts[i]] = target
 }
 
@@ -106,9 +106,17 @@ language == "antt" {
 
 language == "rt" && /^ghost use / { import_line(substr($0, 11)); next }
 language == "rt" && /^use / {
-    line = $2; sub(/;$/, "", line); sub(/^crate::/, crate "::", line)
-    name = line; sub(/.*::/, "", name)
-    if (name ~ /^[A-Z]/) bring(name, line)
+    line = $0; sub(/^use /, "", line); sub(/;$/, "", line); sub(/^crate::/, crate "::", line)
+    n = 1; names[1] = line; module = ""
+    if ((at = index(line, "::{")) > 0) {
+        module = substr(line, 1, at + 1)
+        list = substr(line, at + 3); sub(/}$/, "", list)
+        n = split(list, names, / *, */)
+    }
+    for (i = 1; i <= n; i++) {
+        name = names[i]; sub(/.*::/, "", name)
+        if (name ~ /^[A-Z]/) bring(name, module names[i])
+    }
     next
 }
 language == "rt" && /^\/\// { pending++; next }
@@ -117,7 +125,7 @@ language == "rt" && /^(pub )?(struct|enum) / {
     name = $0; sub(/^(pub )?(struct|enum) /, "", name); sub(/[ ({;].*/, "", name)
     starts(here "::" name, 1); bring(name, now); in_type = 1
 }
-language == "rt" && /^#\[no_mangle\]/ { exported_next = 1; next }
+language == "rt" && /^#\[unsafe\(no_mangle\)\]/ { exported_next = 1; next }
 language == "rt" && /^(pub )?(extern "C" )?fn / {
     name = $0; sub(/\(.*/, "", name); sub(/.*fn /, "", name)
     starts(here "::" name, 1); in_contract = 1; is_function[now] = 1
@@ -142,20 +150,25 @@ function fault(s) { print "believed: " s; faults++ }
 function ours(name) { return name in place }
 
 # The definitions that NAME's text names, one to a line.
-function uses(name,    lines, n, i, at, bound, line, words, m, j, word, dot, module, found, target, file) {
+function uses(name,    lines, n, i, at, bound, line, words, m, j, word, head, rest, found, target, file) {
     if (name in used) return used[name]
     file = home[name]; found = ""
     n = split(text[name], lines, "\n")
     for (i = 2; i <= n; i++) {
         at = index(lines[i], "\t"); bound = substr(lines[i], 1, at - 1); line = substr(lines[i], at + 1)
+        sub(/^ +(pub )?[a-z_0-9]+ : /, " ", line) # a field of a record
         gsub(/[(){},;<>&\[\]]|λ|⌜|⌝|«|»/, " ", line)
         m = split(line, words, " ")
         for (j = 1; j <= m; j++) {
             word = words[j]; target = ""
-            if (word ~ /^\./ || index(bound, " " word " ")) continue
+            head = word; sub(/\..*/, "", head)
+            # A parameter, or a field of a record that is being made.
+            if (head == "" || index(bound, " " head " ") || (words[j + 1] == "=" && word ~ /^[a-z]/)) continue
             if ((file, word) in known) target = known[file, word]
-            else if ((dot = index(word, ".")) > 1 && (file, substr(word, 1, dot - 1)) in alias)
-                target = member(alias[file, substr(word, 1, dot - 1)], substr(word, dot + 1))
+            else if (head != word && (file, head) in alias) {
+                rest = substr(word, length(head) + 2); sub(/\..*/, "", rest)
+                target = member(alias[file, head], rest)
+            } else if ((file, head) in known) target = known[file, head]
             else { sub(/:$/, "", word); if ((file, word) in known) target = known[file, word] }
             if (target != "" && target != name && ours(target) && index(found, "\n" target "\n") == 0) found = found "\n" target "\n"
         }
