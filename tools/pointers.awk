@@ -5,10 +5,12 @@
 # to the same byte. In memory a pointer keeps its 8 bytes; with 32 bits only the first 4 are used, and the others are at most copied.
 # That is so if:
 # 1. No instruction sees the width: each line is of a form in the list below. None makes an integer of a pointer or a pointer of an integer,
-#    compares or chooses between pointers, or takes an offset or an alignment from the machine. The one size that is the machine's is
-#    that of an `alloca ptr`; it only ever holds a pointer.
+#    compares or chooses between pointers, or takes an offset or an alignment from the machine. The one exception is that an exported
+#    function asks whether a pointer of its caller's is null, which has the same answer with both widths. The one size that is the machine's
+#    is that of an `alloca ptr`; it only ever holds a pointer.
 # 2. No byte of memory is in a pointer for one access and in an integer for another, nor at two places within a pointer, and no copy cuts a
-#    pointer. So what is read as an integer was written as one, and what is read as a pointer was written as that pointer.
+#    pointer. So what is read as an integer was written as one, and what is read as a pointer was written as that pointer. A fill with 0 is
+#    neither: read before anything else is written, it is 0 or null with both widths.
 # Bytes are told apart by the object that they are in (an alloca or a parameter) and their offset. Where an object is handed to a call or
 # copied, its bytes are joined to the others into classes, over all functions and all calls of each. A pointer that was read from memory is
 # only known to lead to data: all that has its address stored, is indexed by a variable or is lent by C. Data is one class, of integers.
@@ -20,6 +22,8 @@
 BEGIN {
     integer = "i(1|8|16|32|64)"
     stored = "(i8|i16|i32|i64|ptr)"
+    # Two integers in one register, '{ i64, i64 }' in the module. The second stands in memory where its own alignment puts it.
+    pair = "pair_i(8|16|32|64)_i(8|16|32|64)"
     register = "%[a-z]+[0-9]+"
     label = "%[a-z]+([.][0-9]+)?"
     value = "(" register "|-?[0-9]+|true|false)"
@@ -28,9 +32,10 @@ BEGIN {
     for (i = 1; i <= 5; i++) width[types[i]] = widths[i]
 
     sets("alloca", "(\\[[0-9]+ x i8\\]|" stored "), align [0-9]+")
-    sets("load", stored ", ptr " register ", align [0-9]+(, !range ![0-9]+)?(, !noundef ![0-9]+)?")
+    sets("load", "(" stored "|" pair "), ptr " register ", align [0-9]+(, !range ![0-9]+)?(, !noundef ![0-9]+)?")
     sets("getelementptr", "(inbounds nuw )?i8, ptr " register ", i64 (" register "|-?[0-9]+)")
-    sets("icmp", "(eq|ne|u[lg][te]) " integer " " value ", " value)
+    sets("icmp", "((eq|ne|u[lg][te]) " integer " " value ", " value "|eq ptr " register ", null)")
+    sets("extractvalue", pair " " register ", [01]")
     sets("zext", integer " " value " to " integer)
     sets("trunc", "(nuw )?" integer " " value " to " integer)
     count = split("add sub mul shl udiv urem lshr and or xor", arithmetic, " ")
@@ -39,22 +44,22 @@ BEGIN {
         is_arithmetic[arithmetic[i]] = 1
     }
     form["store"] = "^  store " stored " " value ", ptr " register ", align [0-9]+$"
-    form["call"] = "^  (" register " = call " integer "|call void) " name "[(].*[)]$"
+    form["call"] = "^  (" register " = call (" integer "|" pair ")|call void) " name "[(].*[)]$"
     form["br"] = "^  br (label " label "|i1 " value ", label " label ", label " label ")$"
     form["switch"] = "^  switch " integer " " value ", label " label " \\[$"
-    form["ret"] = "^  ret (void|" integer " " value ")$"
+    form["ret"] = "^  ret (void|" integer " " value "|" pair " " register ")$"
     form["unreachable"] = "^  unreachable$"
     an_arm = "^    " integer " -?[0-9]+, label " label "$"
     a_label = "^[a-z]+([.][0-9]+)?:( +; preds = .*)?$"
-    a_definition = "^define (internal )?(void|noundef (i8|i16|i32|i64)|noundef zeroext i1) " name "[(].*[)] #[0-9]+ [{]$"
-    a_parameter = "^(((i8|i16|i32|i64|ptr) noundef)|i1 noundef zeroext) " register "$"
+    a_definition = "^define (internal )?(void|noundef (i8|i16|i32|i64)|(noundef )?" pair "|noundef zeroext i1) " name "[(].*[)] #[0-9]+ [{]$"
+    a_parameter = "^((i8|i16|i32|i64)( noundef)?|ptr noundef|i1 noundef zeroext) " register "$"
 
     layout = "target datalayout = \"e-m:e-p270:32:32-p271:32:32-p272:64:64-i64:64-i128:128-f80:128-n8:16:32:64-S128\""
     triple = "target triple = \"x86_64-unknown-linux-gnu\""
     memmove = "void @llvm.memmove.p0.p0.i64(ptr writeonly captures(none), ptr readonly captures(none), i64, i1 immarg)"
     memset = "void @llvm.memset.p0.i64(ptr writeonly captures(none), i8, i64, i1 immarg)"
     # What a definition and each declaration may promise; the numbers of these groups are the module's own.
-    promises[""] = "nounwind \"probe-stack\"=\"inline-asm\" \"target-cpu\"=\"x86-64\""
+    promises[""] = "nounwind \"probe-stack\"=\"inline-asm\" \"stack-probe-size\"=\"3072\" \"target-cpu\"=\"x86-64-v2\""
     promises[memmove] = "nocallback nofree nounwind willreturn memory(argmem: readwrite)"
     promises[memset] = "nocallback nofree nounwind willreturn memory(argmem: write)"
     promises["void @llvm.trap()"] = "cold noreturn nounwind memory(inaccessiblemem: write)"
@@ -75,7 +80,13 @@ function fault(line, what,    shown) {
 
 # ---- part 1: the forms
 
-{ text[NR] = $0 }
+{
+    text[NR] = $0
+    while (match($0, /[{] i(8|16|32|64), i(8|16|32|64) [}]/)) {
+        two = substr($0, RSTART + 2, RLENGTH - 4); sub(/, /, "_", two)
+        $0 = substr($0, 1, RSTART - 1) "pair_" two substr($0, RSTART + RLENGTH)
+    }
+}
 
 /^$/ || /^;/ { next }
 
@@ -127,7 +138,7 @@ function in_parentheses(line, list) {
     return split(line, list, ", ")
 }
 
-function definition(    list, parts, n, i, type) {
+function definition(    list, parts, n, i, type, count) {
     inside = 1; block = ""; in_switch = 0
     split("", type_of); split("", object_at); split("", offset_at)
     if ($0 !~ a_definition) { here = ""; fault(NR, "another form of definition"); return }
@@ -136,7 +147,7 @@ function definition(    list, parts, n, i, type) {
     if (here ~ /^@"?llvm[.]/) fault(NR, "a definition of what is LLVM's")
     defined[here] = NR; functions++
     is_exported[here] = $2 != "internal"
-    result[here] = /^define (internal )?void / ? "void" : $0 ~ "^define (internal )?noundef zeroext " ? "i1" : $(is_exported[here] ? 3 : 4)
+    result[here] = /^define (internal )?void / ? "void" : $0 ~ "^define (internal )?noundef zeroext " ? "i1" : result_type()
     attributes_at(NR, $(NF - 1), promises[""])
 
     takes[here] = ""
@@ -145,14 +156,20 @@ function definition(    list, parts, n, i, type) {
         if (list[i] !~ a_parameter) { fault(NR, "another form of parameter"); continue }
         type = substr(list[i], 1, index(list[i], " ") - 1)
         takes[here] = takes[here] " " type
-        split(list[i], parts, " ")
-        new_register(parts[type == "i1" ? 4 : 3], type)
+        count = split(list[i], parts, " ")
+        new_register(parts[count], type)
         if (type != "ptr") continue
         parameter[here, i] = new_object()
-        points(parts[3], objects, 0)
+        points(parts[count], objects, 0)
         if (is_exported[here]) lend(objects) # C lends data
     }
     if (is_exported[here]) exported_form()
+}
+
+# The type of a result, behind 'define', 'internal' and 'noundef'.
+function result_type(    at) {
+    at = is_exported[here] ? 2 : 3
+    return $at == "noundef" ? $(at + 1) : $at
 }
 
 # The build makes 32-bit lengths of just the i64 that follow a pointer. A result that is narrower than a register C expects to be widened,
@@ -185,12 +202,12 @@ function is_a(type, what) {
     return 0
 }
 
-function instruction(    line, w, n) {
+function instruction(    line, w, n, parts) {
     line = $0; gsub(/[][,]/, " ", line)
     n = split(line, w, " ")
     if (op == "alloca") an_alloca(w[1], w[4], w[n], w[5] == "x")
     else if (op == "load") {
-        access(w[4], w[6], w[8])
+        if (w[4] ~ /^pair_/) access_pair(w[4], w[6], w[8]); else access(w[4], w[6], w[8])
         new_register(w[1], w[4])
         if (w[4] == "ptr") points(w[1], DATA, 0)
         if (/ !range / && w[4] != "i8") fault(NR, "a range of another type than i8")
@@ -199,12 +216,21 @@ function instruction(    line, w, n) {
         access(w[2], w[5], w[7])
         if (w[2] == "ptr" && is_whole(w[3])) lend(object_at[w[3]])
     } else if (op == "getelementptr") an_address(w[1], w[n - 2], w[n])
-    else if (op == "icmp") { is_a(w[5], w[6]); is_a(w[5], w[7]); new_register(w[1], "i1") }
+    else if (op == "icmp") {
+        if (w[5] == "ptr") is_lent_by_c(w[6]); else { is_a(w[5], w[6]); is_a(w[5], w[7]) }
+        new_register(w[1], "i1")
+    } else if (op == "extractvalue") { split(w[4], parts, "_"); is_a(w[4], w[5]); new_register(w[1], parts[w[6] + 2]) }
     else if (op == "zext" || op == "trunc") { is_a(w[n - 3], w[n - 2]); new_register(w[1], w[n]) }
     else if (op in is_arithmetic) { is_a(w[n - 2], w[n - 1]); is_a(w[n - 2], w[n]); new_register(w[1], w[n - 2]) }
     else if (op == "br") { if (w[2] == "i1") is_a("i1", w[3]) }
     else if (op == "switch") { is_a(w[2], w[3]); in_switch = 1; switched = w[2] }
     else if (op == "ret") { if (w[2] != result[here]) fault(NR, "a result of another type"); else if (w[2] != "void") is_a(w[2], w[3]) }
+}
+
+# Whether a register is a pointer as the caller of an exported function lends it.
+function is_lent_by_c(reg) {
+    if (!is_a("ptr", reg)) return
+    if (!is_exported[here] || reg !~ /^%a/) fault(NR, "a pointer compared that no caller lends")
 }
 
 # Objects start with 1. Of an alloca the size and the alignment are known, of a parameter neither.
@@ -244,9 +270,21 @@ function is_whole(reg) {
 # A load or store of this type through the register.
 function access(type, reg, align) {
     if (!is_a("ptr", reg) || !is_aligned(align) || (type != "ptr" && !is_whole(reg))) return
-    if (type == "ptr" && (align != 8 || offset_at[reg] % 8)) fault(NR, "a pointer at a place that is not aligned to 8")
+    if (type == "ptr" && ((align != 8 && align != 1) || offset_at[reg] % 8)) fault(NR, "a pointer at a place that is not aligned to 8")
     touches(object_at[reg], offset_at[reg], width[type], align)
     kind(type == "ptr" ? "ptr" : "int", object_at[reg], offset_at[reg], width[type])
+}
+
+# The same of two integers. The second stands behind the first, where its width divides the offset.
+function access_pair(type, reg, align,    parts, second) {
+    if (!is_a("ptr", reg) || !is_aligned(align) || !is_whole(reg)) return
+    split(type, parts, "_")
+    second = width[parts[2]]
+    while (second % width[parts[3]]) second++
+    touches(object_at[reg], offset_at[reg], width[parts[2]], align)
+    touches(object_at[reg], offset_at[reg] + second, width[parts[3]], 1)
+    kind("int", object_at[reg], offset_at[reg], width[parts[2]])
+    kind("int", object_at[reg], offset_at[reg] + second, width[parts[3]])
 }
 
 function kind(what, object, offset, bytes) {
@@ -319,7 +357,7 @@ function intrinsic(callee, list,    to, from, bytes) {
         to = substr(list[1], 5); bytes = bytes_of(list[3])
         if (!is_a("ptr", to) || !is_a("i8", substr(list[2], 4)) || !is_whole(to)) return
         touches(object_at[to], offset_at[to], bytes, 1)
-        kind("int", object_at[to], offset_at[to], bytes)
+        if (list[2] != "i8 0") kind("int", object_at[to], offset_at[to], bytes)
         fills++
     } else fault(NR, "another form of " callee)
 }
