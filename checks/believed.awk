@@ -127,7 +127,7 @@ language == "rt" && /^(pub )?(struct|enum) / {
 }
 language == "rt" && /^#\[unsafe\(no_mangle\)\]/ { exported_next = 1; next }
 language == "rt" && /^(pub )?(extern "C" )?fn / {
-    name = $0; sub(/\(.*/, "", name); sub(/.*fn /, "", name)
+    name = $0; sub(/[<(].*/, "", name); sub(/.*fn /, "", name)
     starts(here "::" name, 1); in_contract = 1; is_function[now] = 1
     if (exported_next) { exports[now] = 1; exported_next = 0 }
 }

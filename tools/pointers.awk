@@ -27,7 +27,7 @@ BEGIN {
     register = "%[a-z]+[0-9]+"
     label = "%[a-z]+([.][0-9]+)?"
     value = "(" register "|-?[0-9]+|true|false)"
-    name = "@(\"[A-Za-z0-9_:.]+\"|[a-z0-9_.]+)"
+    name = "@(\"[A-Za-z0-9_:.+*#'<>=,{}\\[\\]]+\"|[a-z0-9_.]+)"
     split("i8 i16 i32 i64 ptr", types, " "); split("1 2 4 8 8", widths, " ")
     for (i = 1; i <= 5; i++) width[types[i]] = widths[i]
 
@@ -50,7 +50,7 @@ BEGIN {
     form["ret"] = "^  ret (void|" integer " " value "|" pair " " register ")$"
     form["unreachable"] = "^  unreachable$"
     an_arm = "^    " integer " -?[0-9]+, label " label "$"
-    a_label = "^[a-z]+([.][0-9]+)?:( +; preds = .*)?$"
+    a_label = "^[a-z]+([.][0-9]+)?:( +; (preds = .*|No predecessors!))?$"
     a_definition = "^define (internal )?(void|noundef (i8|i16|i32|i64)|(noundef )?" pair "|noundef zeroext i1) " name "[(].*[)] #[0-9]+ [{]$"
     a_parameter = "^((i8|i16|i32|i64)( noundef)?|ptr noundef|i1 noundef zeroext) " register "$"
 
@@ -82,6 +82,11 @@ function fault(line, what,    shown) {
 
 {
     text[NR] = $0
+    # A name may have the type of no value in it; its parentheses are none of a call.
+    while (match($0, /@"[^"]*[(][)][^"]*"/)) {
+        two = substr($0, RSTART, RLENGTH); sub(/[(][)]/, "<>", two)
+        $0 = substr($0, 1, RSTART - 1) two substr($0, RSTART + RLENGTH)
+    }
     while (match($0, /[{] i(8|16|32|64), i(8|16|32|64) [}]/)) {
         two = substr($0, RSTART + 2, RLENGTH - 4); sub(/, /, "_", two)
         $0 = substr($0, 1, RSTART - 1) "pair_" two substr($0, RSTART + RLENGTH)
@@ -117,6 +122,7 @@ function outside(    head, at) {
         at = index($0, "{")
         if ($2 in group) fault(NR, "a group of attributes twice")
         group[$2] = substr($0, at + 2, length($0) - at - 3)
+        sub(/^cold noinline /, "", group[$2]) # that a function stands apart changes nothing that it does
         if (!(group[$2] in is_promise)) { fault(NR, "attributes that are not in the list"); is_strange[$2] = 1 }
         return
     }

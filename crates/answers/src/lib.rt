@@ -35,13 +35,13 @@ pub enum Answer {
 // This is asked of both endpoints at once. In the last case they are first unstalled and then stalled.
 #[derive(Clone, Copy)]
 pub enum Stalls {
-    Kept,
-    Stalled,
-    Unstalled,
-    UnstalledStalled,
+    Kept = 0,
+    Stalled = 1,
+    Unstalled = 2,
+    UnstalledStalled = 3,
 }
 
-// Gives document 01's number of `answer`.
+// Gives document 01's number of `answer`. (No `as`: two of the answers carry something.)
 pub fn answer_number(answer: Answer) -> u8
     ensures { result ≡ (answer_of answer).number }
 {
@@ -68,20 +68,8 @@ pub fn carried(answer: Answer) -> u8
     ensures { result ≡ (answer_of answer).carried }
 {
     match answer {
-        Answer::Done => 0,
-        Answer::IoBufferOverflow(_) => 0,
-        Answer::InvalidMaxLun => 0,
-        Answer::InvalidState => 0,
-        Answer::FullPacketExpected => 0,
-        Answer::BufferTooSmall => 0,
-        Answer::WouldBlock => 0,
         Answer::EndpointError(number) => number,
-        Answer::PacketSizeRefused => 0,
-        Answer::BufferTooLarge => 0,
-        Answer::BrokenRecord => 0,
-        Answer::PacketRefused => 0,
-        Answer::StatusRefused => 0,
-        Answer::EmptyBlock => 0,
+        _ => 0,
     }
 }
 
@@ -90,20 +78,8 @@ pub fn missing(answer: Answer) -> usize
     ensures { result ≡ (answer_of answer).missing }
 {
     match answer {
-        Answer::Done => 0,
         Answer::IoBufferOverflow(bytes) => bytes,
-        Answer::InvalidMaxLun => 0,
-        Answer::InvalidState => 0,
-        Answer::FullPacketExpected => 0,
-        Answer::BufferTooSmall => 0,
-        Answer::WouldBlock => 0,
-        Answer::EndpointError(_) => 0,
-        Answer::PacketSizeRefused => 0,
-        Answer::BufferTooLarge => 0,
-        Answer::BrokenRecord => 0,
-        Answer::PacketRefused => 0,
-        Answer::StatusRefused => 0,
-        Answer::EmptyBlock => 0,
+        _ => 0,
     }
 }
 
@@ -111,24 +87,18 @@ pub fn missing(answer: Answer) -> usize
 pub fn endpoint_of(byte: u8) -> Endpoint
     ensures { result ≡ endpoint_of byte }
 {
-    if byte == 0 {
-        return Endpoint::Served;
+    match byte {
+        0 => Endpoint::Served,
+        1 => Endpoint::Busy,
+        number => Endpoint::Failed(number),
     }
-    if byte == 1 {
-        return Endpoint::Busy;
-    }
-    Endpoint::Failed(byte)
 }
 
 // Tests whether the endpoint `e` does its part.
 pub fn served(e: Endpoint) -> bool
     ensures { result ≡ serves e }
 {
-    match e {
-        Endpoint::Served => true,
-        Endpoint::Busy => false,
-        Endpoint::Failed(_) => false,
-    }
+    matches!(e, Endpoint::Served)
 }
 
 // Gives the answer of a call that asks the endpoint `e`.
@@ -146,14 +116,10 @@ pub fn answered(e: Endpoint) -> Answer
 pub fn asked(unstalled: bool, stalled: bool) -> Stalls
     ensures { result ≡ stalls_of unstalled stalled }
 {
-    if unstalled {
-        if stalled {
-            return Stalls::UnstalledStalled;
-        }
-        return Stalls::Unstalled;
+    match (unstalled, stalled) {
+        (false, false) => Stalls::Kept,
+        (false, true) => Stalls::Stalled,
+        (true, false) => Stalls::Unstalled,
+        (true, true) => Stalls::UnstalledStalled,
     }
-    if stalled {
-        return Stalls::Stalled;
-    }
-    Stalls::Kept
 }

@@ -21,6 +21,7 @@ use lib.ListN.{length, take, drop, replicate, take-append-drop, length-append, l
 use lib.Seq.{length-take-le, take-length, take-take, drop-drop}
 use borrow.Author.Tests.{eq-eqb, ne_eqb, le-leb, lt-leb, lt-ltb, le-ltb}
 use borrow.Table.Steps.{cases}
+use Rattle.std.specs.Prelude.{Some}
 use Rattle.fields.specs.Overlay.{overlay}
 use Rattle.fields.proofs.Bools.{of_picked}
 use Rattle.fields.proofs.Seq.{drop_take}
@@ -35,15 +36,13 @@ use Rattle.answers.specs.Answers.{answer, lacking, endpoint_of, serves, answered
 use Rattle.ring.specs.declared.State.TheVariants.{CommandTransferInvalid, StatusTransfer, DataTransferToHost, DataTransferToHostEnding, DataTransferFromHost, DataTransferFromHostEnding}
 use Rattle.wrapper.specs.declared.Wrapper.{Wrapper}
 use Rattle.wrapper.specs.declared.counters.Left.{Left}
-use Rattle.wrapper.specs.declared.counters.Residue.{Residue}
-use Rattle.wrapper.specs.declared.status.CommandStatus.{CommandStatus}
 use Rattle.wrapper.specs.Counters.{fallen}
 use Rattle.wrapper.specs.Status.{status_number, status_bytes}
 use Rattle.wrapper.specs.Wrapper.{is_valid, wrapper_of}
 use Rattle.wrapper.proofs.Csw.{length_status}
 use Rattle.packets.specs.Packets.{handed, read_answer, takes_one, brought, received, accepted, send_answer, sent_count, sent_off, sent_into, filled_up, status_written}
 use Rattle.packets.proofs.Laws.{handed_most, answers_0, answer_served, sent_unserved, off_nothing, into_nothing}
-use Rattle.device.specs.declared.Status.TheVariants.{Present}
+use Rattle.device.specs.declared.Told.{Told}
 use Rattle.device.specs.Device.{is_present, in_state, with_marks, with_left}
 use Rattle.bbb.specs.Poll.{Given, Polling, Point, buffer_of_point, reaching, leaving, left_then, counting, ending, ends, send_by, send, send_status, send_data, offered_packet, offered_by, take_by, take_data, status_put, enter_status, status_await_rule, no_data_rule, to_host_ending_rule, falls_short, to_host_rule, from_host_ending_rule, from_host_rule, starting, start_rule, message_at, past31, parsing, parse_rule, read_by, read_one_by, read_cbw_rule}
 use Rattle.bbb.proofs.Keeping.{follows_received, follows_filled, follows_status, by_direction_lem}
@@ -203,11 +202,11 @@ module _ (g : Given) (x : Point) (some : x.device.left.0 ≡ 0 → ⊥) where
 
 -- ---- the status
 
-status_put_lem : (tag : ℕ) (status : CommandStatus) (residue : Residue) (s : Buffer) → 13 ≤ length s.bytes → unread_bytes (status_put tag (Present status residue) s) ≡ status_bytes tag residue (status_number status)
+status_put_lem : (tag : ℕ) (t : Told) (s : Buffer) → 13 ≤ length s.bytes → unread_bytes (status_put tag (Some t) s) ≡ status_bytes tag t.residue (status_number t.status)
 unfolding status_put status_written emptied
-status_put_lem tag status residue s wide =
-    let ys : List ℕ = status_bytes tag residue (status_number status) in
-    let long : length ys ≡ 13 = length_status tag residue (status_number status) in
+status_put_lem tag t s wide =
+    let ys : List ℕ = status_bytes tag t.residue (status_number t.status) in
+    let long : length ys ≡ 13 = length_status tag t.residue (status_number t.status) in
     let all : fitting (length ys) (emptied s) ≡ length ys = fitting_by_unread (length ys) (emptied s) (sound_emptied s) ∙ min-eq_right (omega arith) in
     unread_written ys (emptied s) (sound_emptied s) ∙ rw (all, unread_emptied s) (take-length ys)
 
@@ -225,17 +224,17 @@ unfolding enter_status send send_by
 enter_keeps g x = refl
 
 -- A status is present, and the buffer is large enough for it.
-module _ (x : Point) (status : CommandStatus) (residue : Residue) (here : x.device.status ≡ Present status residue) (wide : 13 ≤ length x.io) where
+module _ (x : Point) (t : Told) (here : x.device.status ≡ Some t) (wide : 13 ≤ length x.io) where
   -- The 13 bytes of the status are unread before the send.
-  pub stated_unread : unread_bytes (buffer_of_point (stated x)) ≡ status_bytes x.device.wrapper.tag residue (status_number status)
-  stated_unread = rw here (status_put_lem x.device.wrapper.tag status residue (buffer_of_point x) wide)
+  pub stated_unread : unread_bytes (buffer_of_point (stated x)) ≡ status_bytes x.device.wrapper.tag t.residue (status_number t.status)
+  stated_unread = rw here (status_put_lem x.device.wrapper.tag t (buffer_of_point x) wide)
 
   stated_count : unread (buffer_of_point (stated x)) ≡ 13
-  stated_count = sym (length_unread (buffer_of_point (stated x)) (stated_sound x)) ∙ ap length stated_unread ∙ length_status x.device.wrapper.tag residue (status_number status)
+  stated_count = sym (length_unread (buffer_of_point (stated x)) (stated_sound x)) ∙ ap length stated_unread ∙ length_status x.device.wrapper.tag t.residue (status_number t.status)
 
   module _ (g : Given) where
     -- The bytes sent, and then those still unread, are the 13 of the status.
-    pub enter_unread : take (enter_status g x).sent (enter_status g x).packet ++ unread_bytes (buffer_after (enter_status g x)) ≡ status_bytes x.device.wrapper.tag residue (status_number status)
+    pub enter_unread : take (enter_status g x).sent (enter_status g x).packet ++ unread_bytes (buffer_after (enter_status g x)) ≡ status_bytes x.device.wrapper.tag t.residue (status_number t.status)
     unfolding enter_status
     enter_unread = send_unread false g (stated x) (stated_sound x) ∙ stated_unread
 

@@ -19,6 +19,7 @@ use native.Mathlib.Omega.{arith}
 use lib.Dec.{eqb, leb, lit<}
 use lib.ListN.{length, get_or, length-take}
 use borrow.Author.Tests.{leb-true, le-leb}
+use Rattle.std.specs.Prelude.{Option, None, Some}
 use Rattle.fields.specs.Field.{bytes_at, get_bits}
 use Rattle.fields.proofs.Bools.{and_right, not_true, of_picked}
 use Rattle.fields.proofs.Field.{get_below}
@@ -45,8 +46,7 @@ use Rattle.wrapper.specs.Wrapper.{d_cbw_tag, d_cbw_data_transfer_length, is_vali
 use Rattle.wrapper.proofs.Cbw.{is_valid_lem}
 use Rattle.packets.specs.Packets.{handed, read_answer, takes_one, brought, received, accepted, send_answer, sent_count, sent_off, sent_into, filled_up, status_written}
 use Rattle.packets.proofs.Laws.{moves_most, read_lacks, read_legible, send_lacks, send_legible}
-use Rattle.device.specs.declared.Status.{Status}
-use Rattle.device.specs.declared.Status.TheVariants.{Absent, Present}
+use Rattle.device.specs.declared.Told.{Told}
 use Rattle.device.specs.declared.Fixed.{Fixed}
 use Rattle.device.specs.declared.Device.{Device}
 use Rattle.device.specs.Device.{is_present, numbers_of, with_marks, with_left, with_wrapper, counted_anew}
@@ -75,11 +75,11 @@ pub follows_filled : (p : ℕ) (left : Left) (s : Buffer) → Sound s → Follow
 unfolding filled_up
 follows_filled p left s h = record { sound = sound_filled 0xFF _ s h; long = length_filled 0xFF _ s h }
 
-pub follows_status : (tag : ℕ) (status : Status) (s : Buffer) → Follows (status_put tag status s) s
+pub follows_status : (tag : ℕ) (status : Option Told) (s : Buffer) → Follows (status_put tag status s) s
 unfolding status_put status_written emptied
-follows_status tag Absent s = record { sound = sound_emptied s; long = refl }
-follows_status tag (Present status residue) s =
-    let ys : List ℕ = status_bytes tag residue (status_number status) in
+follows_status tag None s = record { sound = sound_emptied s; long = refl }
+follows_status tag (Some t) s =
+    let ys : List ℕ = status_bytes tag t.residue (status_number t.status) in
     record { sound = sound_written ys (emptied s) (sound_emptied s); long = length_written ys (emptied s) (sound_emptied s) }
 
 pub follows_31 : (s : Buffer) → Sound s → 31 ≤ unread s → Follows (past31 s) s
@@ -125,7 +125,7 @@ valid_narrow m v d n =
 -- ---- the points of a poll of d, over an IO buffer of len bytes: what never changes, all that makes a record whole except the status,
 -- which depends on the state in which the poll ends, and that a narrow device stays narrow
 
-record Standing (d : Device) (len : ℕ) (f : Fixed) (s : Buffer) (v : Wrapper) (l : Left) (t : Status) (c : PutIn) : Type 0 where
+record Standing (d : Device) (len : ℕ) (f : Fixed) (s : Buffer) (v : Wrapper) (l : Left) (t : Option Told) (c : PutIn) : Type 0 where
   fixed : f ≡ d.fixed
   long : length s.bytes ≡ len
   sound : Sound s

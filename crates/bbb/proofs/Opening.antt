@@ -6,7 +6,7 @@ use Prim.Native.Nat.{ℕ, ◌+◌, ◌-◌, ◌≤◌}
 use native.Mathlib.Omega.{arith}
 use lib.Dec.{eqb, leb}
 use lib.ListN.{length, take, drop}
-use borrow.Author.Tests.{eq-eqb, ne_eqb, leb-true}
+use borrow.Author.Tests.{leb-true}
 use Rattle.fields.proofs.Bools.{and_right, clash}
 use Rattle.fields.proofs.Seq.{length_part}
 use Rattle.buffer.specs.declared.Marks.{Marks}
@@ -17,41 +17,21 @@ use Rattle.answers.specs.declared.Endpoint.{Endpoint}
 use Rattle.answers.specs.Answers.{endpoint_of}
 use Rattle.ring.specs.declared.Found.TheVariants.{Nothing, Invalid, Valid}
 use Rattle.ring.specs.States.{state_number}
-use Rattle.wrapper.specs.declared.DataDirection.TheVariants.{NotExpected}
 use Rattle.wrapper.specs.declared.Head.{Head}
 use Rattle.wrapper.specs.declared.counters.Left.{Left}
 use Rattle.wrapper.specs.Wrapper.{is_valid, wrapper_of}
 use Rattle.wrapper.specs.Inner.Wrapper.{head_of}
+use Rattle.std.specs.Prelude.{is_some}
 use Rattle.packets.specs.declared.Received.{Received}
 use Rattle.packets.specs.Packets.{takes_one, received}
+use Rattle.packets.proofs.Laws.{was_taken}
 use Rattle.packets.specs.Inner.Packets.{Reads}
 use Rattle.device.specs.declared.Numbers.{Numbers}
 use Rattle.device.specs.Broken.{Whole}
 use Rattle.device.proofs.Wholly.{whole_sound}
 use Rattle.bbb.specs.declared.open.Opened.{Opened}
 use Rattle.bbb.specs.Poll.{message_at}
-use Rattle.bbb.specs.Inner.Phases.{Opens, marks_past31, parsed_open, count_of, open_after, read_open, read_io, opens_in, left_when, is_opening, opened, opened_io}
-
--- ---- small tests
-
-pub ripe_by : (took : Bool) (n : ℕ) → took ≡ true → leb 31 n ≡ (took && leb 31 n)
-ripe_by took n q = rw q
-
-pub left_cleared : (b : Bool) (left : Left) → b ≡ true → record { 0 = 0 } ≡ left_when b left
-left_cleared b left q = rw q
-
-module _ (state : ℕ) (empty : Bool) where
-  pub reaches_0 : state ≡ 0 → true ≡ opens_in state empty
-  unfolding opens_in
-  reaches_0 q = rw (eq-eqb _ _ q)
-
-  pub reaches_3 : (state ≡ 0 → ⊥) → state ≡ 3 → empty ≡ opens_in state empty
-  unfolding opens_in
-  reaches_3 k q = rw (ne_eqb _ _ k, eq-eqb _ _ q)
-
-  pub reaches_not : (state ≡ 0 → ⊥) → (state ≡ 3 → ⊥) → false ≡ opens_in state empty
-  unfolding opens_in
-  reaches_not k l = rw (ne_eqb _ _ k, ne_eqb _ _ l)
+use Rattle.bbb.specs.Inner.Phases.{Opens, marks_past31, parsed_open, count_of, open_after, read_open, read_io, opens_in, left_when, is_opening, clears, opened, opened_io}
 
 -- ---- the 31 bytes
 
@@ -77,7 +57,7 @@ module _ (m : Marks) (io : List ℕ) where
 
     pub parses_valid : v ≡ true → {w : Head} → w ≡ head_of (wrapper_of (take (m.read + 31 - m.read) (drop m.read io)))
         → Opens (parsed_open (buffer io m) left cleared) io
-        (record { found = Valid; marks = marks_past31 m; left = record { 0 = w.length }; direction = w.direction; answer = Done; taken = 1; cleared = cleared }) io
+        (record { found = Valid w.direction; marks = marks_past31 m; left = record { 0 = w.length }; answer = Done; taken = 1; cleared = cleared }) io
     unfolding parsed_open
     parses_valid q hw = record {
       leaves = rw (valid_is q, hw, message_is);
@@ -89,7 +69,7 @@ module _ (m : Marks) (io : List ℕ) where
 
     pub parses_invalid : v ≡ false
         → Opens (parsed_open (buffer io m) left cleared) io
-        (record { found = Invalid; marks = marks_past31 m; left = left; direction = NotExpected; answer = Done; taken = 1; cleared = cleared }) io
+        (record { found = Invalid; marks = marks_past31 m; left = left; answer = Done; taken = 1; cleared = cleared }) io
     unfolding parsed_open
     parses_invalid q = record {
       leaves = rw (valid_is q);
@@ -107,16 +87,19 @@ count_most false = omega arith
 
 module _ (p first : ℕ) (one : List ℕ) (left : Left) (cleared : Bool) (s : Buffer)
     {e : Endpoint} (he : e ≡ endpoint_of first) {r : Received} {io : List ℕ} (y : Reads p e one s r io)
-    {v : Bool} (hv : v ≡ (r.taken && leb 31 (r.marks.write - r.marks.read))) where
+    {t : Bool} (ht : t ≡ is_some r.brought) {v : Bool} (hv : v ≡ (t && leb 31 (r.marks.write - r.marks.read))) where
   x : Reads p (endpoint_of first) one s r io
   x = rw he at y
 
+  is_taken : t ≡ takes_one p (endpoint_of first) s
+  is_taken = ht ∙ was_taken p (endpoint_of first) one s x
+
   -- If it is ripe, 31 bytes are unread.
   pub ripe_31 : v ≡ true → r.marks.read + 31 ≤ r.marks.write
-  ripe_31 q = omega (arith, leb-true 31 (r.marks.write - r.marks.read) (and_right r.taken (leb 31 (r.marks.write - r.marks.read)) (sym hv ∙ q)), x.leaves.sound.order)
+  ripe_31 q = omega (arith, leb-true 31 (r.marks.write - r.marks.read) (and_right t (leb 31 (r.marks.write - r.marks.read)) (sym hv ∙ q)), x.leaves.sound.order)
 
   ripe_is : {b : Bool} → v ≡ b → (takes_one p (endpoint_of first) s && leb 31 (unread (received p (endpoint_of first) one s))) ≡ b
-  ripe_is q = rw (← x.taken, ← x.leaves.same) (sym hv ∙ q)
+  ripe_is q = rw (← is_taken, ← x.leaves.same) (sym hv ∙ q)
 
   pub reads_parse : v ≡ true → {w : Opened} {io' : List ℕ}
       → Opens (parsed_open (buffer io r.marks) left cleared) io w io'
@@ -130,32 +113,32 @@ module _ (p first : ℕ) (one : List ℕ) (left : Left) (cleared : Bool) (s : Bu
     front = z.front;
   }
 
-  pub reads_nothing : v ≡ false → {k : ℕ} → k ≡ count_of r.taken
+  pub reads_nothing : v ≡ false → {k : ℕ} → k ≡ count_of t
       → Opens (read_open p (endpoint_of first) one left cleared s) (read_io p (endpoint_of first) one s)
-      (record { found = Nothing; marks = r.marks; left = left; direction = NotExpected; answer = r.answer; taken = k; cleared = cleared }) io
+      (record { found = Nothing; marks = r.marks; left = left; answer = r.answer; taken = k; cleared = cleared }) io
   unfolding read_open open_after
   reads_nothing q hk = record {
-    leaves = rw (ripe_is q, ← x.leaves.same, x.answer, hk, x.taken);
+    leaves = rw (ripe_is q, ← x.leaves.same, x.answer, hk, is_taken);
     bytes = ap (λ (t : Buffer). t.bytes) x.leaves.same;
     sound = x.leaves.sound;
-    once = rw hk (count_most r.taken);
+    once = rw hk (count_most t);
     front = λ e. absurd (clash (sym e));
   }
 
 -- ---- whether the wrapper is reached
 
-module _ (n : Numbers) (io one : List ℕ) (e : Endpoint) {k : ℕ} (hk : k ≡ state_number n.state)
-    {v : Bool} (hv : v ≡ opens_in k (eqb (n.marks.write - n.marks.read) 0)) where
+module _ (n : Numbers) (io one : List ℕ) (e : Endpoint)
+    {v : Bool} (hv : v ≡ opens_in (state_number n.state) (eqb (n.marks.write - n.marks.read) 0)) where
   opening_is : {b : Bool} → v ≡ b → is_opening n ≡ b
   unfolding is_opening
-  opening_is q = rw (← hk) (sym hv ∙ q)
+  opening_is q = sym hv ∙ q
 
-  pub opens_reads : v ≡ true → {l : Left} → l ≡ left_when (eqb k 3) n.left → {r : Opened} {io' : List ℕ}
-      → Opens (read_open n.fixed.packetsize e one l (eqb k 3) (buffer io n.marks)) (read_io n.fixed.packetsize e one (buffer io n.marks)) r io'
+  pub opens_reads : v ≡ true → {l : Left} → l ≡ left_when (clears n) n.left → {r : Opened} {io' : List ℕ}
+      → Opens (read_open n.fixed.packetsize e one l (clears n) (buffer io n.marks)) (read_io n.fixed.packetsize e one (buffer io n.marks)) r io'
       → Opens (opened n io one e) (opened_io n io one e) r io'
   unfolding opened opened_io
   opens_reads q hl y = record {
-    leaves = rw (opening_is q, ← hk, ← hl) y.leaves;
+    leaves = rw (opening_is q, ← hl) y.leaves;
     bytes = rw (opening_is q) y.bytes;
     sound = y.sound;
     once = y.once;
@@ -164,7 +147,7 @@ module _ (n : Numbers) (io one : List ℕ) (e : Endpoint) {k : ℕ} (hk : k ≡ 
 
   pub opens_not : v ≡ false → Whole n (length io)
       → Opens (opened n io one e) (opened_io n io one e)
-      (record { found = Nothing; marks = n.marks; left = n.left; direction = NotExpected; answer = Done; taken = 0; cleared = false }) io
+      (record { found = Nothing; marks = n.marks; left = n.left; answer = Done; taken = 0; cleared = false }) io
   unfolding opened opened_io
   opens_not q w = record {
     leaves = rw (opening_is q);
@@ -174,4 +157,4 @@ module _ (n : Numbers) (io one : List ℕ) (e : Endpoint) {k : ℕ} (hk : k ≡ 
     front = λ h. absurd (clash (sym h));
   }
 
-pub ruleset ways = (ripe_by, left_cleared, reaches_0, reaches_3, reaches_not, part_31, parses_valid, parses_invalid, ripe_31, reads_parse, reads_nothing, opens_reads, opens_not, whole_sound)
+pub ruleset ways = (part_31, parses_valid, parses_invalid, ripe_31, reads_parse, reads_nothing, opens_reads, opens_not, whole_sound)

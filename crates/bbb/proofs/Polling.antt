@@ -1,12 +1,12 @@
 -- Laws of a poll: what has to be shown for each way through its functions (`ways`). Assumes nothing.
 use mathlib.Core.Path.{◌≡◌, sym, ◌∙◌}
-use mathlib.Core.Bool.{Bool, true, false, cond, ◌&&◌}
+use mathlib.Core.Bool.{Bool, true, false, ◌&&◌}
 use mathlib.Core.List.{List}
-use Prim.Native.Nat.{ℕ, ◌-◌, ◌≤◌, ◌<◌}
+use Prim.Native.Nat.{ℕ, ◌-◌, ◌≤◌}
 use lib.Dec.{eqb, leb}
 use native.Mathlib.Omega.{arith}
 use lib.ListN.{length, take, drop}
-use borrow.Author.Tests.{le-leb, lt-leb, leb-true}
+use borrow.Author.Tests.{le-leb, leb-true}
 use Rattle.fields.proofs.Bools.{and_left, and_right}
 use Rattle.fields.proofs.Seq.{length_part}
 use Rattle.buffer.specs.declared.Marks.{Marks}
@@ -23,9 +23,7 @@ use Rattle.wrapper.specs.declared.counters.PutIn.{PutIn}
 use Rattle.wrapper.specs.Wrapper.{wrapper_of}
 use Rattle.device.specs.declared.Device.{Device}
 use Rattle.device.specs.declared.Numbers.{Numbers}
-use Rattle.device.specs.declared.Status.{Status}
-use Rattle.device.specs.declared.Status.TheVariants.{Absent}
-use Rattle.device.specs.Device.{is_present, numbers_of, rebuilt, with_put_in}
+use Rattle.device.specs.Device.{is_present, numbers_of}
 use Rattle.device.specs.Broken.{is_whole, unless_broken}
 use Rattle.device.proofs.Wholly.{tested, absent_in_0}
 use Rattle.bbb.specs.declared.Change.{Change}
@@ -33,25 +31,8 @@ use Rattle.bbb.specs.declared.Polled.{Polled}
 use Rattle.bbb.specs.declared.open.Opened.{Opened}
 use Rattle.bbb.specs.declared.act.Did.{Did}
 use Rattle.bbb.specs.Poll.{Given, Fits, is_fitting, polling_of, poll_rule, poll_call}
-use Rattle.bbb.specs.Inner.Phases.{refused_by, opening_of, is_valid_found, InFront, Opens, opened, opened_io, just_read, wrapper_then, is_counted_anew, put_in_then, Acts, acted, acted_packet, ended_of, ends_with, gone_on, changed_by}
+use Rattle.bbb.specs.Inner.Phases.{refused_by, opening_of, is_valid_found, InFront, Opens, opened, opened_io, just_read, wrapper_then, put_in_then, Acts, acted, acted_packet, ended_of, ends_with, gone_on, changed_by}
 use Rattle.bbb.proofs.Same.{finish, follows, same}
-
--- ---- small picks
-
-pub clears_status : (b : Bool) (s : Status) → b ≡ true → Absent ≡ cond b Absent s
-clears_status b s q = rw q
-
-pub keeps_status : (b : Bool) (s : Status) → b ≡ false → s ≡ cond b Absent s
-keeps_status b s q = rw q
-
-pub counts_anew : (o : Opened) (c : PutIn) {b : Bool} → b ≡ is_counted_anew o.found o.cleared → b ≡ true → record { 0 = 0 } ≡ put_in_then (opening_of o) c
-counts_anew o c hb q = rw (← hb, q)
-
-pub keeps_count : (o : Opened) (c : PutIn) {b : Bool} → b ≡ is_counted_anew o.found o.cleared → b ≡ false → c ≡ put_in_then (opening_of o) c
-keeps_count o c hb q = rw (← hb, q)
-
-pub changes : (d : Device) (c : Change) (w : Wrapper) (n : PutIn) {s : Status} → s ≡ cond c.cleared Absent d.status → {r : Device} → r ≡ rebuilt d c.state c.marks w s c.left → with_put_in n r ≡ changed_by d c w n
-changes d c w n hs hr = rw (hr, hs)
 
 -- ---- the wrapper that opening found
 
@@ -85,18 +66,9 @@ module _ (o : Opened) {v : Bool} (hv : v ≡ is_valid_found o.found) where
 
 -- ---- 11
 
-module _ (p packet one two : ℕ) where
-  pub fits_all : one ≤ p → two ≤ p → leb p packet ≡ is_fitting p packet one two
-  unfolding is_fitting
-  fits_all a b = rw (le-leb _ _ a, le-leb _ _ b)
-
-  pub fits_not_two : one ≤ p → p < two → false ≡ is_fitting p packet one two
-  unfolding is_fitting
-  fits_not_two a b = rw (le-leb _ _ a, lt-leb _ _ b)
-
-  pub fits_not_one : p < one → false ≡ is_fitting p packet one two
-  unfolding is_fitting
-  fits_not_one a = rw (lt-leb _ _ a)
+pub fits_all : (p packet one two : ℕ) → one ≤ p → two ≤ p → leb p packet ≡ is_fitting p packet one two
+unfolding is_fitting
+fits_all p packet one two a b = rw (le-leb _ _ a, le-leb _ _ b)
 
 pub first_fits : (p packet one two : ℕ) {r : Bool} → r ≡ is_fitting p packet one two → r ≡ true → one ≤ p
 unfolding is_fitting
@@ -114,7 +86,7 @@ is_fitting_lem p packet one two h e =
 -- ---- decide and act
 
 pub goes_on : (n : Numbers) (o : Opened) (io : List ℕ) (g : Given) {p : Bool} {a : Act} {row : Row} {r : Did} {io' packet' : List ℕ} {s : Stalls}
-    → p ≡ is_present n.status → a ≡ settled n.state n.left.0 p (eqb (n.marks.write - n.marks.read) 0) o.found o.direction o.left.0 → row ≡ row_of a
+    → p ≡ is_present n.status → a ≡ settled n.state o.left.0 p (eqb (n.marks.write - n.marks.read) 0) o.found → row ≡ row_of a
     → Acts (acted row n (opening_of o) io g) (acted_packet row n (opening_of o) io g) r io' packet' → s ≡ stalls_of o.cleared r.stalled
     → ended_of (record { state = row.0; marks = r.marks; left = r.left; cleared = o.cleared; report = record { answer = r.answer; taken = r.taken; sent = r.sent; stalls = s } }) io' packet' ≡ gone_on n (opening_of o) io g
 unfolding gone_on ends_with
@@ -146,4 +118,4 @@ module _ (d : Device) (io : List ℕ) (g : Given) {n : Numbers} (hn : n ≡ numb
         rw (← hn, ← x.leaves, ← x.bytes, ← y) in
         rw (← hn, ← hv, q, ← fit, p, h, z, m) (k ∙ same d.state d io g (absent_in_0 (numbers_of d) (length io) (rw hn at (tested n (length io) hv q))))
 
-pub ruleset ways = (clears_status, keeps_status, counts_anew, keeps_count, changes, found_31, found_part, found_wrapper, kept_wrapper, fits_all, fits_not_two, fits_not_one, first_fits, is_fitting_lem, goes_on, tested)
+pub ruleset ways = (found_31, found_part, found_wrapper, kept_wrapper, first_fits, is_fitting_lem, goes_on, tested)

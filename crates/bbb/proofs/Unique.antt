@@ -36,7 +36,7 @@ poll_once x y io io' packet packet' h k =
     (sym (unpolled_polled x io packet) ∙ ap unpolled e ∙ unpolled_polled y io' packet', ap {B = List ℕ × List ℕ} (λ (z : Polling). (z.io, z.packet)) e)
 
 abbrev unopened : Opening → Opened
-unopened o = record { found = o.found; marks = o.marks; left = o.left; direction = o.direction; answer = named o.answer; taken = o.taken; cleared = o.cleared }
+unopened o = record { found = o.found; marks = o.marks; left = o.left; answer = named o.answer; taken = o.taken; cleared = o.cleared }
 
 unopened_opened : (x : Opened) → unopened (opening_of x) ≡ x
 unopened_opened x = rw (named_answer x.answer)

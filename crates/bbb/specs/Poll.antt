@@ -19,7 +19,7 @@
 -- first. `falls_short` (crates/bbb/src/act.rt) decides whether 4 answers FullPacketExpected. `act` (the same file) does what was decided.
 --
 -- In every rule `g` is what the poll was given, and `x` is the point to which the poll has come.
-use Rattle.std.specs.Prelude.{Bool, true, false, cond, ◌&&◌, List, ℕ, ◌+◌, ◌≤◌, eqb, ltb, leb, length, take, drop}
+use Rattle.std.specs.Prelude.{Bool, true, false, cond, ◌&&◌, List, ℕ, ◌+◌, ◌≤◌, eqb, ltb, leb, length, take, drop, Option, None, Some}
 use Rattle.buffer.specs.Buffer.{Buffer, buffer, at, unread, emptied}
 use Rattle.answers.specs.declared.Endpoint.{Endpoint}
 use Rattle.answers.specs.declared.Stalls.{Stalls}
@@ -34,8 +34,7 @@ use Rattle.wrapper.specs.Counters.{fallen}
 use Rattle.wrapper.specs.Status.{status_number}
 use Rattle.wrapper.specs.Wrapper.{is_valid, wrapper_of}
 use Rattle.packets.specs.Packets.{read_answer, takes_one, brought, received, send_answer, sent_count, sent_off, sent_into, filled_up, status_written}
-use Rattle.device.specs.declared.Status.{Status}
-use Rattle.device.specs.declared.Status.TheVariants.{Absent, Present}
+use Rattle.device.specs.declared.Told.{Told}
 use Rattle.device.specs.declared.Device.{Device}
 use Rattle.device.specs.Device.{is_present, in_state, with_marks, with_wrapper, with_left, counted_anew, entering0}
 use Rattle.device.specs.Broken.{unless_broken}
@@ -154,11 +153,10 @@ take_data g x = take_by x.device.fixed.packetsize (offered_by x.taken g.turn) (o
 
 -- ---- the states
 
--- The buffer `s` is emptied. A status that is present is then written into it, with the wrapper's `tag`, the `residue` and the number of
--- `status`.
-unfoldable pub status_put : ℕ → Status → Buffer → Buffer
-status_put tag Absent s = emptied s
-status_put tag (Present status residue) s = status_written tag residue (status_number status) s
+-- The buffer `s` is emptied. A status `t` that is present is then written into it, with the wrapper's `tag`, its residue and its number.
+unfoldable pub status_put : ℕ → Option Told → Buffer → Buffer
+status_put tag None s = emptied s
+status_put tag (Some t) s = status_written tag t.residue (status_number t.status) s
 
 -- The poll goes on to 3. "Entering 3 empties the buffer, writes the status into it and sends at once."
 unfoldable pub enter_status : Given → Point → Polling

@@ -1,4 +1,6 @@
 // A poll comes to an act, which is done here. Every packet but the one that opening reads crosses the wire here.
+#![tactic(auto, using(crate::proofs::Acting::ways), unfolding(crate::specs::Poll::falls_short, crate::specs::Poll::offered_packet, crate::specs::Poll::offered_by))]
+
 ghost use Rattle.std.specs.Prelude.{◌≡◌, ◌≤◌, length};
 ghost use Rattle.buffer.specs.Buffer.{buffer};
 ghost use Rattle.buffer.specs.Inner.Buffer.{Sound, Leaves};
@@ -11,7 +13,7 @@ use crate::Turn;
 use crate::open::Opened;
 use answers::{Answer, endpoint_of};
 use buffer::Marks;
-use device::{Numbers, Status};
+use device::{Numbers, Told};
 use packets::{Received, fill, read_packet, send_packet};
 use ring::{Before, Kind, Row};
 use wrapper::counters::{Left, left_after};
@@ -31,16 +33,13 @@ pub struct Did {
 fn rest(o: Opened, stalled: bool) -> Did
     ensures { result ≡ rest_did o stalled }
 {
-    let marks = o.marks;
-    let left = o.left;
-    let answer = o.answer;
     Did {
-        marks: marks,
-        left: left,
+        marks: o.marks,
+        left: o.left,
         sent: 0,
-        answer: answer,
+        answer: o.answer,
         taken: o.taken,
-        stalled: stalled,
+        stalled,
     }
 }
 
@@ -68,11 +67,8 @@ fn emptied(b: Before, m: Marks) -> Marks
     ensures { result ≡ emptied_marks b m }
 {
     match b {
-        Before::Nothing => m,
-        Before::Whole => m,
-        Before::Fill => m,
-        Before::Status => m,
         Before::Empty => buffer::marked::clean(),
+        _ => m,
     }
 }
 
@@ -81,7 +77,7 @@ fn one_more(taken: u8, more: bool) -> u8
     requires { taken ≤ 1 }
     ensures { result ≡ one_more taken more }
 {
-    if more { taken + 1 } else { taken }
+    taken + u8::from(more)
 }
 
 // A packet of data is read, and left falls by its bytes.
@@ -89,19 +85,13 @@ fn take(b: Before, p: usize, o: Opened, io: &mut [u8], one: &[u8], two: &[u8], t
     requires { Sound (buffer io.old o.marks) × (o.taken ≤ 1) × (length one.now ≤ p) × (length two.now ≤ p) }
     ensures { doing_of result io.new ≡ took b p (opening_of o) io.old one.now two.now turn }
 {
-    let marks = o.marks;
-    let left = o.left;
-    let m = emptied(b, marks);
-    let r = read_offered(o.taken, p, m, io, one, two, turn);
-    let after = r.marks;
-    let answer = r.answer;
-    let falls = left_after(left, r.count);
+    let r = read_offered(o.taken, p, emptied(b, o.marks), io, one, two, turn);
     Did {
-        marks: after,
-        left: falls,
+        marks: r.marks,
+        left: left_after(o.left, r.brought.unwrap_or(0)),
         sent: 0,
-        answer: answer,
-        taken: one_more(o.taken, r.taken),
+        answer: r.answer,
+        taken: one_more(o.taken, r.brought.is_some()),
         stalled: false,
     }
 }
@@ -110,10 +100,7 @@ fn take(b: Before, p: usize, o: Opened, io: &mut [u8], one: &[u8], two: &[u8], t
 fn falls_short(p: usize, left: Left, unread: usize) -> bool
     ensures { result ≡ falls_short p left unread }
 {
-    if p <= left.0 as usize {
-        return unread < p;
-    }
-    false
+    p <= left.0 as usize && unread < p
 }
 
 // Only a send in state 4 can be refused: a whole packet may be due there.
@@ -121,22 +108,19 @@ fn refused(b: Before, p: usize, left: Left, unread: usize) -> bool
     ensures { result ≡ is_refused b p left unread }
 {
     match b {
-        Before::Nothing => false,
         Before::Whole => falls_short(p, left, unread),
-        Before::Fill => false,
-        Before::Status => false,
-        Before::Empty => false,
+        _ => false,
     }
 }
 
 // The status is written into the emptied buffer. A record that is not broken always has one here.
-fn put_status(io: &mut [u8], m: Marks, tag: u32, status: Status) -> Marks
+fn put_status(io: &mut [u8], m: Marks, tag: u32, status: Option<Told>) -> Marks
     requires { Sound (buffer io.old m) }
     ensures { Leaves (buffer io.new result) (status_put tag status (buffer io.old m)) }
 {
     match status {
-        Status::Absent => buffer::marked::clean(),
-        Status::Present(byte, residue) => packets::put_status(io, tag, residue, byte),
+        None => buffer::marked::clean(),
+        Some(t) => packets::put_status(io, tag, t.residue, t.status),
     }
 }
 
@@ -145,14 +129,10 @@ fn ready(b: Before, m: Marks, left: Left, n: Numbers, io: &mut [u8]) -> Marks
     requires { Sound (buffer io.old m) }
     ensures { Leaves (buffer io.new result) (readied b n.fixed.packetsize (buffer io.old m) left n) }
 {
-    let fixed = n.fixed;
-    let status = n.status;
     match b {
-        Before::Nothing => m,
-        Before::Whole => m,
-        Before::Fill => fill(io, m, fixed.packetsize, left),
-        Before::Status => put_status(io, m, n.tag, status),
-        Before::Empty => m,
+        Before::Fill => fill(io, m, n.fixed.packetsize, left),
+        Before::Status => put_status(io, m, n.tag, n.status),
+        _ => m,
     }
 }
 
@@ -161,9 +141,10 @@ fn left_then(counts: bool, left: Left, moved: usize) -> Left
     ensures { result ≡ left_then counts left moved }
 {
     if counts {
-        return left_after(left, moved);
+        left_after(left, moved)
+    } else {
+        left
     }
-    left
 }
 
 // A packet is sent, unless a whole one is due and not there.
@@ -179,29 +160,20 @@ fn send(
     requires { Sound (buffer io.old o.marks) × (n.fixed.packetsize ≤ length packet.old) }
     ensures { Acts (sent_by b counts n (opening_of o) io.old (endpoint_of write)) (sent_packet b n (opening_of o) io.old (endpoint_of write) packet.old) result io.new packet.new }
 {
-    let fixed = n.fixed;
-    let marks = o.marks;
-    let left = o.left;
-    if refused(b, fixed.packetsize, left, marks.write - marks.read) {
+    let p = n.fixed.packetsize;
+    if refused(b, p, o.left, o.marks.write - o.marks.read) {
         return Did {
-            marks: marks,
-            left: left,
-            sent: 0,
             answer: Answer::FullPacketExpected,
-            taken: o.taken,
-            stalled: false,
+            ..rest(o, false)
         };
     }
-    let m = ready(b, marks, left, n, io);
-    let s = send_packet(io, m, fixed.packetsize, endpoint_of(write), packet);
-    let after = s.marks;
-    let answer = s.answer;
-    let falls = left_then(counts, left, s.count);
+    let m = ready(b, o.marks, o.left, n, io);
+    let s = send_packet(io, m, p, endpoint_of(write), packet);
     Did {
-        marks: after,
-        left: falls,
+        marks: s.marks,
+        left: left_then(counts, o.left, s.count),
         sent: s.count,
-        answer: answer,
+        answer: s.answer,
         taken: o.taken,
         stalled: false,
     }
@@ -221,13 +193,11 @@ pub fn act(
     requires { Sound (buffer io.old o.marks) × (o.taken ≤ 1) × Fits n.fixed.packetsize packet.old one.now two.now }
     ensures { Acts (acted row n (opening_of o) io.old (given packet.old one.now two.now turn)) (acted_packet row n (opening_of o) io.old (given packet.old one.now two.now turn)) result io.new packet.new }
 {
-    let fixed = n.fixed;
-    let kind = row.1;
     let b = row.2;
-    match kind {
+    match row.1 {
         Kind::Rest => rest(o, false),
         Kind::Stall => rest(o, true),
-        Kind::Read => take(b, fixed.packetsize, o, io, one, two, turn),
+        Kind::Read => take(b, n.fixed.packetsize, o, io, one, two, turn),
         Kind::Send => send(b, row.3, n, o, io, packet, turn.write),
     }
 }

@@ -6,15 +6,14 @@
 //     act      the act is done in one place: a packet crosses the wire, or none
 // In every function `io` is the IO buffer, `packet` is the packet buffer, `one` and `two` are the offered packets, and `turn` holds the
 // endpoints' answers.
-#![tactic(auto)]
+#![tactic(auto, using(crate::proofs::Polling::ways), unfolding(crate::specs::Poll::is_fitting))]
 
 mod act;
 pub mod open;
 
-ghost use Rattle.std.specs.Prelude.{◌≡◌, cond, ◌≤◌};
+ghost use Rattle.std.specs.Prelude.{◌≡◌, ◌≤◌};
 ghost use Rattle.buffer.specs.Buffer.{buffer};
 ghost use Rattle.buffer.specs.Inner.Buffer.{Sound};
-ghost use Rattle.device.specs.declared.Status.TheVariants.{Absent};
 ghost use Rattle.bbb.specs.Poll.{given, Fits, is_fitting, polling_of, poll_call};
 ghost use Rattle.bbb.specs.Inner.Phases.{refused_by, is_valid_found, opening_of, InFront, wrapper_then, is_counted_anew, put_in_then, ended_of, gone_on, changed_by};
 
@@ -22,7 +21,7 @@ use crate::act::act;
 use crate::open::{Opened, open};
 use answers::{Answer, Stalls};
 use buffer::Marks;
-use device::{Device, Numbers, Status, numbers_of, present, rebuilt, whole};
+use device::{Device, Numbers, numbers_of, present, whole};
 use ring::{Found, State, row_of, settle};
 use wrapper::counters::{Left, PutIn};
 use wrapper::{Wrapper, in_wrapper};
@@ -65,26 +64,17 @@ pub struct Change {
 pub fn is_valid(found: Found) -> bool
     ensures { result ≡ is_valid_found found }
 {
-    match found {
-        Found::Nothing => false,
-        Found::Invalid => false,
-        Found::Valid => true,
-    }
+    matches!(found, Found::Valid(_))
 }
 
 // What the firmware puts in is counted anew if 31 bytes were parsed, or if 0 was entered (`cleared`).
 pub fn counted_anew(found: Found, cleared: bool) -> bool
     ensures { result ≡ is_counted_anew found cleared }
 {
-    match found {
-        Found::Nothing => cleared,
-        Found::Invalid => true,
-        Found::Valid => true,
-    }
+    cleared || !matches!(found, Found::Nothing)
 }
 
-// The handlers decide, and the act is done: these are the two calls. The other lines take records apart and put new ones together. `n`
-// are the numbers of the record at the start, and `o` is what opening gave.
+// The handlers decide, and the act is done. `n` are the numbers of the record at the start, and `o` is what opening gave.
 pub fn go_on(
     n: Numbers,
     o: Opened,
@@ -97,34 +87,21 @@ pub fn go_on(
     requires { (n.marks.read ≤ n.marks.write) × Sound (buffer io.old o.marks) × (o.taken ≤ 1) × Fits n.fixed.packetsize packet.old one.now two.now }
     ensures { ended_of result io.new packet.new ≡ gone_on n (opening_of o) io.old (given packet.old one.now two.now turn) }
 {
-    let state = n.state;
-    let marks = n.marks;
-    let left = n.left;
-    let status = n.status;
-    let found = o.found;
-    let direction = o.direction;
-    let length = o.left;
     let row = row_of(settle(
-        state,
-        left.0,
-        present(status),
-        marks.write - marks.read == 0,
-        found,
-        direction,
-        length.0,
+        n.state,
+        o.left.0,
+        present(n.status),
+        n.marks.write - n.marks.read == 0,
+        o.found,
     ));
     let did = act(row, n, o, io, packet, one, two, turn);
-    let reached = row.0;
-    let after = did.marks;
-    let falls = did.left;
-    let answer = did.answer;
     Change {
-        state: reached,
-        marks: after,
-        left: falls,
+        state: row.0,
+        marks: did.marks,
+        left: did.left,
         cleared: o.cleared,
         report: Report {
-            answer: answer,
+            answer: did.answer,
             taken: did.taken,
             sent: did.sent,
             stalls: answers::asked(o.cleared, did.stalled),
@@ -137,23 +114,7 @@ pub fn go_on(
 pub fn fits(p: usize, packet: usize, one: usize, two: usize) -> bool
     ensures { result ≡ is_fitting p packet one two }
 {
-    if one <= p {
-        if two <= p {
-            return p <= packet;
-        }
-        return false;
-    }
-    false
-}
-
-// The status is cleared if 0 was entered.
-fn status_then(cleared: bool, status: Status) -> Status
-    ensures { result ≡ cond cleared Absent status }
-{
-    if cleared {
-        return Status::Absent;
-    }
-    status
+    one <= p && two <= p && p <= packet
 }
 
 // The record gets a valid wrapper that opening found, and otherwise keeps the wrapper `old`.
@@ -161,10 +122,8 @@ fn wrapper_then(o: Opened, old: Wrapper, io: &[u8]) -> Wrapper
     requires { Sound (buffer io.now o.marks) × InFront o }
     ensures { result ≡ wrapper_then (opening_of o) io.now old }
 {
-    let found = o.found;
-    let marks = o.marks;
-    if is_valid(found) {
-        let end = marks.read;
+    if is_valid(o.found) {
+        let end = o.marks.read;
         return wrapper::read_wrapper(&io[end - in_wrapper::SIZE..end]);
     }
     old
@@ -174,25 +133,26 @@ fn wrapper_then(o: Opened, old: Wrapper, io: &[u8]) -> Wrapper
 fn put_in_then(o: Opened, old: PutIn) -> PutIn
     ensures { result ≡ put_in_then (opening_of o) old }
 {
-    let found = o.found;
-    if counted_anew(found, o.cleared) {
-        return PutIn(0);
+    if counted_anew(o.found, o.cleared) {
+        PutIn(0)
+    } else {
+        old
     }
-    old
 }
 
-// The record `d` gets the changes `c`, the wrapper `w` and the count `putin`.
+// The record `d` gets the changes `c`, the wrapper `w` and the count `putin`. The status is cleared if 0 was entered.
 fn changed(d: Device, c: Change, w: Wrapper, putin: PutIn) -> Device
     ensures { result ≡ changed_by d c w putin }
 {
-    let state = c.state;
-    let marks = c.marks;
-    let left = c.left;
-    let was = d.status;
-    let status = status_then(c.cleared, was);
-    let mut after = rebuilt(d, state, marks, w, status, left);
-    after.putin = putin;
-    after
+    Device {
+        state: c.state,
+        marks: c.marks,
+        wrapper: w,
+        status: if c.cleared { None } else { d.status },
+        left: c.left,
+        putin,
+        ..d
+    }
 }
 
 // A poll is refused, and the record stays.
@@ -200,7 +160,7 @@ fn refused(device: Device, why: Answer) -> Polled
     ensures { result ≡ refused_by device why }
 {
     Polled {
-        device: device,
+        device,
         report: Report {
             answer: why,
             taken: 0,
@@ -222,22 +182,19 @@ pub fn poll(
     ensures { polling_of result io.new packet.new ≡ poll_call device io.old (given packet.old one.now two.now turn) }
 {
     let n = numbers_of(device);
-    if whole(n, io.len()) {
-        if fits(n.fixed.packetsize, packet.len(), one.len(), two.len()) {
-            let old = device.wrapper;
-            let counted = device.putin;
-            let o = open(n, io, one, turn.first);
-            let w = wrapper_then(o, old, io);
-            let putin = put_in_then(o, counted);
-            let c = go_on(n, o, io, packet, one, two, turn);
-            let report = c.report;
-            let d = changed(device, c, w, putin);
-            return Polled {
-                device: d,
-                report: report,
-            };
-        }
+    if !whole(n, io.len()) {
+        return refused(device, Answer::BrokenRecord);
+    }
+    if !fits(n.fixed.packetsize, packet.len(), one.len(), two.len()) {
         return refused(device, Answer::PacketRefused);
     }
-    refused(device, Answer::BrokenRecord)
+    let o = open(n, io, one, turn.first);
+    let w = wrapper_then(o, device.wrapper, io);
+    let putin = put_in_then(o, device.putin);
+    let c = go_on(n, o, io, packet, one, two, turn);
+    let d = changed(device, c, w, putin);
+    Polled {
+        device: d,
+        report: c.report,
+    }
 }

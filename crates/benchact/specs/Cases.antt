@@ -1,13 +1,12 @@
 -- Cases of the command step: what it offers, which no line shows. proofs/Cases.antt has the statement that each case holds. Assumes
 -- nothing: these are definitions.
-use Rattle.std.specs.Prelude.{List, [], ◌∷◌, ◌++◌, ℕ, replicate}
+use Rattle.std.specs.Prelude.{List, [], ◌∷◌, ◌++◌, ℕ, replicate, None}
 use Rattle.fields.specs.Case.{Case, case}
 use Rattle.buffer.specs.Buffer.{at}
 use Rattle.wrapper.specs.declared.DataDirection.TheVariants.{In}
 use Rattle.scsi.specs.declared.ScsiCommand.TheVariants.{Unknown, Read}
 use Rattle.ring.specs.declared.State.TheVariants.{DataTransferToHost}
 use Rattle.device.specs.declared.Device.{Device}
-use Rattle.device.specs.declared.Status.TheVariants.{Absent}
 use Rattle.device.specs.Device.{rebuilt}
 use Rattle.device.specs.Create.{fixed, new_device}
 use Rattle.calls.specs.Command.{offered}
@@ -18,7 +17,7 @@ abbrev reading16 : Device
 reading16 =
     rebuilt (new_device (fixed 8 3 31)) DataTransferToHost (at 0 0)
     (record { tag = 7; length = 512; direction = In; lun = 1; blocklength = 14; block = 0x88 ∷ replicate 8 0 ++ (2 ∷ 0 ∷ 0 ∷ 1 ∷ 2 ∷ 0 ∷ 0 ∷ []) })
-    Absent (record { 0 = 512 })
+    None (record { 0 = 512 })
 
 -- This is its command step with the body `body`.
 abbrev step : List ℕ → Acting

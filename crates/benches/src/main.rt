@@ -21,7 +21,7 @@ fn next(file: &mut [u8]) -> bool
     if io::read_full(STDIN, &mut head) < 4 {
         return false;
     }
-    let n = fields::le32(&head, 0) as usize;
+    let n = u32::from_le_bytes(head) as usize;
     if MOST < n {
         return false;
     }
@@ -33,14 +33,15 @@ fn next(file: &mut [u8]) -> bool
     true
 }
 
-// Goes through all files. A proved loop has to end, and nothing says that the input does. So the turns are counted down from a number
-// that no run uses up.
+// Goes through all files. A proved loop has to end, and nothing says that the input does. So it has a number of turns that no run uses
+// up.
 fn each(file: &mut [u8])
     requires { length file.old ≡ 65537 }
 {
-    let mut turns = u64::MAX;
-    while turns > 0 && next(file) {
-        turns -= 1;
+    for _ in 0..u64::MAX {
+        if !next(file) {
+            return;
+        }
     }
 }
 

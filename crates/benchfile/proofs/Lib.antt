@@ -1,4 +1,3 @@
--- proofs.Rules        what each test of an event owes
 -- proofs.Front        what stands at the front of some bytes
 -- proofs.Lists        lists of events
 -- proofs.Walked       the walk from event to event
@@ -7,7 +6,6 @@
 -- proofs.Unique       no second answer satisfies a contract
 -- proofs.Computing    what cases compute with
 -- proofs.Cases        the cases of specs/Cases.antt hold
-pub mod Rules
 pub mod Front
 pub mod Lists
 pub mod Walked

@@ -13,7 +13,7 @@ use Rattle.fields.proofs.Bools.{and_left, and_right}
 use Rattle.benchfile.specs.Event.{length_field, body_of, is_event, front_of, event_at}
 use Rattle.benchfile.specs.File.{joined, are_events, Good}
 use Rattle.benchfile.specs.Inner.File.{ReadAt}
-use Rattle.benchfile.proofs.Front.{event_long, front_event, head_event}
+use Rattle.benchfile.proofs.Front.{event_long, front_event, head_event, event_kind}
 use Rattle.benchfile.proofs.Lists.{is_first, first_at_0, none_joined}
 
 joined_append : (es fs : List (List ℕ)) → joined (es ++ fs) ≡ joined es ++ joined fs
@@ -56,7 +56,9 @@ module _ (before : List (List ℕ)) (e : List ℕ) (after : List (List ℕ)) (ar
   pub read_there : ReadAt (joined (before ++ e ∷ after)) offset e
   unfolding event_at body_of
   read_there = record {
-    head = rw (from_there, head_event (eqb offset 0) e is (joined after), body_long);
+    kind = (event_kind (eqb offset 0) e is).0;
+    number = (event_kind (eqb offset 0) e is).2;
+    head = rw (from_there, head_event (eqb offset 0) e is (joined after), (event_kind (eqb offset 0) e is).1, body_long);
     body =
         rw (← drop-drop 3 offset (joined (before ++ e ∷ after)), from_there, drop-append-le 3 e (joined after) (omega (arith, event_long (eqb offset 0) e is)))
         (take-append_seam (drop 3 e) (joined after));

@@ -1,8 +1,9 @@
 -- Cases of the bench file: the rules for events in one table, and the parts of 01's listing as a file. proofs/Cases.antt has the
 -- statement that each case holds, and that the listing and a file of no event are good. Assumes nothing: these are definitions.
-use Rattle.std.specs.Prelude.{true, false, List, [], ◌∷◌, ◌++◌, ℕ, replicate}
+use Rattle.std.specs.Prelude.{true, false, Some, List, [], ◌∷◌, ◌++◌, ℕ, replicate}
 use Rattle.fields.specs.Field.{get}
 use Rattle.fields.specs.Case.{Case, case}
+use Rattle.benchfile.specs.declared.event.Kind.TheVariants.{Status, WriteData}
 use Rattle.benchfile.specs.Event.{is_poll_body, is_status_body, suits, is_event, event_head_of, event_at, no_event}
 use Rattle.benchfile.specs.File.{joined, are_events, last_offset, count_field, last_field}
 
@@ -37,15 +38,15 @@ unfoldable pub table : List Case
 table =
     case (are_events true listing) true
     ∷ case (last_offset listing) 65
-    ∷ case (event_at (joined listing) 49) (record { whole = true; kind = 2; length = 5 })
+    ∷ case (event_at (joined listing) 49) (Some (record { kind = Status; length = 5 }))
     -- No event stands at an offset within another one.
-    ∷ case (event_at (joined listing) 50).whole false
+    ∷ case (event_at (joined listing) 50) no_event
     -- "first and only first"
     ∷ case (is_event false create) false
     ∷ case (is_event true status) false
     -- The first length says more than is there, and the second does not.
     ∷ case (event_head_of false (0x03 ∷ 0x02 ∷ 0x00 ∷ 0x55 ∷ [])) no_event
-    ∷ case (event_head_of false (0x03 ∷ 0x01 ∷ 0x00 ∷ 0x55 ∷ [])) (record { whole = true; kind = 3; length = 1 })
+    ∷ case (event_head_of false (0x03 ∷ 0x01 ∷ 0x00 ∷ 0x55 ∷ [])) (Some (record { kind = WriteData; length = 1 }))
     -- "a length is 0 unless its answer is 0"
     ∷ case (is_poll_body (0x00 ∷ 0x01 ∷ 0x01 ∷ 0x01 ∷ 0x00 ∷ 0x55 ∷ [])) false
     ∷ case (is_poll_body (0x00 ∷ 0x00 ∷ 0x01 ∷ 0x01 ∷ 0x00 ∷ 0x55 ∷ [])) true

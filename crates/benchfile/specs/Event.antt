@@ -1,7 +1,9 @@
 -- Document 01, 'Bench file', on events: "An event is a kind byte, 2 bytes length n, n bytes. .. Numbers are little-endian." Here an event
 -- is the list of all its bytes, and its body is its last n bytes. Assumes nothing: these are definitions.
-use Rattle.std.specs.Prelude.{ℕ, ◌+◌, Bool, true, false, cond, not, ◌&&◌, ◌||◌, List, eqb, leb, length, take, drop}
+use Rattle.std.specs.Prelude.{ℕ, ◌+◌, Bool, true, false, cond, not, ◌&&◌, ◌||◌, Option, Some, None, List, eqb, leb, length, take, drop}
 use Rattle.fields.specs.Field.{Field, little_endian, one_byte, get}
+use Rattle.benchfile.specs.declared.event.Kind.{Kind}
+use Rattle.benchfile.specs.declared.event.Kind.TheVariants.{Create, Poll, Status, WriteData, TryWriteDataAll, ReadData, Reset, Control, CommandStep}
 use Rattle.benchfile.specs.declared.event.EventHead.{EventHead}
 
 -- The kind of an event, and its length n, in the bytes of the event.
@@ -10,6 +12,32 @@ kind_byte = one_byte 0
 
 abbrev pub length_field : Field
 length_field = little_endian 1 2
+
+-- "0 create ..; 1 poll ..; 2 status ..; 3 `write_data`; 4 `try_write_data_all`; 5 `read_data` ..; 6 reset; 7 control ..; 8 command step":
+-- the number of a kind, and the kind with the number `n`, if there is one.
+abbrev pub kind_number : Kind → ℕ
+kind_number Create = 0
+kind_number Poll = 1
+kind_number Status = 2
+kind_number WriteData = 3
+kind_number TryWriteDataAll = 4
+kind_number ReadData = 5
+kind_number Reset = 6
+kind_number Control = 7
+kind_number CommandStep = 8
+
+unfoldable pub kind_of_number : ℕ → Option Kind
+kind_of_number n =
+    cond (eqb n 0) (Some Create)
+    (cond (eqb n 1) (Some Poll)
+    (cond (eqb n 2) (Some Status)
+    (cond (eqb n 3) (Some WriteData)
+    (cond (eqb n 4) (Some TryWriteDataAll)
+    (cond (eqb n 5) (Some ReadData)
+    (cond (eqb n 6) (Some Reset)
+    (cond (eqb n 7) (Some Control)
+    (cond (eqb n 8) (Some CommandStep)
+    None))))))))
 
 -- The body of the event `e`: the n bytes after its first three.
 unfoldable pub body_of : List ℕ → List ℕ
@@ -134,14 +162,19 @@ unfoldable pub front_of : List ℕ → List ℕ
 front_of xs = take (3 + get length_field xs) xs
 
 -- What is said where no event stands.
-abbrev pub no_event : EventHead
-no_event = record { whole = false; kind = 0; length = 0 }
+abbrev pub no_event : Option EventHead
+no_event = None
+
+-- The head of an event of this kind, if there is such a kind, with `n` bytes after its first three.
+abbrev pub head_of : Option Kind → ℕ → Option EventHead
+head_of None n = no_event
+head_of (Some kind) n = Some (record { kind = kind; length = n })
 
 -- What stands at the front of `xs`: the kind and the length of an event, or `no_event`. `first` says whether it would be the first one of
 -- its file.
-unfoldable pub event_head_of : Bool → List ℕ → EventHead
-event_head_of first xs = cond (is_event first (front_of xs)) (record { whole = true; kind = get kind_byte xs; length = get length_field xs }) no_event
+unfoldable pub event_head_of : Bool → List ℕ → Option EventHead
+event_head_of first xs = cond (is_event first (front_of xs)) (head_of (kind_of_number (get kind_byte xs)) (get length_field xs)) no_event
 
 -- What stands at the offset `at` of the events `xs`. An event at the offset 0 is the first one of its file.
-unfoldable pub event_at : List ℕ → ℕ → EventHead
+unfoldable pub event_at : List ℕ → ℕ → Option EventHead
 event_at xs at = event_head_of (eqb at 0) (drop at xs)

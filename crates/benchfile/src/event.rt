@@ -1,40 +1,59 @@
 // One event, which is a kind byte, 2 bytes length n and n bytes (its body), and what document 01 asks of each kind.
 ghost use Rattle.std.specs.Prelude.{◌≡◌};
-ghost use Rattle.benchfile.specs.Event.{agrees, is_poll_body, is_status_body, is_step_body, is_long, suits, may_stand, no_event, event_head_of, event_at};
+ghost use Rattle.benchfile.specs.Event.{agrees, is_poll_body, is_status_body, is_step_body, suits, may_stand, kind_number, kind_of_number, event_head_of, event_at};
 
 use fields::{byte, le16};
 
-// What stands at an offset: whether it is a whole event that the rules allow, its kind, and the length of its body. Where no event
-// stands, the numbers are 0.
+// The kinds of events, in document 01's order.
+#[derive(Clone, Copy, PartialEq, Eq)]
+pub enum Kind {
+    Create,
+    Poll,
+    Status,
+    WriteData,
+    TryWriteDataAll,
+    ReadData,
+    Reset,
+    Control,
+    CommandStep,
+}
+
+// An event that stands whole at an offset, and that the rules allow: its kind, and the length of its body.
 #[derive(Clone, Copy)]
 pub struct EventHead {
-    pub whole: bool,
-    pub kind: u8,
+    pub kind: Kind,
     pub length: usize,
 }
 
-// This is said where no event stands.
-fn none() -> EventHead
-    ensures { result ≡ no_event }
+// The kind with this number, if there is one.
+#[tactic(auto, using(std::proofs::lemmas::Bool::Decides::nat_tests), unfolding(crate::specs::Event::kind_of_number))]
+fn kind_of_number(number: u8) -> Option<Kind>
+    ensures { result ≡ kind_of_number number }
 {
-    EventHead {
-        whole: false,
-        kind: 0,
-        length: 0,
+    match number {
+        0 => Some(Kind::Create),
+        1 => Some(Kind::Poll),
+        2 => Some(Kind::Status),
+        3 => Some(Kind::WriteData),
+        4 => Some(Kind::TryWriteDataAll),
+        5 => Some(Kind::ReadData),
+        6 => Some(Kind::Reset),
+        7 => Some(Kind::Control),
+        8 => Some(Kind::CommandStep),
+        _ => None,
     }
 }
 
 // The length of a packet is 0 unless its endpoint's answer is 0.
+#[tactic(auto, using(std::proofs::lemmas::Bool::Decides::nat_tests), unfolding(crate::specs::Event::agrees))]
 fn agree(answer: u8, length: u8) -> bool
     ensures { result ≡ agrees answer length }
 {
-    if answer == 0 {
-        return true;
-    }
-    length == 0
+    answer == 0 || length == 0
 }
 
 // The body of a poll is three answers, two packet lengths and the packets.
+#[tactic(auto, using(std::proofs::lemmas::Bool::Decides::nat_tests), unfolding(crate::specs::Event::is_poll_body))]
 fn poll_fits(body: &[u8]) -> bool
     ensures { result ≡ is_poll_body body.now }
 {
@@ -43,121 +62,77 @@ fn poll_fits(body: &[u8]) -> bool
     }
     let one = byte(body, 3);
     let two = byte(body, 4);
-    if body.len() != 5 + (one as usize) + (two as usize) {
-        return false;
-    }
-    if agree(byte(body, 1), one) {
-        return agree(byte(body, 2), two);
-    }
-    false
+    body.len() == 5 + usize::from(one) + usize::from(two)
+        && agree(byte(body, 1), one)
+        && agree(byte(body, 2), two)
 }
 
 // The body of a status is a status byte from 0 to 2 and a figure.
+#[tactic(auto, using(std::proofs::lemmas::Bool::Decides::nat_tests), unfolding(crate::specs::Event::is_status_body))]
 fn status_fits(body: &[u8]) -> bool
     ensures { result ≡ is_status_body body.now }
 {
-    if body.len() != 5 {
-        return false;
-    }
-    byte(body, 0) <= 2
+    body.len() == 5 && byte(body, 0) <= 2
 }
 
 // The body of a command step is empty, or one byte that is 0 or 1.
+#[tactic(auto, using(std::proofs::lemmas::Bool::Decides::nat_tests), unfolding(crate::specs::Event::is_step_body))]
 fn step_fits(body: &[u8]) -> bool
     ensures { result ≡ is_step_body body.now }
 {
-    if body.len() == 0 {
-        return true;
-    }
-    if body.len() != 1 {
-        return false;
-    }
-    byte(body, 0) <= 1
-}
-
-// Whether `n` is a length for the kind `kind`, one of those that go by their length alone.
-fn long(kind: u8, n: usize) -> bool
-    ensures { result ≡ is_long kind n }
-{
-    if kind == 0 {
-        return n == 7;
-    }
-    if kind == 3 {
-        return true;
-    }
-    if kind == 4 {
-        return true;
-    }
-    if kind == 5 {
-        return n == 2;
-    }
-    if kind == 6 {
-        return n == 0;
-    }
-    if kind == 7 {
-        return n == 2;
-    }
-    false
+    body.is_empty() || body.len() == 1 && byte(body, 0) <= 1
 }
 
 // Whether an event of the kind `kind` may have the body `body`.
-fn suit(kind: u8, body: &[u8]) -> bool
-    ensures { result ≡ suits kind body.now }
+#[tactic(auto, using(std::proofs::lemmas::Bool::Decides::nat_tests), unfolding(crate::specs::Event::suits, crate::specs::Event::is_long))]
+fn suit(kind: Kind, body: &[u8]) -> bool
+    ensures { result ≡ suits (kind_number kind) body.now }
 {
-    if kind == 1 {
-        return poll_fits(body);
+    match kind {
+        Kind::Create => body.len() == 7,
+        Kind::Poll => poll_fits(body),
+        Kind::Status => status_fits(body),
+        Kind::WriteData | Kind::TryWriteDataAll => true,
+        Kind::ReadData | Kind::Control => body.len() == 2,
+        Kind::Reset => body.is_empty(),
+        Kind::CommandStep => step_fits(body),
     }
-    if kind == 2 {
-        return status_fits(body);
-    }
-    if kind == 8 {
-        return step_fits(body);
-    }
-    long(kind, body.len())
 }
 
 // A creation stands first, and only first.
-fn may_stand(first: bool, kind: u8) -> bool
-    ensures { result ≡ may_stand first kind }
+#[tactic(auto, using(std::proofs::lemmas::Bool::Decides::nat_tests), unfolding(crate::specs::Event::may_stand))]
+fn may_stand(first: bool, kind: Kind) -> bool
+    ensures { result ≡ may_stand first (kind_number kind) }
 {
     if first {
-        return kind == 0;
+        kind == Kind::Create
+    } else {
+        kind != Kind::Create
     }
-    kind != 0
 }
 
 // What stands at the front of the bytes `rest`; `first` says whether they begin the file.
-fn front(first: bool, rest: &[u8]) -> EventHead
+#[tactic(auto, using(crate::proofs::Front::fronts))]
+fn front(first: bool, rest: &[u8]) -> Option<EventHead>
     ensures { result ≡ event_head_of first rest.now }
 {
     if rest.len() < 3 {
-        return none();
+        return None;
     }
-    let length = le16(rest, 1) as usize;
-    if rest.len() - 3 < length {
-        return none();
+    let length = usize::from(le16(rest, 1));
+    let body = rest.get(3..3 + length)?;
+    let kind = kind_of_number(byte(rest, 0))?;
+    if may_stand(first, kind) && suit(kind, body) {
+        Some(EventHead { kind, length })
+    } else {
+        None
     }
-    let kind = byte(rest, 0);
-    let end = 3 + length;
-    if !may_stand(first, kind) {
-        return none();
-    }
-    if suit(kind, &rest[3..end]) {
-        return EventHead {
-            whole: true,
-            kind: kind,
-            length: length,
-        };
-    }
-    none()
 }
 
 // What stands at the offset `at` of the events.
-pub fn event_at(events: &[u8], at: usize) -> EventHead
+#[tactic(auto, using(std::proofs::lemmas::Grind::common_steps, crate::proofs::Front::front_short), unfolding(crate::specs::Event::event_at))]
+pub fn event_at(events: &[u8], at: usize) -> Option<EventHead>
     ensures { result ≡ event_at events.now at }
 {
-    if events.len() < at {
-        return none();
-    }
-    front(at == 0, &events[at..])
+    front(at == 0, events.get(at..)?)
 }

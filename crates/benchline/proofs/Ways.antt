@@ -1,19 +1,20 @@
 -- One law for each way through a function of src/: what it owes follows from the tests on the way and from what the called functions
 -- ensure. Assumes nothing.
 use mathlib.Core.Path.{◌≡◌, refl, sym, ap, ◌∙◌}
+use mathlib.Core.Bool.{true, false}
 use mathlib.Core.List.{List, [], ◌∷◌}
 use Prim.Native.Nat.{ℕ, zero, suc, ◌+◌, ◌*◌, ◌^◌, ◌/◌, ◌%◌, ◌≤◌, ◌<◌, zero-le}
 use native.Mathlib.Omega.{arith}
-use borrow.Author.Tests.{lt-ltb, le-ltb}
+use borrow.Author.Tests.{eqb-true}
+use lib.Dec.{eqb}
 use lib.ListN.{length, get_or, set, length-append, length-set}
+use Rattle.fields.proofs.Bools.{clash}
 use Rattle.fields.proofs.Overlay.{length_overlay, Laid, laid_turn, laid_end}
-use Rattle.answers.specs.declared.Stalls.{Stalls}
-use Rattle.answers.specs.declared.Stalls.TheVariants.{Kept, Stalled, Unstalled, UnstalledStalled}
 use Rattle.benchline.specs.declared.Line.{Line}
 use Rattle.benchline.specs.Line.{digit, decimal, number_text, numbers_text, stalls_text, fields_text, hex, bytes_text, end_text, line_of}
 use Rattle.benchline.specs.Inner.Line.{numbers_length, room_for, Puts}
 use Rattle.benchline.proofs.Decimal.{one_digit, more_digits, some_digit}
-use Rattle.benchline.proofs.Text.{then_put, fits_behind, then_store, store, length_more, length_number, length_numbers, length_fields, length_hex, length_end, length_line, some_stalls, line_fits}
+use Rattle.benchline.proofs.Text.{then_put, fits_behind, then_store, store, length_more, length_number, length_numbers, length_fields, length_hex, length_end, length_line, line_fits}
 
 -- ---- numbers
 
@@ -48,12 +49,6 @@ module _ (d : List ℕ) (at n : ℕ) (h : at + length (number_text n) ≤ length
   unfolding number_text
   number_ends p = then_store 0x20 (omega (arith, length_number n)) p
 
--- Where there is room for six numbers and five are put, there is room for the last.
-pub last_number_fits : (l : Line) (d : List ℕ) {m₁ m₂ m₃ m₄ m₅ : List ℕ} {e₁ e₂ e₃ e₄ e₅ : ℕ} → numbers_length l ≤ length d
-    → Puts 0 (number_text l.index) d m₁ e₁ → Puts e₁ (number_text l.answer) m₁ m₂ e₂ → Puts e₂ (number_text l.state) m₂ m₃ e₃
-    → Puts e₃ (number_text l.left) m₃ m₄ e₄ → Puts e₄ (number_text l.unread) m₄ m₅ e₅ → e₅ + length (number_text l.count) ≤ length m₅
-last_number_fits l d h p q r s t = fits_behind _ t (fits_behind _ s (fits_behind _ r (fits_behind _ q (fits_behind _ p (omega arith)))))
-
 -- Six numbers are put one after the other.
 pub numbers_end : (l : Line) (d : List ℕ) {m₁ m₂ m₃ m₄ m₅ m : List ℕ} {e₁ e₂ e₃ e₄ e₅ e : ℕ}
     → Puts 0 (number_text l.index) d m₁ e₁ → Puts e₁ (number_text l.answer) m₁ m₂ e₂ → Puts e₂ (number_text l.state) m₂ m₃ e₃
@@ -61,42 +56,11 @@ pub numbers_end : (l : Line) (d : List ℕ) {m₁ m₂ m₃ m₄ m₅ m : List �
 unfolding numbers_text
 numbers_end l d p q r s t u = then_put zero-le (then_put zero-le (then_put zero-le (then_put zero-le (then_put zero-le p q) r) s) t) u
 
--- ---- stalls
-
--- There is room for what is stored.
-pub stalls_first : (d : List ℕ) (at : ℕ) (s : Stalls) → at + length (stalls_text s) ≤ length d → at < length d
-stalls_first d at s h = omega (arith, some_stalls s)
-
-pub stalls_second : (d : List ℕ) (at v : ℕ) (s : Stalls) → at + length (stalls_text s) ≤ length d → s ≡ UnstalledStalled → at + 1 < length (set d at v)
-stalls_second d at v s h e = rw length-set (omega (arith, rw e at h))
-
-module _ (d : List ℕ) (at : ℕ) (s : Stalls) (h : at + length (stalls_text s) ≤ length d) where
-  pub stalls_kept : s ≡ Kept → Puts at (stalls_text s) d (set d at 0x2D) (at + 1)
-  stalls_kept e = rw e (store d at 0x2D (omega (arith, rw e at h)))
-
-  pub stalls_stalled : s ≡ Stalled → Puts at (stalls_text s) d (set d at 0x53) (at + 1)
-  stalls_stalled e = rw e (store d at 0x53 (omega (arith, rw e at h)))
-
-  pub stalls_unstalled : s ≡ Unstalled → Puts at (stalls_text s) d (set d at 0x55) (at + 1)
-  stalls_unstalled e = rw e (store d at 0x55 (omega (arith, rw e at h)))
-
-  pub stalls_both : s ≡ UnstalledStalled → Puts at (stalls_text s) d (set (set d at 0x55) (at + 1) 0x53) (at + 2)
-  stalls_both e =
-      rw e
-      record {
-        ends = omega arith;
-        text = (then_store 0x53 (omega (arith, rw e at h)) (store d at 0x55 (omega (arith, rw e at h)))).text;
-      }
-
 -- ---- bytes
 
-pub low_digit : (n : ℕ) → n < 10 → 48 + n ≡ digit n
-unfolding digit
-low_digit n h = rw (lt-ltb n 10 h)
-
-pub high_digit : (n : ℕ) → 10 ≤ n → 87 + n ≡ digit n
-unfolding digit
-high_digit n h = rw (le-ltb n 10 h)
+-- What is put is known by another name.
+pub spelled : {at e : ℕ} {xs ys d m : List ℕ} → xs ≡ ys → Puts at xs d m e → Puts at ys d m e
+spelled q p = rw (← q) p
 
 -- The two digits of a byte.
 high_at : (bs : List ℕ) (i : ℕ) → i < length bs → get_or (hex bs) (2 * i) 0 ≡ digit (get_or bs i 0 / 16)
@@ -133,24 +97,24 @@ hex_ends d at bs i l k g =
     }
 
 module _ (d : List ℕ) (at : ℕ) where
-  pub bytes_first : (bs : List ℕ) → at + length (bytes_text bs) ≤ length d → at < length d
+  pub bytes_first : (bs : List ℕ) → true ≡ eqb (length bs) 0 → at + length (bytes_text bs) ≤ length d → at + 1 ≤ length d
   unfolding bytes_text
-  bytes_first [] h = omega arith
-  bytes_first (b ∷ bs) h = omega (arith, length_hex (b ∷ bs))
+  bytes_first [] e h = h
+  bytes_first (b ∷ bs) e h = absurd (omega (arith, eqb-true (length (b ∷ bs)) 0 (sym e)))
 
-  pub bytes_fit : (bs : List ℕ) → (length bs ≡ 0 → ⊥) → at + length (bytes_text bs) ≤ length d → at + length (hex bs) ≤ length d
+  pub bytes_fit : (bs : List ℕ) → false ≡ eqb (length bs) 0 → at + length (bytes_text bs) ≤ length d → at + length (hex bs) ≤ length d
   unfolding bytes_text
-  bytes_fit [] n h = absurd (n refl)
+  bytes_fit [] n h = absurd (clash (sym n))
   bytes_fit (b ∷ bs) n h = h
 
-  pub none_shown : (bs : List ℕ) → length bs ≡ 0 → at + length (bytes_text bs) ≤ length d → Puts at (bytes_text bs) d (set d at 0x2D) (at + 1)
+  pub none_shown : (bs : List ℕ) {m : List ℕ} {e : ℕ} → true ≡ eqb (length bs) 0 → Puts at (0x2D ∷ []) d m e → Puts at (bytes_text bs) d m e
   unfolding bytes_text
-  none_shown [] e h = store d at 0x2D (omega arith)
-  none_shown (b ∷ bs) e h = absurd (omega arith)
+  none_shown [] q p = p
+  none_shown (b ∷ bs) q p = absurd (omega (arith, eqb-true (length (b ∷ bs)) 0 (sym q)))
 
-  pub bytes_shown : (bs : List ℕ) {m : List ℕ} {e : ℕ} → (length bs ≡ 0 → ⊥) → Puts at (hex bs) d m e → Puts at (bytes_text bs) d m e
+  pub bytes_shown : (bs : List ℕ) {m : List ℕ} {e : ℕ} → false ≡ eqb (length bs) 0 → Puts at (hex bs) d m e → Puts at (bytes_text bs) d m e
   unfolding bytes_text
-  bytes_shown [] n p = absurd (n refl)
+  bytes_shown [] n p = absurd (clash (sym n))
   bytes_shown (b ∷ bs) n p = p
 
 -- ---- the line
@@ -214,4 +178,4 @@ module _ (l : Line) (bs d : List ℕ) (h : room_for (length bs) ≤ length d) wh
       unfolding line_of
       line_ends r = then_put zero-le (then_put zero-le p q) r
 
-pub ruleset ways = (decimal_first, decimal_ends, decimal_fits, decimal_last, decimal_goes_on, number_fits, number_last, number_ends, numbers_end, stalls_kept, stalls_stalled, stalls_unstalled, stalls_both, stalls_first, stalls_second, low_digit, high_digit, hex_turn, hex_ends, bytes_first, bytes_fit, none_shown, bytes_shown, numbers_fit, stalls_fit, space_fits, fields_end, end_first, missing_fits, end_last, end_length, end_put, fields_fit, shown_fits, end_fits, line_ends)
+pub ruleset ways = (decimal_first, decimal_ends, decimal_fits, decimal_last, decimal_goes_on, number_fits, number_last, number_ends, numbers_end, hex_turn, hex_ends, numbers_fit, stalls_fit, space_fits, fields_end, end_first, missing_fits, end_last, end_length, end_put, fields_fit, shown_fits, end_fits, line_ends)

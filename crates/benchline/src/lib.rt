@@ -1,5 +1,6 @@
 // A line of `bench` as text: decimal numbers, stalls and bytes in lower-case hex, with a space between two fields. Every function that
-// puts text into the buffer `text` returns the index at which the text ends.
+// puts text into the buffer `text` returns the index at which the text ends. A struct of buffer and index is no plainer: each method would
+// promise besides that the struct still holds the same buffer. There is no `String`, since `put_line` cannot fail and an allocation can.
 #![tactic(auto)]
 
 ghost use Rattle.std.specs.Prelude.{◌≡◌, ◌+◌, ◌≤◌, ◌<◌, length};
@@ -27,11 +28,11 @@ fn put_decimal(text: &mut [u8], at: usize, n: u64) -> usize
     ensures { Puts at (decimal n) text.old text.new result }
 {
     if n < 10 {
-        text[at] = 48 + (n as u8);
+        text[at] = b'0' + n as u8;
         return at + 1;
     }
     let end = put_decimal(text, at, n / 10);
-    text[end] = 48 + ((n % 10) as u8);
+    text[end] = b'0' + (n % 10) as u8;
     end + 1
 }
 
@@ -58,29 +59,26 @@ fn put_numbers(text: &mut [u8], l: Line) -> usize
     put_number(text, count, l.count as u64)
 }
 
-// Puts the letters for `stalls` at the index `at`.
-fn put_stalls(text: &mut [u8], at: usize, stalls: Stalls) -> usize
-    requires { at + length (stalls_text stalls) ≤ length text.old }
-    ensures { Puts at (stalls_text stalls) text.old text.new result }
+// Puts `bytes` at the index `at`, as they are.
+#[tactic(auto, unfolding(fields::specs::Overlay::overlay))]
+fn put_text(text: &mut [u8], at: usize, bytes: &[u8]) -> usize
+    requires { at + length bytes.now ≤ length text.old }
+    ensures { Puts at bytes.now text.old text.new result }
+{
+    let end = at + bytes.len();
+    text[at..end].copy_from_slice(bytes);
+    end
+}
+
+// The letters for `stalls`.
+fn letters_of(stalls: Stalls) -> &'static [u8]
+    ensures { result.now ≡ stalls_text stalls }
 {
     match stalls {
-        Stalls::Kept => {
-            text[at] = b'-';
-            at + 1
-        }
-        Stalls::Stalled => {
-            text[at] = b'S';
-            at + 1
-        }
-        Stalls::Unstalled => {
-            text[at] = b'U';
-            at + 1
-        }
-        Stalls::UnstalledStalled => {
-            text[at] = b'U';
-            text[at + 1] = b'S';
-            at + 2
-        }
+        Stalls::Kept => b"-",
+        Stalls::Stalled => b"S",
+        Stalls::Unstalled => b"U",
+        Stalls::UnstalledStalled => b"US",
     }
 }
 
@@ -89,19 +87,19 @@ fn put_fields(text: &mut [u8], l: Line) -> usize
     requires { length (fields_text l) ≤ length text.old }
     ensures { Puts 0 (fields_text l) text.old text.new result }
 {
-    let stalls = l.stalls;
     let at = put_numbers(text, l);
-    let end = put_stalls(text, at, stalls);
+    let end = put_text(text, at, letters_of(l.stalls));
     text[end] = b' ';
     end + 1
 }
 
 // The digit in hex for `n`.
+#[tactic(auto, using(std::proofs::lemmas::Bool::Decides::nat_tests), unfolding(crate::specs::Line::digit))]
 fn digit(n: u8) -> u8
     requires { n < 16 }
     ensures { result ≡ digit n }
 {
-    if n < 10 { 48 + n } else { 87 + n }
+    if n < 10 { b'0' + n } else { b'a' + (n - 10) }
 }
 
 // Puts two digits for each byte of `bytes` at the index `at`.
@@ -109,12 +107,9 @@ fn put_hex(text: &mut [u8], at: usize, bytes: &[u8]) -> usize
     requires { at + length (hex bytes.now) ≤ length text.old }
     ensures { Puts at (hex bytes.now) text.old text.new result }
 {
-    let mut i: usize = 0;
-    while i < bytes.len() {
-        let b = bytes[i];
+    for (i, &b) in bytes.iter().enumerate() {
         text[at + 2 * i] = digit(b / 16);
         text[at + 2 * i + 1] = digit(b % 16);
-        i += 1;
     }
     at + 2 * bytes.len()
 }
@@ -124,11 +119,11 @@ fn put_bytes(text: &mut [u8], at: usize, bytes: &[u8]) -> usize
     requires { at + length (bytes_text bytes.now) ≤ length text.old }
     ensures { Puts at (bytes_text bytes.now) text.old text.new result }
 {
-    if bytes.len() == 0 {
-        text[at] = b'-';
-        return at + 1;
+    if bytes.is_empty() {
+        put_text(text, at, b"-")
+    } else {
+        put_hex(text, at, bytes)
     }
-    put_hex(text, at, bytes)
 }
 
 // Puts the end of a line at the index `at`: a space, `missing` in decimal, and the end itself.

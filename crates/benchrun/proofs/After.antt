@@ -8,6 +8,7 @@ use native.Mathlib.Omega.{arith}
 use lib.Dec.{eqb, ltb}
 use lib.ListN.{length, take, drop, length-take}
 use borrow.Author.Tests.{eqb-true, ltb-false}
+use Rattle.std.specs.Prelude.{Option, Some, None}
 use Rattle.fields.proofs.Bools.{of_picked}
 use Rattle.answers.specs.declared.Stalls.{Stalls}
 use Rattle.answers.specs.Answers.{Answering}
@@ -15,7 +16,8 @@ use Rattle.answers.specs.declared.Stalls.TheVariants.{Kept}
 use Rattle.device.specs.declared.Fixed.{Fixed}
 use Rattle.device.specs.declared.Device.{Device}
 use Rattle.device.specs.Create.{is_packet_size, creation_checks, create_call}
-use Rattle.benchfile.specs.Event.{event_at}
+use Rattle.benchfile.specs.declared.event.EventHead.{EventHead}
+use Rattle.benchfile.specs.Event.{kind_number, event_at}
 use Rattle.benchfile.proofs.Front.{whole_fits}
 use Rattle.benchline.specs.Inner.Line.{room_for}
 use Rattle.benchline.proofs.Text.{line_fits}
@@ -51,14 +53,15 @@ pub record Steps (run : Run) (events : List ℕ) (o : Running) : Type 0 where
 
 steps : (run : Run) (events io lent text : List ℕ) → Steps run events (step_by run events io lent text)
 unfolding step_by event_by went_on ahead
-steps run events io lent text =
-    of_picked (Steps run events) (event_at events run.at).whole
-    (λ w. record {
+steps run events io lent text = of_event (event_at events run.at) refl
+  where
+    of_event : (o : Option EventHead) → event_at events run.at ≡ o → Steps run events (step_by run events io lent text)
+    of_event (Some e) w = rw w (record {
       index = λ h. omega (arith, h);
       less = omega (arith, whole_fits events run.at w);
-      line = told_room run.index (act_by (event_at events run.at).kind (take (event_at events run.at).length (drop (run.at + 3) events)) run.device io lent);
+      line = told_room run.index (act_by (kind_number e.kind) (take e.length (drop (run.at + 3) events)) run.device io lent);
     })
-    (λ w. record { index = λ h. h; less = omega arith; line = zero-le })
+    of_event None w = rw w (record { index = λ h. h; less = omega arith; line = zero-le })
 
 module _ (run : Run) (events io lent text : List ℕ) {r : Run} {io' lent' text' : List ℕ} (h : running_of r io' lent' text' ≡ step_by run events io lent text) where
   stepped : Steps run events (running_of r io' lent' text')
@@ -101,10 +104,11 @@ pub record Begins (o : Beginning) : Type 0 where
 
 begins : (events text : List ℕ) → Begins (begin_by events text)
 unfolding begin_by beginning_of_creation creation_of_body
-begins events text =
-    of_picked Begins (event_at events 0).whole
-    (λ w. record { index = omega arith; line = line_room 0 _ _ 0 Kept 0 []; size = size_most _ })
-    (λ w. record { index = zero-le; line = zero-le; size = zero-le })
+begins events text = of_event (event_at events 0) refl
+  where
+    of_event : (o : Option EventHead) → event_at events 0 ≡ o → Begins (begin_by events text)
+    of_event (Some e) w = rw w (record { index = omega arith; line = line_room 0 _ _ 0 Kept 0 []; size = size_most _ })
+    of_event None w = rw w (record { index = zero-le; line = zero-le; size = zero-le })
 
 -- ---- a file, before anything is written
 

@@ -1,36 +1,38 @@
 -- Laws of a run: what each way through a function owes (`ways`), and what holds after an event. Assumes nothing.
 use mathlib.Core.Path.{◌≡◌, sym, ap, ◌∙◌, subst}
 use mathlib.Core.Bool.{Bool, true, false, not}
-use mathlib.Core.List.{List, []}
-use Prim.Native.Nat.{ℕ, ◌+◌, ◌-◌, ◌≤◌, ◌<◌, min}
+use mathlib.Core.List.{List, [], ◌++◌}
+use Prim.Native.Nat.{ℕ, ◌+◌, ◌-◌, ◌≤◌, min}
 use native.Mathlib.Nat.{min-le_right, zero-add}
 use native.Mathlib.Omega.{arith}
 use lib.Dec.{eqb}
-use lib.ListN.{length, take, drop, set, length-take, length-set, take-append-drop}
+use lib.ListN.{length, take, drop, length-take, take-append-drop}
 use lib.Seq.{take-append_seam, length-take-le}
+use Rattle.std.specs.Prelude.{Option, Some, None}
+use Rattle.std.specs.Option.{is_some}
+use Rattle.fields.specs.Overlay.{overlay}
 use Rattle.fields.specs.Field.{get}
-use Rattle.fields.proofs.Bools.{not_true, not_false}
+use Rattle.fields.proofs.Bools.{not_true, not_false, clash}
+use Rattle.std.specs.Prelude.{Result, Ok, Err}
+use Rattle.answers.specs.declared.Answer.{Answer}
 use Rattle.answers.specs.declared.Stalls.{Stalls}
 use Rattle.answers.specs.declared.Stalls.TheVariants.{Kept}
-use Rattle.answers.specs.Answers.{Answering, answer_of}
+use Rattle.answers.specs.Answers.{Answering, answer, answer_of}
 use Rattle.ring.specs.States.{state_number}
 use Rattle.device.specs.declared.Device.{Device}
-use Rattle.device.specs.declared.create.Created.{Created}
 use Rattle.device.specs.Create.{fixed, no_device, creation_of, create_call}
 use Rattle.benchfile.specs.declared.event.EventHead.{EventHead}
-use Rattle.benchfile.specs.Event.{packet_size, max_lun, buffer_size, suits, event_at}
+use Rattle.benchfile.specs.Event.{packet_size, max_lun, buffer_size, kind_number, suits, event_at}
 use Rattle.benchfile.specs.File.{Judges}
 use Rattle.benchfile.proofs.Front.{whole_fits, whole_suits, first_long}
 use Rattle.benchline.specs.declared.Line.{Line}
 use Rattle.benchline.specs.Line.{line_of}
 use Rattle.benchline.specs.Inner.Line.{room_for, Puts}
-use Rattle.benchline.proofs.Text.{then_store, store}
 use Rattle.benchact.specs.declared.Acted.{Acted}
 use Rattle.benchact.specs.Act.{act_by}
 use Rattle.benchact.specs.Inner.Act.{acting_of}
 use Rattle.benchrun.specs.declared.step.Run.{Run}
-use Rattle.benchrun.specs.Run.{fields_of, line_text, line_of_acting, beginning_of, stopped_at, creation_of_body, beginning_of_creation, begin_by, events_of, beginning_refused, open_by, OpensFile, running_of, went_on, event_by, step_by}
-use Rattle.benchrun.specs.Inner.Run.{Roomy}
+use Rattle.benchrun.specs.Run.{fields_of, line_text, line_of_acting, beginning_of, stopped_at, creation_of_body, beginning_of_creation, begin_by, events_of, breach, beginning_refused, open_by, OpensFile, running_of, went_on, event_by, step_by}
 
 -- ---- the line
 
@@ -66,51 +68,41 @@ ended {ys} p = p.ends ∙ zero-add (length ys)
 
 -- ---- the first event
 
-pub creates : (body : List ℕ) {p m s : ℕ} → p ≡ get packet_size body → m ≡ get max_lun body → s ≡ get buffer_size body → (c : Created) → creation_of c ≡ create_call (fixed p m s) → creation_of c ≡ creation_of_body body
-unfolding creation_of_body
-creates body hp hm hs c hc = rw (← hp, ← hm, ← hs) hc
+module _ (body : List ℕ) {p m s : ℕ} (hp : p ≡ get packet_size body) (hm : m ≡ get max_lun body) (hs : s ≡ get buffer_size body) (c : Result Device Answer) (hc : creation_of c ≡ create_call (fixed p m s)) where
+  pub creates : (d : Device) → c ≡ Ok d → record { answer = answer 0; device = d } ≡ creation_of_body body
+  unfolding creation_of_body
+  creates d e = rw (← hp, ← hm, ← hs, ← hc, e)
 
-module _ (events text : List ℕ) {e : EventHead} (he : e ≡ event_at events 0) where
-  pub begins_none : not e.whole ≡ true → {d : Device} → d ≡ no_device → {r : Run} → r ≡ stopped_at d 0 0 → beginning_of r text ≡ begin_by events text
+  pub creates_none : (why : Answer) → c ≡ Err why → {d : Device} → d ≡ no_device → record { answer = answer_of why; device = d } ≡ creation_of_body body
+  unfolding creation_of_body
+  creates_none why e hd = rw (← hp, ← hm, ← hs, ← hc, e, hd)
+
+module _ (events text : List ℕ) where
+  pub begins_none : event_at events 0 ≡ None → {d : Device} → d ≡ no_device → {r : Run} → r ≡ stopped_at d 0 0 → beginning_of r text ≡ begin_by events text
   unfolding begin_by
-  begins_none q hd hr = rw (← he, not_true e.whole q, hr, hd)
+  begins_none q hd hr = rw (q, hr, hd)
 
-  module _ (q : not e.whole ≡ false) where
-    pub begins_fits : 10 ≤ length events
-    begins_fits = first_long events (sym (ap (λ (x : EventHead). x.whole) he) ∙ not_false e.whole q)
+  pub begins_fits : {e : EventHead} → event_at events 0 ≡ Some e → 10 ≤ length events
+  begins_fits he = first_long events he
 
-    pub begins_made : (c : Created) → creation_of c ≡ creation_of_body (take 7 (drop 3 events)) → {k : ℕ} → k ≡ (answer_of c.answer).number
-        → {after : List ℕ} {n : ℕ} → Puts 0 (line_text 0 c.device (answer_of c.answer) 0 Kept []) text after n
-        → beginning_of (record { device = c.device; at = 10; index = 1; line = n; going = eqb k 0 }) after ≡ begin_by events text
-    unfolding begin_by beginning_of_creation
-    begins_made c hc hk t = rw (← he, not_false e.whole q, ← hc, hk, ended t, t.text)
+  pub begins_made : {o : Option EventHead} → o ≡ event_at events 0 → is_some o ≡ true
+      → {d : Device} (a : Answer) → record { answer = answer_of a; device = d } ≡ creation_of_body (take 7 (drop 3 events)) → {k : ℕ} → k ≡ (answer_of a).number
+      → {after : List ℕ} {n : ℕ} → Puts 0 (line_text 0 d (answer_of a) 0 Kept []) text after n
+      → beginning_of (record { device = d; at = 10; index = 1; line = n; going = eqb k 0 }) after ≡ begin_by events text
+  unfolding begin_by beginning_of_creation
+  begins_made {o = None} he some a hc hk t = absurd (clash (sym some))
+  begins_made {o = Some e} he some a hc hk t = rw (← he, ← hc, hk, ended t, t.text)
 
 -- ---- a file, before anything is written
 
--- There is room for `14`, byte by byte.
-module _ (text : List ℕ) (room : room_for 0 ≤ length text) where
-  pub refuses_first : 0 < length text
-  unfolding room_for
-  refuses_first = omega arith
+-- There is room for `14`.
+pub refuses_fits : (text : List ℕ) → room_for 0 ≤ length text → 3 ≤ length text
+unfolding room_for
+refuses_fits text room = omega (arith, room)
 
-  pub refuses_second : 1 < length (set text 0 0x31)
-  unfolding room_for
-  refuses_second = simp length-set (omega arith)
-
-  pub refuses_third : 2 < length (set (set text 0 0x31) 1 0x34)
-  unfolding room_for
-  refuses_third = simp length-set (omega arith)
-
-  pub refuses : {d : Device} → d ≡ no_device
-      → beginning_of (record { device = d; at = 0; index = 0; line = 3; going = false }) (set (set (set text 0 0x31) 1 0x34) 2 0x0A) ≡ beginning_refused text
-  unfolding beginning_refused room_for
-  refuses hd =
-      let put = then_store 0x0A (omega arith) (then_store 0x34 (omega arith) (store text 0 0x31 (omega arith))) in
-      rw (put.text, hd)
-
--- The events are the front of the file.
-pub cut_fits : (file : List ℕ) {n : ℕ} → n ≡ length file - 12 → n ≡ length (take n file)
-cut_fits file {n} e = sym (length-take-le n file (omega (arith, e)))
+pub refuses : (text : List ℕ) {r : Run} {d : Device} → d ≡ no_device → r ≡ stopped_at d 0 0 → beginning_of (record r { line = 3 }) (breach ++ drop 3 text) ≡ beginning_refused text
+unfolding beginning_refused overlay
+refuses text hd hr = rw (hr, hd)
 
 module _ (file text : List ℕ) {verdict : Bool} (j : Judges verdict file) where
   pub opens_refused : not verdict ≡ true → {r : Run} {after : List ℕ} → beginning_of r after ≡ beginning_refused text → OpensFile file text (beginning_of r after)
@@ -123,34 +115,36 @@ module _ (file text : List ℕ) {verdict : Bool} (j : Judges verdict file) where
 
 -- ---- a later event
 
-pub still_roomy : {lent text : List ℕ} (after : List ℕ) → length after ≡ length lent → Roomy lent text → room_for (length after) ≤ length text
-still_roomy after e r = rw e r.tells
-
-module _ (events : List ℕ) (at : ℕ) {e : EventHead} (he : e ≡ event_at events at) (q : not e.whole ≡ false) where
-  whole : (event_at events at).whole ≡ true
-  whole = sym (ap (λ (x : EventHead). x.whole) he) ∙ not_false e.whole q
-
+module _ (events : List ℕ) (at : ℕ) {e : EventHead} (he : Some e ≡ event_at events at) where
   pub steps_fits : at + 3 + e.length ≤ length events
-  steps_fits = rw he (whole_fits events at whole)
+  steps_fits = whole_fits events at (sym he)
 
-  pub steps_suits : suits e.kind (take (at + 3 + e.length - (at + 3)) (drop (at + 3) events)) ≡ true
+  pub steps_suits : suits (kind_number e.kind) (take (at + 3 + e.length - (at + 3)) (drop (at + 3) events)) ≡ true
   steps_suits =
       let n : at + 3 + e.length - (at + 3) ≡ e.length = omega arith in
-      rw (n, he) (whole_suits events at whole)
+      rw n (whole_suits events at (sym he))
 
-module _ (run : Run) (events io lent text : List ℕ) {e : EventHead} (he : e ≡ event_at events run.at) where
-  pub steps_none : not e.whole ≡ true → {r : Run} → r ≡ stopped_at run.device run.at run.index → running_of r io lent text ≡ step_by run events io lent text
+module _ (run : Run) (events io lent text : List ℕ) where
+  pub steps_none : None ≡ event_at events run.at → {r : Run} → r ≡ stopped_at run.device run.at run.index → running_of r io lent text ≡ step_by run events io lent text
   unfolding step_by
-  steps_none q hr = rw (← he, not_true e.whole q, hr)
+  steps_none q hr = rw (← q, hr)
 
-  pub steps_on : not e.whole ≡ false → (a : Acted) {io' lent' : List ℕ}
-      → acting_of a io' lent' ≡ act_by e.kind (take (run.at + 3 + e.length - (run.at + 3)) (drop (run.at + 3) events)) run.device io lent
+  pub steps_on : {e : EventHead} → Some e ≡ event_at events run.at → (a : Acted) {io' lent' : List ℕ}
+      → acting_of a io' lent' ≡ act_by (kind_number e.kind) (take (run.at + 3 + e.length - (run.at + 3)) (drop (run.at + 3) events)) run.device io lent
       → {after : List ℕ} {n : ℕ} → Puts 0 (line_text run.index a.device (answer_of a.answer) a.count a.stalls (take a.shown lent')) text after n
       → running_of (record { device = a.device; at = run.at + 3 + e.length; index = run.index + 1; line = n; going = true }) io' lent' after ≡ step_by run events io lent text
   unfolding step_by event_by went_on line_of_acting
-  steps_on q a ha t =
+  steps_on {e} he a ha t =
       let n : run.at + 3 + e.length - (run.at + 3) ≡ e.length = omega arith in
-      let acted = ha ∙ ap (λ (k : ℕ). act_by e.kind (take k (drop (run.at + 3) events)) run.device io lent) n in
-      rw (← he, not_false e.whole q, ← acted, ended t, t.text)
+      let acted = ha ∙ ap (λ (k : ℕ). act_by (kind_number e.kind) (take k (drop (run.at + 3) events)) run.device io lent) n in
+      rw (← he, ← acted, ended t, t.text)
 
-pub ruleset ways = (told_fields, least_fits, least_cut, least_roomy, told_line, creates, begins_none, begins_fits, begins_made, steps_none, steps_fits, steps_suits, steps_on)
+pub ruleset tells = (least_fits, least_cut, least_roomy, told_line)
+
+pub ruleset begins = (begins_none, begins_fits)
+
+pub ruleset refuse = (refuses_fits, refuses)
+
+pub ruleset opens = (opens_refused, opens_begun)
+
+pub ruleset steps = (steps_fits, steps_suits, steps_none, steps_on)

@@ -1,7 +1,7 @@
 -- The loop of `play`: how far it has come at the start of a turn (`Comes`), and what each of its ways owes. Assumes nothing.
 use mathlib.Core.Path.{◌≡◌, refl, sym, ◌∙◌, subst}
 use mathlib.Core.Bool.{true, false, not}
-use mathlib.Core.List.{List, [], ◌++◌, append_assoc}
+use mathlib.Core.List.{List, ◌++◌, append_assoc}
 use Prim.Native.Nat.{ℕ, ◌-◌, ◌≤◌, ◌<◌}
 use lib.ListN.{length, take, drop}
 use Rattle.fields.proofs.Bools.{not_true, not_false}
@@ -22,18 +22,6 @@ pub record Comes (events : List ℕ) (from o : Running) : Type 0 where
   pub text : length o.text ≡ length from.text
   pub before : List ℕ
   pub onward : (to : Running) (rest : List ℕ) → Turns events o to rest → Turns events from to (before ++ rest)
-
-pub comes_first : (events : List ℕ) (o : Running) → Roomy o.lent o.text → o.run.index ≤ o.run.at → o.run.line ≤ length o.text → Comes events o o
-comes_first events o roomy index line = record {
-  roomy = roomy;
-  index = index;
-  line = line;
-  io = refl;
-  lent = refl;
-  text = refl;
-  before = [];
-  onward = λ to rest t. t;
-}
 
 module _ (events : List ℕ) (from o : Running) (h : Comes events from o) where
   -- The run goes on: another turn follows.

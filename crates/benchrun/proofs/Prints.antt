@@ -12,12 +12,12 @@ use borrow.Fn.Kinds.{Dens, res_t, ended_of}
 use lib.Dec.{eqb, lit<}
 use lib.ListN.{length, take, drop, length-append, length-drop, drop_of_length-le}
 use lib.Seq.{take-append_seam}
+use Rattle.std.specs.Prelude.{None}
 use Rattle.fields.specs.Overlay.{overlay}
 use Rattle.fields.specs.Field.{get}
 use Rattle.fields.proofs.Bools.{and_left, clash}
 use Rattle.answers.specs.declared.Stalls.TheVariants.{Kept}
 use Rattle.device.specs.Create.{no_device, Creation}
-use Rattle.benchfile.specs.declared.event.EventHead.{EventHead}
 use Rattle.benchfile.specs.Event.{kind_byte, body_of, is_event, event_at}
 use Rattle.benchfile.specs.File.{joined, are_events, Good, Judges}
 use Rattle.benchfile.specs.Inner.File.{ReadAt}
@@ -39,16 +39,15 @@ unfolding overlay
 front_put text ys = take-append_seam ys (drop (0 + length ys) text)
 
 -- After the last event no event stands.
-ends_there : (xs : List ℕ) (at : ℕ) → length xs ≤ at → (event_at xs at).whole ≡ false
+ends_there : (xs : List ℕ) (at : ℕ) → length xs ≤ at → event_at xs at ≡ None
 unfolding event_at
-ends_there xs at h =
-    sym (ap (λ (x : EventHead). x.whole) (front_short (eqb at 0) (drop at xs) (rw (drop_of_length-le xs {i = at} h) (lit< tt)) refl))
+ends_there xs at h = sym (front_short (eqb at 0) (drop at xs) (rw (drop_of_length-le xs {i = at} h) (lit< tt)))
 
 -- The event that is read at the offset of the run is the one that the step makes.
 step_read : (run : Run) (xs io lent text : List ℕ) (e : List ℕ) → ReadAt xs run.at e
     → step_by run xs io lent text ≡ went_on run.index (run.at + length e) (act_by (get kind_byte e) (body_of e) run.device io lent) text
 unfolding step_by event_by
-step_read run xs io lent text e r = rw (r.head, r.body, r.next)
+step_read run xs io lent text e r = rw (r.head, r.body, r.next, r.number)
 
 step_none : (run : Run) (xs io lent text : List ℕ) → length xs ≤ run.at → step_by run xs io lent text ≡ running_of (stopped_at run.device run.at run.index) io lent text
 unfolding step_by

@@ -1,5 +1,5 @@
 -- A run of a bench file, event by event: each event is a call and gives a line. Assumes nothing: these are definitions.
-use Rattle.std.specs.Prelude.{ℕ, ◌+◌, ◌-◌, ◌≡◌, Bool, true, false, cond, List, [], ◌∷◌, eqb, length, take, drop}
+use Rattle.std.specs.Prelude.{ℕ, ◌+◌, ◌-◌, ◌≡◌, Bool, true, false, cond, Option, Some, None, List, [], ◌∷◌, eqb, length, take, drop}
 use Rattle.fields.specs.Overlay.{overlay}
 use Rattle.fields.specs.Field.{get}
 use Rattle.answers.specs.declared.Stalls.{Stalls}
@@ -9,7 +9,7 @@ use Rattle.ring.specs.States.{state_number}
 use Rattle.device.specs.declared.Device.{Device}
 use Rattle.device.specs.Create.{fixed, Creation, no_device, create_call}
 use Rattle.benchfile.specs.declared.event.EventHead.{EventHead}
-use Rattle.benchfile.specs.Event.{packet_size, max_lun, buffer_size, event_at}
+use Rattle.benchfile.specs.Event.{packet_size, max_lun, buffer_size, kind_number, event_at}
 use Rattle.benchfile.specs.File.{Judges}
 use Rattle.benchline.specs.declared.Line.{Line}
 use Rattle.benchline.specs.Line.{line_of}
@@ -58,13 +58,14 @@ beginning_of_creation c text = beginning_of
     (record { device = c.device; at = 10; index = 1; line = length (line_text 0 c.device c.answer 0 Kept []); going = eqb c.answer.number 0 })
     (overlay text 0 (line_text 0 c.device c.answer 0 Kept []))
 
--- What the first of the events `events` leaves where the text buffer is `text`. Where no event stands there, the run ends with no device
--- and no line.
+-- What the first of the events `events` leaves where the text buffer is `text` and `head` stands at the front. Where no event stands there,
+-- the run ends with no device and no line.
+abbrev pub begin_with : Option EventHead → List ℕ → List ℕ → Beginning
+begin_with None events text = beginning_of (stopped_at no_device 0 0) text
+begin_with (Some e) events text = beginning_of_creation (creation_of_body (take 7 (drop 3 events))) text
+
 unfoldable pub begin_by : List ℕ → List ℕ → Beginning
-begin_by events text =
-    cond (event_at events 0).whole
-    (beginning_of_creation (creation_of_body (take 7 (drop 3 events))) text)
-    (beginning_of (stopped_at no_device 0 0) text)
+begin_by events text = begin_with (event_at events 0) events text
 
 -- ---- a file, before anything is written
 
@@ -117,12 +118,13 @@ went_on index next a text = running_of
 -- `run`, the IO buffer `io` and the lent bytes `lent`.
 unfoldable pub event_by : Run → EventHead → List ℕ → List ℕ → List ℕ → List ℕ → Running
 event_by run e events io lent text =
-    went_on run.index (run.at + 3 + e.length) (act_by e.kind (take e.length (drop (run.at + 3) events)) run.device io lent) text
+    went_on run.index (run.at + 3 + e.length) (act_by (kind_number e.kind) (take e.length (drop (run.at + 3) events)) run.device io lent) text
 
--- What the next event of the run `run` leaves, with the IO buffer `io`, the lent bytes `lent` and the text buffer `text`. Where no event
--- stands in `events` at the offset of `run`, the run ends.
+-- What the next event of the run `run` leaves, with the IO buffer `io`, the lent bytes `lent` and the text buffer `text`, where `head`
+-- stands in `events` at the offset of `run`. Where no event stands there, the run ends.
+abbrev pub step_with : Option EventHead → Run → List ℕ → List ℕ → List ℕ → List ℕ → Running
+step_with None run events io lent text = running_of (stopped_at run.device run.at run.index) io lent text
+step_with (Some e) run events io lent text = event_by run e events io lent text
+
 unfoldable pub step_by : Run → List ℕ → List ℕ → List ℕ → List ℕ → Running
-step_by run events io lent text =
-    cond (event_at events run.at).whole
-    (event_by run (event_at events run.at) events io lent text)
-    (running_of (stopped_at run.device run.at run.index) io lent text)
+step_by run events io lent text = step_with (event_at events run.at) run events io lent text

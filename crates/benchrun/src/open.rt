@@ -3,7 +3,7 @@ ghost use Rattle.std.specs.Prelude.{◌≡◌, ◌-◌, ◌≤◌, length};
 ghost use Rattle.benchline.specs.Inner.Line.{room_for};
 ghost use Rattle.benchrun.specs.Run.{beginning_of, beginning_refused, OpensFile};
 
-use crate::step::{Run, begin};
+use crate::step::{Run, begin, stopped};
 use benchfile::TRAILER;
 use device::create::none;
 
@@ -11,31 +11,24 @@ use device::create::none;
 pub fn events_end(file: &[u8]) -> usize
     ensures { result ≡ length file.now - 12 }
 {
-    if file.len() < TRAILER {
-        return 0;
-    }
-    file.len() - TRAILER
+    file.len().saturating_sub(TRAILER)
 }
 
 // Puts `14` into `text`; there is no run.
+#[tactic(auto, using(crate::proofs::Laws::refuse))]
 fn refuse(text: &mut [u8]) -> Run
     requires { room_for 0 ≤ length text.old }
     ensures { beginning_of result text.new ≡ beginning_refused text.old }
 {
-    text[0] = b'1';
-    text[1] = b'4';
-    text[2] = b'\n';
-    let nothing = none();
+    text[..3].copy_from_slice(b"14\n");
     Run {
-        device: nothing,
-        at: 0,
-        index: 0,
         line: 3,
-        going: false,
+        ..stopped(none(), 0, 0)
     }
 }
 
 // Makes the first event of a good file, and refuses any other file with `14`.
+#[tactic(auto, using(crate::proofs::Laws::opens))]
 pub fn open(file: &[u8], text: &mut [u8]) -> Run
     requires { room_for 0 ≤ length text.old }
     ensures { OpensFile file.now text.old (beginning_of result text.new) }
@@ -43,6 +36,5 @@ pub fn open(file: &[u8], text: &mut [u8]) -> Run
     if !benchfile::good(file) {
         return refuse(text);
     }
-    let end = events_end(file);
-    begin(&file[..end], text)
+    begin(&file[..events_end(file)], text)
 }

@@ -18,10 +18,8 @@ pub fn play(begun: Run, events: &[u8], io: &mut [u8], lent: &mut [u8], text: &mu
 {
     let mut run = begun;
     loop {
-        let n = run.line;
-        io::write_all(STDOUT, &text[..n]);
-        let going = run.going;
-        if !going {
+        io::write_all(STDOUT, &text[..run.line]);
+        if !run.going {
             return;
         }
         run = step(run, events, io, lent, text);
@@ -35,7 +33,6 @@ pub fn play_file(file: &[u8], space: &mut [u8], lent: &mut [u8], text: &mut [u8]
 {
     let begun = open(file, text);
     let end = events_end(file);
-    let d = begun.device;
-    let size = d.fixed.size;
+    let size = begun.device.fixed.size;
     play(begun, &file[..end], &mut space[..size], lent, text);
 }

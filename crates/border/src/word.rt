@@ -4,19 +4,13 @@ ghost use Rattle.answers.specs.Answers.{answer_of};
 ghost use Rattle.border.specs.Word as spec;
 
 use answers::{Answer, Stalls, answer_number, missing};
-use fields::least;
 use recordbytes::store;
 
 // This number says what is asked of both endpoints.
 pub fn stalls_number(stalls: Stalls) -> u8
     ensures { result ≡ spec.stalls_number stalls }
 {
-    match stalls {
-        Stalls::Kept => 0,
-        Stalls::Stalled => 1,
-        Stalls::Unstalled => 2,
-        Stalls::UnstalledStalled => 3,
-    }
+    stalls as u8
 }
 
 // Bits 32 to 63 of a result: the `count`, or how many bytes of room are missing.
@@ -24,7 +18,7 @@ pub fn upper_half(answer: Answer, count: u32) -> u32
     ensures { result ≡ spec.upper_half (answer_of answer) count }
 {
     if answer_number(answer) == 1 {
-        return store::narrow(least(missing(answer), 4294967295));
+        return store::narrow(missing(answer).min(4294967295));
     }
     count
 }

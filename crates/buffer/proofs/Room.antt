@@ -68,17 +68,10 @@ ltb_rest r k n =
     (λ e. e ∙ sym (lt-ltb k (n - r) (omega (arith, ltb-true (r + k) n e))))
     (λ e. e ∙ sym (le-ltb k (n - r) (omega (arith, ltb-false (r + k) n e))))
 
-module _ (n : ℕ) (s : Buffer) where
-  -- `write_all` refuses exactly if a byte is missing.
-  pub lacks_missing : lacks_room n s ≡ ltb 0 (missing n s)
-  unfolding missing lacks_room
-  lacks_missing = rw add-zero at (ltb_rest (room (with_room n s)) 0 n)
-
-  pub none_missing : missing n s ≡ 0 → lacks_room n s ≡ false
-  none_missing e = lacks_missing ∙ ap (ltb 0) e
-
-  pub some_missing : (missing n s ≡ 0 → ⊥) → lacks_room n s ≡ true
-  some_missing k = lacks_missing ∙ lt-ltb 0 (missing n s) (omega (arith, k))
+-- `write_all` refuses exactly if a byte is missing.
+pub lacks_missing : (n : ℕ) (s : Buffer) → lacks_room n s ≡ ltb 0 (missing n s)
+unfolding missing lacks_room
+lacks_missing n s = rw add-zero at (ltb_rest (room (with_room n s)) 0 n)
 
 -- Where there is no room for n bytes, there is none for more.
 pub lacks_more : (n more : ℕ) (s : Buffer) → Sound s → n ≤ more → lacks_room n s ≡ true → lacks_room more s ≡ true

@@ -2,21 +2,26 @@
 -- slice at exit. `Post` is the contract itself, as the check reads it. The calls that take any marks come first, then those of
 -- `marked` and `span`. Assumes nothing.
 use mathlib.Core.Path.{◌≡◌, refl, sym, ap, ◌∙◌}
-use mathlib.Core.Bool.{cond}
+use Rattle.std.proofs.Common.{Fits, w64}
+use mathlib.Core.Bool.{cond, true≢false}
 use mathlib.Core.List.{List}
 use Prim.Native.Nat.{ℕ}
 use lib.Dec.{eqb}
+use Rattle.std.specs.Prelude.{Result, Ok, Err}
 use Rattle.buffer.specs.declared.Marks.{Marks}
 use Rattle.buffer.specs.declared.marked.Taken.{Taken}
-use Rattle.buffer.specs.declared.marked.Put.{Put}
-use Rattle.buffer.specs.declared.Answer.{Answer}
-use Rattle.buffer.specs.declared.Answer.TheVariants.{Done, Overflow, Broken}
+use Rattle.buffer.specs.declared.marked.Overflow.{Overflow}
+use Rattle.buffer.specs.declared.Refusal.TheVariants.{Overflow as Lacking, Broken}
 use Rattle.buffer.specs.Buffer.{Buffer, buffer}
-use Rattle.buffer.specs.Inner.Buffer.{Leaves}
-use Rattle.buffer.specs.Calls.{Answering, answer_of}
+use Rattle.buffer.specs.Inner.Buffer.{Leaves, WritesAll}
+use Rattle.buffer.specs.Calls.{Answering, Answer, answer_of}
 use Rattle.fields.proofs.Only.{Only}
 use Rattle.buffer.proofs.sound.Kinds as sound-kinds
 use Rattle.buffer.proofs.sound.Reads as sound
+use Rattle.buffer.proofs.Marks.unread.Kinds as unread-kinds
+use Rattle.buffer.proofs.Marks.unread.Reads as unread
+use Rattle.buffer.proofs.RefusalFromOverflow.from.Kinds as from-kinds
+use Rattle.buffer.proofs.RefusalFromOverflow.from.Reads as from
 use Rattle.buffer.proofs.available.Kinds as available-kinds
 use Rattle.buffer.proofs.available.Reads as available
 use Rattle.buffer.proofs.clean.Kinds as clean-kinds
@@ -45,14 +50,8 @@ use Rattle.buffer.proofs.marked.fill_up_to.Kinds as marked-fill-kinds
 use Rattle.buffer.proofs.marked.fill_up_to.Reads as marked-fill
 use Rattle.buffer.proofs.marked.read.Kinds as marked-read-kinds
 use Rattle.buffer.proofs.marked.read.Reads as marked-read
-use Rattle.buffer.proofs.span.copy8.Kinds as copy8-kinds
-use Rattle.buffer.proofs.span.copy8.Reads as copy8
-use Rattle.buffer.proofs.span.copy16.Kinds as copy16-kinds
-use Rattle.buffer.proofs.span.copy16.Reads as copy16
-use Rattle.buffer.proofs.span.copy32.Kinds as copy32-kinds
-use Rattle.buffer.proofs.span.copy32.Reads as copy32
-use Rattle.buffer.proofs.span.copy64.Kinds as copy64-kinds
-use Rattle.buffer.proofs.span.copy64.Reads as copy64
+use Rattle.buffer.proofs.span.copy.Kinds as copy-kinds
+use Rattle.buffer.proofs.span.copy.Reads as copy
 use Rattle.buffer.proofs.span.put.Kinds as put-kinds
 use Rattle.buffer.proofs.span.put.Reads as put
 use Rattle.buffer.proofs.span.move_front.Kinds as move-front-kinds
@@ -60,20 +59,27 @@ use Rattle.buffer.proofs.span.move_front.Reads as move-front
 use Rattle.buffer.proofs.span.fill.Kinds as span-fill-kinds
 use Rattle.buffer.proofs.span.fill.Reads as span-fill
 
+-- These are the results of the calls: a count, or what is missing, together with the marks.
+abbrev taken : ℕ → Marks → Taken
+taken n m = record { count = n; marks = m }
+
+abbrev overflow : ℕ → Marks → Overflow
+overflow n m = record { missing = n; marks = m }
+
 -- Document 01's number and values determine the answer, and the bytes too.
 named : Answering → Answer
-named o = cond (eqb o.answer 0) (Done o.count o.leaves.marks) (cond (eqb o.answer 1) (Overflow o.missing o.leaves.marks) Broken)
+named o = cond (eqb o.answer 0) (Ok (taken o.count o.leaves.marks)) (Err (cond (eqb o.answer 1) (Lacking (overflow o.missing o.leaves.marks)) Broken))
 
 named_answer : (m : Marks) (x : Answer) (b : List ℕ) → named (answer_of m x b) ≡ x
 unfolding named
-named_answer m (Done n t) b = refl
-named_answer m (Overflow n t) b = refl
-named_answer m Broken b = refl
+named_answer m (Ok t) b = refl
+named_answer m (Err (Lacking o)) b = refl
+named_answer m (Err Broken) b = refl
 
 answer_bytes : (m : Marks) (x : Answer) (b : List ℕ) → (answer_of m x b).leaves.bytes ≡ b
-answer_bytes m (Done n t) b = refl
-answer_bytes m (Overflow n t) b = refl
-answer_bytes m Broken b = refl
+answer_bytes m (Ok t) b = refl
+answer_bytes m (Err (Lacking o)) b = refl
+answer_bytes m (Err Broken) b = refl
 
 pub answer_once : (m : Marks) (x y : Answer) (b c : List ℕ) {o : Answering} → answer_of m x b ≡ o → answer_of m y c ≡ o → (x ≡ y) × (b ≡ c)
 answer_once m x y b c p q =
@@ -82,6 +88,12 @@ answer_once m x y b c p q =
 
 pub sound_only : Only 0 sound-kinds.ps sound-kinds.r sound.Post (λ κs s. tt {0})
 sound_only κs a x y s t p q = (p ∙ sym q, refl)
+
+pub unread_only : Only 0 unread-kinds.ps unread-kinds.r unread.Post (λ κs s. tt {0})
+unread_only κs a x y s t p q = (p ∙ sym q, refl)
+
+pub from_only : Only 0 from-kinds.ps from-kinds.r from.Post (λ κs s. tt {0})
+from_only κs a x y s t p q = (p ∙ sym q, refl)
 
 pub available_only : Only 1 available-kinds.ps available-kinds.r available.Post (λ κs s. tt {0})
 available_only κs a x y s t p q = ((answer_once _ x y _ _ p q).0, refl)
@@ -112,24 +124,21 @@ left_once p q =
     let e = p.same ∙ sym q.same in
     (ap (λ (s : Buffer). s.marks) e, ap (λ (s : Buffer). s.bytes) e)
 
--- These are the results of the calls of `marked`: a count, or what is missing, together with the marks.
-abbrev taken : ℕ → Marks → Taken
-taken n m = record { count = n; marks = m }
-
-abbrev wrote : ℕ → Marks → Put
-wrote n m = record { missing = n; marks = m }
-
 taken_once : {x y : Taken} {b c : List ℕ} {n : ℕ} {t : Buffer}
     → x.count ≡ n → Leaves (buffer b x.marks) t → y.count ≡ n → Leaves (buffer c y.marks) t → (x ≡ y) × (b ≡ c)
 taken_once {x} {y} en p ek q =
     let e = left_once p q in
     (ap (λ (k : ℕ). taken k x.marks) (en ∙ sym ek) ∙ ap (taken y.count) e.0, e.1)
 
-wrote_once : {x y : Put} {b c : List ℕ} {n : ℕ} {t : Buffer}
-    → x.missing ≡ n → Leaves (buffer b x.marks) t → y.missing ≡ n → Leaves (buffer c y.marks) t → (x ≡ y) × (b ≡ c)
-wrote_once {x} {y} en p ek q =
-    let e = left_once p q in
-    (ap (λ (k : ℕ). wrote k x.marks) (en ∙ sym ek) ∙ ap (wrote y.missing) e.0, e.1)
+wrote_once : (want : ℕ) (ys : List ℕ) (s : Buffer) {b c : List ℕ} (x y : Result Marks Overflow) → WritesAll want ys s x b → WritesAll want ys s y c → (x ≡ y) × (b ≡ c)
+wrote_once want ys s (Ok m) (Ok l) p q =
+    let e = left_once p.1 q.1 in
+    (ap Ok e.0, e.1)
+wrote_once want ys s (Err o) (Err u) p q =
+    let e = left_once p.2 q.2 in
+    (ap (λ (k : ℕ). Err (overflow k o.marks)) (p.1 ∙ sym q.1) ∙ ap (λ (m : Marks). Err (overflow u.missing m)) e.0, e.1)
+wrote_once want ys s (Ok m) (Err u) p q = absurd (true≢false (sym q.0 ∙ p.0))
+wrote_once want ys s (Err o) (Ok l) p q = absurd (true≢false (sym p.0 ∙ q.0))
 
 pub marked_clean_only : Only 0 marked-clean-kinds.ps marked-clean-kinds.r marked-clean.Post (λ κs s. tt {0})
 marked_clean_only κs a x y s t p q = (p ∙ sym q, refl)
@@ -147,22 +156,13 @@ pub marked_fill_only : Only 1 marked-fill-kinds.ps marked-fill-kinds.r marked-fi
 marked_fill_only κs a x y s t p q = taken_once p.0 p.1 q.0 q.1
 
 pub marked_write_all_only : Only 2 marked-write-all-kinds.ps marked-write-all-kinds.r marked-write-all.Post (λ κs s. s.0.now)
-marked_write_all_only κs a x y s t p q = wrote_once p.0 p.1 q.0 q.1
+marked_write_all_only κs a x y s t p q = wrote_once _ _ _ x y p q
 
 pub marked_read_only : Only 2 marked-read-kinds.ps marked-read-kinds.r marked-read.Post (λ κs s. s.1.1.1.0.now)
 marked_read_only κs a x y s t p q = ((taken_once p.0 p.1 q.0 q.1).0, p.2 ∙ sym q.2)
 
-pub copy8_only : Only 2 copy8-kinds.ps copy8-kinds.r copy8.Post (λ κs s. s.0.now)
-copy8_only κs a x y s t p q = (refl, p ∙ sym q)
-
-pub copy16_only : Only 2 copy16-kinds.ps copy16-kinds.r copy16.Post (λ κs s. s.0.now)
-copy16_only κs a x y s t p q = (refl, p ∙ sym q)
-
-pub copy32_only : Only 2 copy32-kinds.ps copy32-kinds.r copy32.Post (λ κs s. s.0.now)
-copy32_only κs a x y s t p q = (refl, p ∙ sym q)
-
-pub copy64_only : Only 2 copy64-kinds.ps copy64-kinds.r copy64.Post (λ κs s. s.0.now)
-copy64_only κs a x y s t p q = (refl, p ∙ sym q)
+pub copy_only : (n k : ℕ) (hn : Fits w64 n) (hk : Fits w64 k) → Only 4 (copy-kinds.ps n k hn hk) (copy-kinds.r n k hn hk) (copy.Post n k hn hk) (λ κs s. s.0.now)
+copy_only n k hn hk κs a x y s t p q = (refl, p ∙ sym q)
 
 pub put_only : Only 2 put-kinds.ps put-kinds.r put.Post (λ κs s. s.0.now)
 put_only κs a x y s t p q = (refl, p ∙ sym q)

@@ -1,7 +1,7 @@
 -- There is one law for each way through a function of src/. From the tests on the way and from what the callees ensure, it proves what the
 -- function owes. Assumes nothing.
-use mathlib.Core.Path.{◌≡◌, refl, sym, ap, ◌∙◌, subst}
-use mathlib.Core.Bool.{Bool, true, false, cond}
+use mathlib.Core.Path.{◌≡◌, sym, subst}
+use mathlib.Core.Bool.{true, false}
 use mathlib.Core.List.{List}
 use Prim.Native.Nat.{ℕ, ◌+◌, ◌-◌, ◌≤◌, ◌<◌, min, max}
 use native.Mathlib.Nat.{min-le_left, min-le_right}
@@ -9,12 +9,17 @@ use native.Mathlib.Omega.{arith}
 use borrow.Author.Tests.{lt-ltb, le-ltb}
 use lib.ListN.{length, take, drop, replicate, length-replicate}
 use lib.Seq.{length-take-le, take-take}
+use Rattle.std.specs.Prelude.{Ok, Err, IsErr, IsErrAnd}
+use Rattle.std.proofs.lemmas.Result.{err_from_is_err_and}
 use Rattle.fields.specs.Overlay.{overlay}
+use Rattle.buffer.specs.declared.Marks.{Marks}
+use Rattle.buffer.specs.declared.marked.Overflow.{Overflow}
+use Rattle.buffer.specs.declared.Refusal.{Refusal}
+use Rattle.buffer.specs.declared.Refusal.TheVariants.{Overflow as Lacking, Broken}
 use Rattle.buffer.specs.Buffer.{Buffer, buffer, at, is_sound, unread, unread_bytes, room, moved, with_room, appended, fitting, written, filled, lacks_room, missing, written_all, ready, ready_bytes, read_off}
-use Rattle.buffer.specs.Inner.Buffer.{Sound, Leaves}
-use Rattle.buffer.specs.Calls.{answering, lacking, if_sound}
-use Rattle.buffer.proofs.Room.{none_missing, some_missing}
-use Rattle.buffer.proofs.Kept.{is_sound_lem, sound_moved, sound_written, sound_filled, sound_written_all, sound_read_off, sound_with_room}
+use Rattle.buffer.specs.Inner.Buffer.{Sound, Leaves, WritesAll}
+use Rattle.buffer.specs.Calls.{Answering, answering, Answer, answer_of, if_sound, checked, write_all_call}
+use Rattle.buffer.proofs.Kept.{sound_is, sound_moved, sound_written, sound_filled, sound_written_all, sound_read_off, sound_with_room}
 
 -- ---- marked: t is the buffer after room was made, and b are its bytes at the end
 
@@ -22,9 +27,9 @@ use Rattle.buffer.proofs.Kept.{is_sound_lem, sound_moved, sound_written, sound_f
 leaves : {s t : Buffer} → s ≡ t → Sound t → Leaves s t
 leaves e g = record { same = e; sound = subst Sound (sym e) g }
 
-pub moves : (s : Buffer) (b : List ℕ) → Sound s → b ≡ overlay s.bytes 0 (take (unread s) (drop s.marks.read s.bytes)) → Leaves (buffer b (at 0 (unread s))) (moved s)
+pub moves : (n : ℕ) (s : Buffer) (b : List ℕ) → Sound s → n ≡ unread s → b ≡ overlay s.bytes 0 (take n (drop s.marks.read s.bytes)) → Leaves (buffer b (at 0 n)) (moved s)
 unfolding moved unread_bytes
-moves s b g e = leaves (ap (λ (l : List ℕ). buffer l (at 0 (unread s))) e) (sound_moved s g)
+moves n s b g en e = leaves (rw (e, en)) (sound_moved s g)
 
 pub room_made : (n : ℕ) (s t : Buffer) → room s < n → Leaves t (moved s) → Leaves t (with_room n s)
 unfolding with_room
@@ -73,19 +78,13 @@ module _ (want : ℕ) (ys : List ℕ) (n : ℕ) (s t : Buffer) (g : Sound s) (en
   unfolding lacks_room
   has h = rw (← en, ← et.same, le-ltb _ _ h)
 
-  -- What was asked for less the room is what is missing, and 0 where there is enough room.
-  misses : {k : ℕ} → k ≡ n - room t → k ≡ missing (max want (length ys)) s
-  unfolding missing
-  misses h = rw (← en, ← et.same) h
+  pub refuses : room t < n → WritesAll want ys s (Err (record { missing = n - room t; marks = t.marks })) t.bytes
+  unfolding written_all missing
+  refuses h = (lacks h, rw (← en, ← et.same), leaves (rw (lacks h, ← en, ← et.same)) (sound_written_all want ys s g))
 
-  pub refuses : room t < n → (n - room t ≡ missing (max want (length ys)) s) × Leaves t (written_all want ys s)
-  unfolding written_all
-  refuses h = (misses refl, leaves (rw (lacks h, ← en, ← et.same)) (sound_written_all want ys s g))
-
-  pub takes_all : n ≤ room t → (b : List ℕ) → b ≡ overlay t.bytes t.marks.write ys
-      → (0 ≡ missing (max want (length ys)) s) × Leaves (buffer b (at t.marks.read (t.marks.write + length ys))) (written_all want ys s)
+  pub takes_all : n ≤ room t → (b : List ℕ) → b ≡ overlay t.bytes t.marks.write ys → WritesAll want ys s (Ok (at t.marks.read (t.marks.write + length ys))) b
   unfolding written_all appended
-  takes_all h b e = (misses (omega arith), leaves (rw (has h, ← en, ← et.same, e)) (sound_written_all want ys s g))
+  takes_all h b e = (has h, leaves (rw (has h, ← en, ← et.same, e)) (sound_written_all want ys s g))
 
 -- At most n bytes are read, k of them, into d, which becomes e.
 pub reads : (d : List ℕ) (n k : ℕ) (s : Buffer) → Sound s → k ≡ min (unread s) n → (e : List ℕ)
@@ -97,28 +96,36 @@ reads d n k s g ek e ee =
     let first = take-take k (unread s) (drop s.marks.read s.bytes) (omega (arith, min-le_left (unread s) n)) in
     (ek, leaves (rw ek) (sound_read_off n s g), rw (same, ← first, ek) at ee)
 
--- ---- the public calls: x is the answer of `sound`
+-- ---- the public calls
 
-pub tested : (s : Buffer) {x : Bool} → x ≡ is_sound (length s.bytes) s.marks → x ≡ true → Sound s
-tested s e h = is_sound_lem s (sym e ∙ h)
-
-module _ (s : Buffer) {x : Bool} (e : x ≡ is_sound (length s.bytes) s.marks) where
-  pub broken : {A : Type 0} (done refused : A) → x ≡ false → refused ≡ if_sound s done refused
+-- The marks are not sound: `?` hands on that refusal, f.
+module _ (s : Buffer) {f : Refusal} (h : (f ≡ Broken) × (is_sound (length s.bytes) s.marks ≡ false)) where
+  pub refused : (done : Answering) (r : Answer) → IsErr r × IsErrAnd r (λ x. x ≡ f) → answer_of s.marks r s.bytes ≡ checked s done
   unfolding if_sound
-  broken done refused h = rw (← e, h)
+  refused done r e =
+      let p = err_from_is_err_and r e.1 in
+      rw (p.1, p.2, h.0, h.1)
 
-  pub passes : {A : Type 0} {result done : A} (refused : A) → x ≡ true → result ≡ done → result ≡ if_sound s done refused
+  pub refused_into : (done : List ℕ) {d : List ℕ} → d ≡ if_sound s done d
   unfolding if_sound
-  passes refused h p = rw (← e, h) p
+  refused_into done = rw h.1
 
--- Two outcomes with the same count and the same buffer are the same.
-pub counts : {n k : ℕ} {t u : Buffer} → n ≡ k → t ≡ u → answering 0 n t ≡ answering 0 k u
-counts en et = rw (en, et)
+-- The marks are sound: what `marked` does is what the call promises.
+module _ (s : Buffer) (g : Sound s) where
+  pub passes : {A : Type 0} {result done : A} (refused : A) → result ≡ done → result ≡ if_sound s done refused
+  unfolding if_sound
+  passes refused p = rw (sound_is s g) p
 
--- All was taken, or nothing; x is what is missing.
-module _ (s : Buffer) (n k : ℕ) {t u : Buffer} {x : ℕ} (ex : x ≡ missing n s) (et : t ≡ u) where
-  pub all_taken : x ≡ 0 → answering 0 k t ≡ cond (lacks_room n s) (lacking (missing n s) u) (answering 0 k u)
-  all_taken h = rw (none_missing n s (sym ex ∙ h), et)
+  pub counts : {n k : ℕ} {t u : Buffer} → n ≡ k → t ≡ u → answering 0 n t ≡ checked s (answering 0 k u)
+  counts en et = passes _ (rw (en, et))
 
-  pub overflows : (x ≡ 0 → ⊥) → lacking x t ≡ cond (lacks_room n s) (lacking (missing n s) u) (answering 0 k u)
-  overflows h = rw (some_missing n s (λ e. h (ex ∙ e)), ex, et)
+  pub all_taken : (want : ℕ) (ys : List ℕ) {m : Marks} {b : List ℕ} → WritesAll want ys s (Ok m) b → answering 0 (length ys) (buffer b m) ≡ write_all_call want ys s
+  unfolding write_all_call
+  all_taken want ys w = passes _ (rw (w.0, w.1.same))
+
+  pub overflows : (want : ℕ) (ys : List ℕ) {o : Overflow} {b : List ℕ} → WritesAll want ys s (Err o) b
+      → (r : Answer) → IsErr r × IsErrAnd r (λ x. x ≡ Lacking o) → answer_of s.marks r b ≡ write_all_call want ys s
+  unfolding write_all_call
+  overflows want ys w r e =
+      let p = err_from_is_err_and r e.1 in
+      rw (p.1, p.2) (passes _ (rw (w.0, w.1, w.2.same)))

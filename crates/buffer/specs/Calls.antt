@@ -1,11 +1,12 @@
 -- Each public call on the buffer `s`, whatever its marks, answers with document 01's number and a count, and leaves a buffer.
 -- Assumes nothing: these are definitions.
-use Rattle.std.specs.Prelude.{ℕ, max, cond, List, length}
+use Rattle.std.specs.Prelude.{ℕ, max, cond, List, length, Result, Ok, Err}
 use Rattle.fields.specs.Overlay.{overlay}
 use Rattle.buffer.specs.Buffer.{Buffer, buffer, is_sound, unread, moved, fitting, written, filled, lacks_room, missing, written_all, ready, ready_bytes, read_off, emptied}
 use Rattle.buffer.specs.declared.Marks.{Marks}
-use Rattle.buffer.specs.declared.Answer.{Answer}
-use Rattle.buffer.specs.declared.Answer.TheVariants.{Done, Overflow, Broken}
+use Rattle.buffer.specs.declared.marked.Taken.{Taken}
+use Rattle.buffer.specs.declared.Refusal.{Refusal}
+use Rattle.buffer.specs.declared.Refusal.TheVariants.{Overflow, Broken}
 
 -- A call has this outcome: `answer` is the number of 01's table, `count` is how many bytes the call took,
 -- gave or found, `missing` is how many bytes of room it lacked, and `leaves` is the buffer after it.
@@ -23,12 +24,16 @@ answering answer count leaves = record { answer = answer; count = count; missing
 abbrev pub lacking : ℕ → Buffer → Answering
 lacking n leaves = record { answer = 1; count = 0; missing = n; leaves = leaves }
 
+-- Every call gives one of these answers: what it took, or why it was refused.
+abbrev pub Answer : Type 0
+Answer = Result Taken Refusal
+
 -- This is the outcome that each answer of the code stands for. `m` are the marks at the call, and `b` are the bytes after it; an answer
--- carries the marks `t` after the call, and `n`, the count or the bytes missing.
+-- carries the marks after the call, and the count or the bytes missing.
 abbrev pub answer_of : Marks → Answer → List ℕ → Answering
-answer_of m (Done n t) b = answering 0 n (buffer b t)
-answer_of m (Overflow n t) b = lacking n (buffer b t)
-answer_of m Broken b = answering 10 0 (buffer b m)
+answer_of m (Ok t) b = answering 0 t.count (buffer b t.marks)
+answer_of m (Err (Overflow o)) b = lacking o.missing (buffer b o.marks)
+answer_of m (Err Broken) b = answering 10 0 (buffer b m)
 
 -- "Broken means: .. read mark above write mark or write mark above the length": if `s` is broken this is `refused`, otherwise `done`.
 unfoldable pub if_sound : {A : Type 0} → Buffer → A → A → A

@@ -1,13 +1,23 @@
 // These are the buffer's calls for marks that are known to be sound: read mark ≤ write mark ≤ length. Each call promises sound
 // marks again, so that a caller has to test only once.
+// `io` and its marks stay two parameters: reads are lent `&[u8]` and writes `&mut [u8]`, and between two calls the marks stand in the record.
 ghost use Rattle.std.specs.Prelude.{◌≡◌, ◌+◌, ◌-◌, ◌≤◌, max, length};
-ghost use Rattle.buffer.specs.Buffer.{buffer, at, moved, with_room, fitting, written, filled, missing, written_all, ready, ready_bytes, read_off};
-ghost use Rattle.buffer.specs.Inner.Buffer.{Sound, Leaves};
+ghost use Rattle.buffer.specs.Buffer.{buffer, at, moved, with_room, fitting, written, filled, ready, ready_bytes, read_off};
+ghost use Rattle.buffer.specs.Inner.Buffer.{Sound, Leaves, WritesAll};
 ghost use Rattle.fields.specs.Overlay.{overlay};
 
 use crate::Marks;
 use crate::span::{fill, move_front, put};
-use fields::least;
+
+impl Marks {
+    // Counts the unread bytes.
+    pub fn unread(self) -> usize
+        requires { self.read ≤ self.write }
+        ensures { result ≡ self.write - self.read }
+    {
+        self.write - self.read
+    }
+}
 
 // `count` is how many bytes a call took or gave, and `marks` are the marks after it.
 #[derive(Clone, Copy)]
@@ -16,19 +26,12 @@ pub struct Taken {
     pub marks: Marks,
 }
 
-// `missing` is how many bytes of room were missing: with 0 all bytes were taken, and else none. `marks` are the marks after the call: a
-// refusal keeps the move.
+// The room, after the move, is below what was asked for: `missing` bytes of room are missing, at least 1. `marks` are the marks after the
+// call: a refusal keeps the move.
 #[derive(Clone, Copy)]
-pub struct Put {
+pub struct Overflow {
     pub missing: usize,
     pub marks: Marks,
-}
-
-// Gives the greater of `a` and `b`.
-fn greatest(a: usize, b: usize) -> usize
-    ensures { result ≡ max a b }
-{
-    if a < b { b } else { a }
 }
 
 // Gives the marks of an empty buffer.
@@ -43,9 +46,8 @@ pub fn shift(io: &mut [u8], m: Marks) -> Marks
     requires { Sound (buffer io.old m) }
     ensures { Leaves (buffer io.new result) (moved (buffer io.old m)) }
 {
-    let from = m.read;
-    let n = m.write - m.read;
-    move_front(io, from, n);
+    let n = m.unread();
+    move_front(io, m.read, n);
     Marks { read: 0, write: n }
 }
 
@@ -68,7 +70,7 @@ pub fn write(io: &mut [u8], m: Marks, src: &[u8]) -> Taken
 {
     let t = make_room(io, m, src.len());
     let at = t.write;
-    let n = least(io.len() - at, src.len());
+    let n = (io.len() - at).min(src.len());
     put(io, at, &src[..n]);
     Taken {
         count: n,
@@ -80,29 +82,25 @@ pub fn write(io: &mut [u8], m: Marks, src: &[u8]) -> Taken
 }
 
 // Appends all of `src` to the unread bytes, or nothing. Room is asked for `want` bytes, and for all of `src`.
-pub fn write_all(io: &mut [u8], m: Marks, want: usize, src: &[u8]) -> Put
+pub fn write_all(io: &mut [u8], m: Marks, want: usize, src: &[u8]) -> Result<Marks, Overflow>
     requires { Sound (buffer io.old m) }
-    ensures { (result.missing ≡ missing (max want (length src.now)) (buffer io.old m))
-        × Leaves (buffer io.new result.marks) (written_all want src.now (buffer io.old m)) }
+    ensures { WritesAll want src.now (buffer io.old m) result io.new }
 {
-    let need = greatest(want, src.len());
+    let need = want.max(src.len());
     let t = make_room(io, m, need);
     let at = t.write;
     let room = io.len() - at;
     if room < need {
-        return Put {
+        return Err(Overflow {
             missing: need - room,
             marks: t,
-        };
+        });
     }
     put(io, at, src);
-    Put {
-        missing: 0,
-        marks: Marks {
-            read: t.read,
-            write: at + src.len(),
-        },
-    }
+    Ok(Marks {
+        read: t.read,
+        write: at + src.len(),
+    })
 }
 
 // Appends the byte `v` to the unread bytes, as often as it fits and at most `n` times.
@@ -113,7 +111,7 @@ pub fn fill_up_to(io: &mut [u8], m: Marks, v: u8, n: usize) -> Taken
 {
     let t = make_room(io, m, n);
     let at = t.write;
-    let k = least(io.len() - at, n);
+    let k = (io.len() - at).min(n);
     fill(io, at, v, k);
     Taken {
         count: k,
@@ -132,7 +130,7 @@ pub fn read(io: &[u8], m: Marks, most: usize, dst: &mut [u8]) -> Taken
         × (dst.new ≡ overlay dst.old 0 (ready_bytes most (buffer io.now m))) }
 {
     let from = m.read;
-    let n = least(m.write - m.read, most);
+    let n = m.unread().min(most);
     let end = from + n;
     put(dst, 0, &io[from..end]);
     Taken {

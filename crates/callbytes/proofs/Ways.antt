@@ -7,6 +7,8 @@ use Prim.Native.Nat.{ℕ, ◌^◌, ◌<◌}
 use lib.Dec.{lit<}
 use lib.ListN.{length, get_or}
 use borrow.Author.Tests.{eq-eqb, ne_eqb}
+use Rattle.std.specs.Prelude.{Option, Some, None, Result, Ok, Err}
+use Rattle.answers.specs.declared.Answer.{Answer}
 use Rattle.answers.specs.declared.Stalls.{Stalls}
 use Rattle.answers.specs.declared.Stalls.TheVariants.{Kept}
 use Rattle.answers.specs.Answers.{Answering, answer, answer_of}
@@ -17,13 +19,11 @@ use Rattle.device.proofs.Wholly.{either, packet_below, lun_below, size_below}
 use Rattle.calls.specs.declared.FirmwareStatus.{FirmwareStatus}
 use Rattle.calls.specs.declared.Stated.{Stated}
 use Rattle.calls.specs.Status.{Stating, stating_of, set_status_call}
-use Rattle.calls.specs.declared.Reply.{Reply}
-use Rattle.calls.specs.declared.Reply.TheVariants.{Nothing, MaxLun}
 use Rattle.calls.specs.declared.Request.{Request}
 use Rattle.calls.specs.declared.Handled.{Handled}
 use Rattle.calls.specs.Bus.{Handling, handling, replied, handling_of, handling_of_reset, reset_call, control_call}
-use Rattle.device.specs.declared.create.Created.{Created}
-use Rattle.device.specs.Create.{creation_checks, Creation, creation_of, create_call}
+use Rattle.device.specs.Create.{creation_checks, creation_of, create_call}
+use Rattle.device.proofs.Laws as creation
 use Rattle.calls.proofs.After.{by_request, status_keeps}
 use Rattle.recordbytes.specs.Layout.{record_size}
 use Rattle.recordbytes.specs.Record.{is_known, device_at, store_state, store_left, store_put_in, store_status, store_device, new_record}
@@ -57,10 +57,10 @@ module _ (r io : List ℕ) (f : FirmwareStatus) {k : Bool} (ek : k ≡ is_known 
 
 -- What a reply is in a result.
 module _ (number stalls : ℕ) where
-  pub replies_nothing : (reply : Reply) → reply ≡ Nothing → {x : ℕ} → x ≡ word number 0 stalls 0 0 → x ≡ word number 0 stalls (length (replied reply)) (get_or (replied reply) 0 0)
+  pub replies_nothing : (reply : Option ℕ) → reply ≡ None → {x : ℕ} → x ≡ word number 0 stalls 0 0 → x ≡ word number 0 stalls (length (replied reply)) (get_or (replied reply) 0 0)
   replies_nothing reply e h = rw e h
 
-  pub replies_lun : (reply : Reply) (n : ℕ) → reply ≡ MaxLun n → {x : ℕ} → x ≡ word number 0 stalls 1 n → x ≡ word number 0 stalls (length (replied reply)) (get_or (replied reply) 0 0)
+  pub replies_lun : (reply : Option ℕ) (n : ℕ) → reply ≡ Some n → {x : ℕ} → x ≡ word number 0 stalls 1 n → x ≡ word number 0 stalls (length (replied reply)) (get_or (replied reply) 0 0)
   replies_lun reply n e h = rw e h
 
 pub bus_told : (h : Handled) {a s x : ℕ} → a ≡ (answer_of h.report.answer).number → s ≡ stalls_number h.report.stalls
@@ -133,27 +133,27 @@ module _ (r io : List ℕ) {k : Bool} (ek : k ≡ is_known r) where
 
 -- ---- creation
 
-module _ (r : List ℕ) (f : Fixed) (c : Created) (ec : creation_of c ≡ create_call f) {n : ℕ} (en : n ≡ (answer_of c.answer).number) where
-  answered : n ≡ creation_checks f
-  unfolding create_call
-  answered = en ∙ ap (λ (x : Creation). x.answer.number) ec
-
-  pub create_refused : (n ≡ 0 → ⊥) → call_outcome n r ≡ create_on r f
+module _ (r : List ℕ) (f : Fixed) (c : Result Device Answer) (ec : creation_of c ≡ create_call f) where
+  pub create_refused : (why : Answer) → c ≡ Err why → {n : ℕ} → n ≡ (answer_of why).number → call_outcome n r ≡ create_on r f
   unfolding create_on
-  create_refused q = rw (← answered, ne_eqb _ _ q)
+  create_refused why e en =
+      let told = creation.refused f why (rw e at ec) in
+      rw (ne_eqb _ _ told.1, en, told.0)
 
-  pub create_unlent : n ≡ 0 → (length r ≡ record_size → ⊥) → call_outcome 10 r ≡ create_on r f
-  unfolding create_on
-  create_unlent q k = rw (← answered, eq-eqb _ _ q, ne_eqb _ _ k)
+  module _ (d : Device) (e : c ≡ Ok d) where
+    accepted : creation_checks f ≡ 0
+    accepted = (creation.made f d (rw e at ec)).0
 
-  -- What creation accepts fits into its places in a record.
-  pub create_fits : n ≡ 0 → StorableFixed f
-  create_fits q =
-      let e : creation_checks f ≡ 0 = sym answered ∙ q in
-      record { packetsize = packet_below f e; maxlun = lun_below f e; size = size_below f e }
+    pub create_unlent : (length r ≡ record_size → ⊥) → call_outcome 10 r ≡ create_on r f
+    unfolding create_on
+    create_unlent k = rw (eq-eqb _ _ accepted, ne_eqb _ _ k)
 
-  pub create_made : n ≡ 0 → length r ≡ record_size → {l : List ℕ} → l ≡ new_record f → call_outcome 0 l ≡ create_on r f
-  unfolding create_on
-  create_made q k el = rw (← answered, eq-eqb _ _ q, eq-eqb _ _ k, el)
+    -- What creation accepts fits into its places in a record.
+    pub create_fits : StorableFixed f
+    create_fits = record { packetsize = packet_below f accepted; maxlun = lun_below f accepted; size = size_below f accepted }
+
+    pub create_made : length r ≡ record_size → {l : List ℕ} → l ≡ new_record f → call_outcome 0 l ≡ create_on r f
+    unfolding create_on
+    create_made k el = rw (eq-eqb _ _ accepted, eq-eqb _ _ k, el)
 
 pub ruleset ways = (long_then, status_unknown, status_set, replies_nothing, replies_lun, bus_told, bus_stored, reset_unknown, reset_made, control_unknown, control_made, create_refused, create_unlent, create_fits, create_made)

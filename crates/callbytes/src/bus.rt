@@ -9,16 +9,16 @@ ghost use Rattle.callbytes.specs.Calls.{call_outcome, reset_on, control_on};
 
 use answers::answer_number;
 use border::word::{stalls_number, word};
-use calls::{Handled, Reply, Request};
+use calls::{Handled, Request};
 use recordbytes::{device_at, known, store};
 
 // Puts an answer, stalls and a reply into one number. Max LUN is its count, and the flag says that there is one.
-fn replied(number: u8, stalls: u8, reply: Reply) -> u64
+fn replied(number: u8, stalls: u8, reply: Option<u8>) -> u64
     ensures { result ≡ spec.word number 0 stalls (length (bus.replied reply)) (get_or (bus.replied reply) 0 0) }
 {
     match reply {
-        Reply::Nothing => word(number, 0, stalls, 0, 0),
-        Reply::MaxLun(lun) => word(number, 0, stalls, 1, lun as u32),
+        None => word(number, 0, stalls, 0, 0),
+        Some(lun) => word(number, 0, stalls, 1, lun as u32),
     }
 }
 
@@ -28,20 +28,12 @@ fn handled(record: &mut [u8], h: Handled) -> u64
     ensures { (result ≡ spec.word (answers.answer_of h.report.answer).number 0 (spec.stalls_number h.report.stalls) (length (bus.replied h.report.reply)) (get_or (bus.replied h.report.reply) 0 0))
         × («record».new ≡ store_left h.device.left (store_state h.device.state (store_status h.device.status (store_put_in h.device.putin «record».old)))) }
 {
-    let d = h.device;
-    let status = d.status;
-    let state = d.state;
-    let left = d.left;
-    let putin = d.putin;
-    let report = h.report;
-    let answer = report.answer;
-    let stalls = report.stalls;
-    let reply = report.reply;
-    store::put_in(record, putin);
-    store::status(record, status);
-    store::state(record, state);
-    store::left(record, left);
-    replied(answer_number(answer), stalls_number(stalls), reply)
+    store::put_in(record, h.device.putin);
+    store::status(record, h.device.status);
+    store::state(record, h.device.state);
+    store::left(record, h.device.left);
+    let answer = answer_number(h.report.answer);
+    replied(answer, stalls_number(h.report.stalls), h.report.reply)
 }
 
 // Resets the device: it enters 0.
@@ -51,8 +43,7 @@ pub fn reset(record: &mut [u8], io: &[u8]) -> u64
     if !known(record) {
         return 10;
     }
-    let h = calls::reset(device_at(record), io);
-    handled(record, h)
+    handled(record, calls::reset(device_at(record), io))
 }
 
 // Handles the control request `request` with the bmRequestType `request_type`.
@@ -67,7 +58,7 @@ pub fn control(record: &mut [u8], io: &[u8], request_type: u8, request: u8) -> u
         io,
         Request {
             requesttype: request_type,
-            request: request,
+            request,
         },
     );
     handled(record, h)

@@ -17,11 +17,8 @@ pub fn create(record: &mut [u8], packet_size: u32, max_lun: u8, size: u32) -> u3
         maxlun: max_lun,
         size: size as usize,
     };
-    let c = device::create::create(fixed);
-    let answer = c.answer;
-    let number = answer_number(answer);
-    if number != 0 {
-        return number as u32;
+    if let Err(why) = device::create::create(fixed) {
+        return answer_number(why) as u32;
     }
     if record.len() != in_record::SIZE {
         return 10;

@@ -13,14 +13,7 @@ pub fn set_status(record: &mut [u8], io: &[u8], status: u8, figure: u32) -> u32
     if !known(record) {
         return 10;
     }
-    let s = calls::set_status(
-        device_at(record),
-        io,
-        FirmwareStatus {
-            status: status,
-            figure: figure,
-        },
-    );
+    let s = calls::set_status(device_at(record), io, FirmwareStatus { status, figure });
     let d = s.device;
     let now = d.status;
     let answer = s.answer;

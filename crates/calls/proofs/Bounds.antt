@@ -57,7 +57,7 @@ module _ (d : Device) (io : List ℕ) (f : FirmwareStatus) where
   -- The residue is no greater than the length that the wrapper declares.
   pub status_narrow : Narrow d → Narrow (set_status_call d io f).device
   unfolding with_figure residue_of
-  status_narrow n = by_status d io f (λ (o : Stating). Narrow o.device) n n (λ _ _. narrow_status d n _ _ (omega (arith, n.declared)))
+  status_narrow n = by_status d io f (λ (o : Stating). Narrow o.device) n n (λ _ _. narrow_status d n _ (omega (arith, n.declared)))
 
   pub status_plain : Plain (set_status_call d io f).answer
   status_plain = by_status d io f (λ (o : Stating). Plain o.answer) answers_10 answers_12 (λ _ _. answers_0)

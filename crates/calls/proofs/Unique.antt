@@ -3,21 +3,21 @@
 use mathlib.Core.Path.{◌≡◌, refl, sym, ap, ◌∙◌}
 use mathlib.Core.List.{List, [], ◌∷◌}
 use Prim.Native.Nat.{ℕ}
+use Rattle.std.specs.Prelude.{Bool, true, false, Option, Some, None}
 use Rattle.fields.proofs.Only.{Only, once}
+use Rattle.answers.specs.Answers.{answer_of}
 use Rattle.answers.proofs.Unique.{named, named_answer}
 use Rattle.calls.specs.declared.Stated.{Stated}
 use Rattle.calls.specs.declared.Moved.{Moved}
-use Rattle.calls.specs.declared.Reply.{Reply}
-use Rattle.calls.specs.declared.Reply.TheVariants as reply
 use Rattle.calls.specs.declared.Handled.{Handled}
 use Rattle.calls.specs.declared.command.Shown.{Shown}
+use Rattle.calls.specs.declared.command.Looked.{Looked}
 use Rattle.calls.specs.declared.command.Offer.{Offer}
-use Rattle.calls.specs.declared.command.Offer.TheVariants as offer
 use Rattle.calls.specs.declared.command.Step.{Step}
 use Rattle.calls.specs.Status.{Stating, stating_of}
 use Rattle.calls.specs.Data.{Moving, moving_of}
 use Rattle.calls.specs.Bus.{Handling, replied, handling_of}
-use Rattle.calls.specs.Command.{Showing, showing_of, Offered, offered_of, Stepping, stepping_of}
+use Rattle.calls.specs.Command.{Showing, showing_with, showing_of, Offered, offered_of, Stepping, stepping_of}
 use Rattle.calls.proofs.is_in.Kinds as is-in-kinds
 use Rattle.calls.proofs.is_in.Reads as is-in
 use Rattle.calls.proofs.set_status.Kinds as set-status-kinds
@@ -63,14 +63,14 @@ moved_once x y b c p q =
     (sym (unmoved_moved x b) ∙ ap unmoved e ∙ unmoved_moved y c, ap (λ (o : Moving). o.bytes) e)
 
 -- In the result of a reset or a control request, the bytes determine the reply.
-unreplied : List ℕ → Reply
-unreplied [] = reply.Nothing
-unreplied (n ∷ ns) = reply.MaxLun n
+unreplied : List ℕ → Option ℕ
+unreplied [] = None
+unreplied (n ∷ ns) = Some n
 
-unreplied_replied : (r : Reply) → unreplied (replied r) ≡ r
+unreplied_replied : (r : Option ℕ) → unreplied (replied r) ≡ r
 unfolding unreplied
-unreplied_replied reply.Nothing = refl
-unreplied_replied (reply.MaxLun n) = refl
+unreplied_replied None = refl
+unreplied_replied (Some n) = refl
 
 abbrev unhandled : Handling → Handled
 unhandled o = record { device = o.device; report = record { answer = named o.answer; stalls = o.stalls; reply = unreplied o.bytes } }
@@ -79,21 +79,30 @@ unhandled_handled : (x : Handled) → unhandled (handling_of x) ≡ x
 unhandled_handled x = rw (named_answer x.report.answer, unreplied_replied x.report.reply)
 
 -- This is the result of the call that shows the command.
-abbrev unshown : Showing → Shown
-unshown o = record { answer = named o.answer; shown = o.shown; lun = o.lun; blocklength = o.blocklength; block = o.block }
+seen : Bool → Showing → Option Shown
+seen true o = Some (record { lun = o.lun; blocklength = o.blocklength; block = o.block })
+seen false o = None
 
-unshown_shown : (x : Shown) → unshown (showing_of x) ≡ x
-unshown_shown x = rw (named_answer x.answer)
+abbrev unshown : Showing → Looked
+unshown o = record { answer = named o.answer; shown = seen o.shown o }
+
+unshown_shown : (x : Looked) → unshown (showing_of x) ≡ x
+unfolding seen
+unshown_shown x = by x.shown
+  where
+    by : (s : Option Shown) → unshown (showing_with (answer_of x.answer) s) ≡ record { answer = x.answer; shown = s }
+    by (Some s) = rw (named_answer x.answer)
+    by None = rw (named_answer x.answer)
 
 -- In the result of a step, the list determines the offer. Crates that pass an offer on use this too.
-pub unoffered : List Offered → Offer
-unoffered [] = offer.Nothing
-unoffered (o ∷ os) = offer.Command o.lun o.command
+pub unoffered : List Offered → Option Offer
+unoffered [] = None
+unoffered (o ∷ os) = Some (record { lun = o.lun; command = o.command })
 
-pub unoffered_offered : (x : Offer) → unoffered (offered_of x) ≡ x
+pub unoffered_offered : (x : Option Offer) → unoffered (offered_of x) ≡ x
 unfolding unoffered
-unoffered_offered offer.Nothing = refl
-unoffered_offered (offer.Command lun c) = refl
+unoffered_offered None = refl
+unoffered_offered (Some o) = refl
 
 abbrev unstepped : Stepping → Step
 unstepped o = record { answer = named o.answer; offer = unoffered o.offers }

@@ -1,20 +1,18 @@
 -- Document 01 on reset and on control requests. Assumes nothing: these are definitions.
-use Rattle.std.specs.Prelude.{ℕ, cond, List, [], ◌∷◌, eqb}
+use Rattle.std.specs.Prelude.{ℕ, cond, Option, Some, None, List, [], ◌∷◌, eqb}
 use Rattle.answers.specs.declared.Stalls.{Stalls}
 use Rattle.answers.specs.declared.Stalls.TheVariants.{Kept, Unstalled}
 use Rattle.answers.specs.Answers.{Answering, answer, answer_of}
 use Rattle.device.specs.declared.Device.{Device}
 use Rattle.device.specs.Device.{entering0}
 use Rattle.device.specs.Broken.{unless_broken}
-use Rattle.calls.specs.declared.Reply.{Reply}
-use Rattle.calls.specs.declared.Reply.TheVariants.{Nothing, MaxLun}
 use Rattle.calls.specs.declared.Request.{Request}
 use Rattle.calls.specs.declared.Handled.{Handled}
 
 -- These bytes go back to the host.
-abbrev pub replied : Reply → List ℕ
-replied Nothing = []
-replied (MaxLun n) = n ∷ []
+abbrev pub replied : Option ℕ → List ℕ
+replied None = []
+replied (Some n) = n ∷ []
 
 -- A reset or a control request gives the answer, what is asked of both endpoints (`stalls`), the bytes that go back to the host, and the
 -- record.

@@ -1,5 +1,5 @@
 -- One table of cases of the calls. proofs/Cases.antt states that each of them holds. Assumes nothing.
-use Rattle.std.specs.Prelude.{true, false, List, [], ◌∷◌, ◌++◌, ℕ, replicate}
+use Rattle.std.specs.Prelude.{true, false, List, [], ◌∷◌, ◌++◌, ℕ, replicate, None, Some}
 use Rattle.fields.specs.Case.{Case, case}
 use Rattle.buffer.specs.Buffer.{at}
 use Rattle.answers.specs.declared.Stalls.TheVariants.{Kept}
@@ -10,8 +10,7 @@ use Rattle.scsi.specs.declared.ScsiCommand.TheVariants.{Unknown, Inquiry, Read}
 use Rattle.ring.specs.declared.State.{State}
 use Rattle.ring.specs.declared.State.TheVariants.{CommandTransfer, CommandTransferInvalid, DataTransferNoData, DataTransferToHost, DataTransferFromHost}
 use Rattle.device.specs.declared.Device.{Device}
-use Rattle.device.specs.declared.Status.TheVariants.{Absent, Present}
-use Rattle.device.specs.Device.{rebuilt, with_status, putting_in}
+use Rattle.device.specs.Device.{rebuilt, with_status, putting_in, told}
 use Rattle.device.specs.Create.{fixed, new_device}
 use Rattle.calls.specs.declared.FirmwareStatus.{FirmwareStatus}
 use Rattle.calls.specs.declared.Request.{Request}
@@ -26,14 +25,14 @@ abbrev device : State → ℕ → Device
 device state blocklength =
     rebuilt (new_device (fixed 8 3 32)) state (at 1 4)
     (record { tag = 7; length = 512; direction = In; lun = 1; blocklength = blocklength; block = 0x12 ∷ 0x01 ∷ 0x80 ∷ 0x00 ∷ 0xFF ∷ replicate 11 9 })
-    Absent (record { 0 = 2 })
+    None (record { 0 = 2 })
 
 -- This is the same device in state 4, with a READ (16) of address 2 and 258 blocks.
 abbrev reading16 : Device
 reading16 =
     rebuilt (new_device (fixed 8 3 32)) DataTransferToHost (at 1 4)
     (record { tag = 7; length = 512; direction = In; lun = 1; blocklength = 16; block = 0x88 ∷ replicate 8 0 ++ (2 ∷ 0 ∷ 0 ∷ 1 ∷ 2 ∷ 0 ∷ 0 ∷ []) })
-    Absent (record { 0 = 2 })
+    None (record { 0 = 2 })
 
 -- This is its IO buffer.
 abbrev io : List ℕ
@@ -51,8 +50,8 @@ request type number = record { requesttype = type; request = number }
 unfoldable pub table : List Case
 table =
     -- "L 512, figure 500: residue 12; 600: 0*": here as the status that is set
-    case (set_status_call (device DataTransferToHost 5) io (figure 2 500)).device.status (Present PhaseError (record { 0 = 12 }))
-    ∷ case (set_status_call (device DataTransferToHost 5) io (figure 2 600)).device.status (Present PhaseError (record { 0 = 0 }))
+    case (set_status_call (device DataTransferToHost 5) io (figure 2 500)).device.status (Some (told PhaseError (record { 0 = 12 })))
+    ∷ case (set_status_call (device DataTransferToHost 5) io (figure 2 600)).device.status (Some (told PhaseError (record { 0 = 0 })))
     -- 2 accepts a status too, though no poll ends in 2.
     ∷ case (set_status_call (device DataTransferNoData 5) io (figure 0 512)).answer (answer 0)
     -- A status byte is above 2; a state accepts none. Both leave all as before.
@@ -82,7 +81,7 @@ table =
     -- 02, request 7: what was taken is counted, also behind a status; a refused source is not. The largest number stays.
     ∷ case (write_data_call (device DataTransferToHost 5) io (6 ∷ 7 ∷ 8 ∷ [])).device.putin.0 2
     ∷ case (write_data_all_call (device DataTransferToHost 5) io (6 ∷ 7 ∷ 8 ∷ [])).device.putin.0 3
-    ∷ case (write_data_all_call (with_status (Present PhaseError (record { 0 = 0 })) (device DataTransferToHost 5)) io (6 ∷ 7 ∷ 8 ∷ [])).device.putin.0 3
+    ∷ case (write_data_all_call (with_status (Some (told PhaseError (record { 0 = 0 }))) (device DataTransferToHost 5)) io (6 ∷ 7 ∷ 8 ∷ [])).device.putin.0 3
     ∷ case (write_data_all_call (putting_in 9 (device DataTransferToHost 5)) io (replicate 30 6)).device.putin.0 9
     ∷ case (write_data_call (putting_in 9 (device DataTransferFromHost 5)) io (6 ∷ [])).device.putin.0 9
     ∷ case (write_data_all_call (putting_in 4294967294 (device DataTransferToHost 5)) io (6 ∷ 7 ∷ 8 ∷ [])).device.putin.0 4294967295
@@ -100,7 +99,7 @@ table =
     ∷ case (command_call (device CommandTransferInvalid 5) io) (showing (device CommandTransferInvalid 5).wrapper)
     ∷ case (command_call (device CommandTransfer 5) io).shown false
     ∷ case (command_step_call (device DataTransferToHost 5) io) (stepping (answer 0) (offered 1 (Inquiry true 128 255) ∷ []))
-    ∷ case (command_step_call (with_status (Present PhaseError (record { 0 = 0 })) (device DataTransferToHost 5)) io) (stepping (answer 0) [])
+    ∷ case (command_step_call (with_status (Some (told PhaseError (record { 0 = 0 }))) (device DataTransferToHost 5)) io) (stepping (answer 0) [])
     ∷ case (command_step_call (device CommandTransfer 5) io) (stepping (answer 0) [])
     -- READ (16): the plain step decodes it. A caller who tells that extended addressing is off gets Unknown.
     ∷ case (command_step_call reading16 io) (stepping (answer 0) (offered 1 (Read 2 258) ∷ []))

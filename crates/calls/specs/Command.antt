@@ -1,5 +1,5 @@
 -- Document 01 on the command: how it is shown, and the command step. Assumes nothing: these are definitions.
-use Rattle.std.specs.Prelude.{ℕ, Bool, true, false, cond, not, ◌&&◌, List, [], ◌∷◌, map, take, replicate}
+use Rattle.std.specs.Prelude.{ℕ, Bool, true, false, cond, not, ◌&&◌, Option, Some, None, List, [], ◌∷◌, map, take, replicate}
 use Rattle.answers.specs.Answers.{Answering, answer, answer_of}
 use Rattle.scsi.specs.declared.ScsiCommand.{ScsiCommand}
 use Rattle.scsi.specs.Decoding.{Decoding, decode_call, plain_is_extended}
@@ -8,8 +8,8 @@ use Rattle.device.specs.declared.Device.{Device}
 use Rattle.device.specs.Device.{is_present}
 use Rattle.device.specs.Broken.{unless_broken}
 use Rattle.calls.specs.declared.command.Shown.{Shown}
+use Rattle.calls.specs.declared.command.Looked.{Looked}
 use Rattle.calls.specs.declared.command.Offer.{Offer}
-use Rattle.calls.specs.declared.command.Offer.TheVariants.{Nothing, Command}
 use Rattle.calls.specs.declared.command.Step.{Step}
 use Rattle.calls.specs.Checks.{is_in}
 
@@ -24,10 +24,6 @@ pub record Showing : Type 0 where
   pub blocklength : ℕ
   pub block : List ℕ
 
--- This reads what the code returned, `r`, as such a record.
-abbrev pub showing_of : Shown → Showing
-showing_of r = record { answer = answer_of r.answer; shown = r.shown; lun = r.lun; blocklength = r.blocklength; block = r.block }
-
 -- The command of the wrapper `w` is shown, with the answer 0.
 abbrev pub showing : Wrapper → Showing
 showing w = record { answer = answer 0; shown = true; lun = w.lun; blocklength = w.blocklength; block = w.block }
@@ -35,6 +31,15 @@ showing w = record { answer = answer 0; shown = true; lun = w.lun; blocklength =
 -- Nothing is shown, with the answer `a`; every other number is 0.
 abbrev pub hiding : Answering → Showing
 hiding a = record { answer = a; shown = false; lun = 0; blocklength = 0; block = replicate 16 0 }
+
+-- With the answer `a` the code shows a command, or none.
+abbrev pub showing_with : Answering → Option Shown → Showing
+showing_with a (Some s) = record { answer = a; shown = true; lun = s.lun; blocklength = s.blocklength; block = s.block }
+showing_with a None = hiding a
+
+-- This reads what the code returned, `r`, as such a record.
+abbrev pub showing_of : Looked → Showing
+showing_of r = showing_with (answer_of r.answer) r.shown
 
 -- "A command is shown in every state but 0": `d` is the record.
 unfoldable pub is_shown : Device → Bool
@@ -55,9 +60,9 @@ abbrev pub offered : ℕ → ScsiCommand → Offered
 offered lun c = record { lun = lun; command = c }
 
 -- A step of the code offers nothing, or one command; here that is a list.
-abbrev pub offered_of : Offer → List Offered
-offered_of Nothing = []
-offered_of (Command lun c) = offered lun c ∷ []
+abbrev pub offered_of : Option Offer → List Offered
+offered_of None = []
+offered_of (Some o) = offered o.lun o.command ∷ []
 
 -- The command step gives the answer and what it offers.
 pub record Stepping : Type 0 where

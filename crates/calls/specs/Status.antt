@@ -1,12 +1,11 @@
 -- Document 01 on `set_status`. Assumes nothing: these are definitions.
-use Rattle.std.specs.Prelude.{ℕ, Bool, cond, ◌||◌, List, eqb, leb}
+use Rattle.std.specs.Prelude.{ℕ, Bool, cond, ◌||◌, List, eqb, leb, Some}
 use Rattle.answers.specs.Answers.{Answering, answer, answer_of}
 use Rattle.wrapper.specs.Counters.{residue_of}
 use Rattle.wrapper.specs.Status.{status_of_number}
 use Rattle.ring.specs.States.{state_number}
 use Rattle.device.specs.declared.Device.{Device}
-use Rattle.device.specs.declared.Status.TheVariants.{Present}
-use Rattle.device.specs.Device.{with_status}
+use Rattle.device.specs.Device.{with_status, told}
 use Rattle.device.specs.Broken.{unless_broken}
 use Rattle.calls.specs.declared.FirmwareStatus.{FirmwareStatus}
 use Rattle.calls.specs.declared.Stated.{Stated}
@@ -29,7 +28,7 @@ takes_status state = eqb state 2 || (eqb state 4 || (eqb state 5 || eqb state 7)
 
 -- The record `d` gets the firmware's status `f`: "a later one replaces the earlier"; "The residue is L less the firmware's figure".
 unfoldable pub with_figure : FirmwareStatus → Device → Device
-with_figure f d = with_status (Present (status_of_number f.status) (residue_of d.wrapper.length f.figure)) d
+with_figure f d = with_status (Some (told (status_of_number f.status) (residue_of d.wrapper.length f.figure))) d
 
 -- In a state that accepts a status, the answer is still 12 for ".. or a status byte above 2".
 unfoldable pub accepted_status : Device → FirmwareStatus → Stating

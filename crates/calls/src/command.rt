@@ -1,71 +1,74 @@
 // The command shown to the firmware, and the command step.
-ghost use Rattle.std.specs.Prelude.{◌≡◌, ◌≤◌, take};
+ghost use Rattle.std.specs.Prelude.{◌≡◌, ◌≤◌};
 ghost use Rattle.scsi.specs.Decoding.{decode_call};
-ghost use Rattle.calls.specs.Command.{showing_of, command_call, stepping_of, is_offered, stepping_of_decoding, command_step_told_call, command_step_call};
+ghost use Rattle.calls.specs.Command.{showing_of, command_call, stepping_of, is_offered, stepping_of_decoding, block_of, command_step_told_call, command_step_call};
 ghost use Rattle.calls.specs.Inner.Returned.{hides, offers_none};
 
 use crate::{broken, is_in};
 use answers::Answer;
 use device::{Device, present};
-use scsi::{Decoded, PLAIN_IS_EXTENDED, ScsiCommand};
+use ring::State;
+use scsi::{PLAIN_IS_EXTENDED, ScsiCommand};
+use wrapper::Wrapper;
 
-// The call that shows the command gives the answer, whether a command is shown, its LUN, and its block: the first `blocklength` bytes of
-// `block`.
+// A command is shown by its LUN, and by its block: the first `blocklength` bytes of `block`.
 #[derive(Clone, Copy)]
 pub struct Shown {
-    pub answer: Answer,
-    pub shown: bool,
     pub lun: u8,
     pub blocklength: u8,
     pub block: [u8; 16],
 }
 
-// A step offers nothing, or a command with its LUN.
+// The call that shows the command gives the answer, and the command if it shows one.
 #[derive(Clone, Copy)]
-pub enum Offer {
-    Nothing,
-    Command(u8, ScsiCommand),
+pub struct Looked {
+    pub answer: Answer,
+    pub shown: Option<Shown>,
 }
 
-// The command step gives the answer and the offer.
+// A command is offered decoded, with its LUN.
+#[derive(Clone, Copy)]
+pub struct Offer {
+    pub lun: u8,
+    pub command: ScsiCommand,
+}
+
+// The command step gives the answer, and the offer if it makes one.
 #[derive(Clone, Copy)]
 pub struct Step {
     pub answer: Answer,
-    pub offer: Offer,
+    pub offer: Option<Offer>,
 }
 
 // No command is shown.
-fn hidden(answer: Answer) -> Shown
+fn hidden(answer: Answer) -> Looked
     ensures { result ≡ hides answer }
 {
-    let block = [0u8; 16];
-    Shown {
-        answer: answer,
-        shown: false,
-        lun: 0,
-        blocklength: 0,
-        block: block,
+    Looked {
+        answer,
+        shown: None,
     }
 }
 
 // The command is shown in every state but 0.
-pub fn command(device: Device, io: &[u8]) -> Shown
+pub fn command(device: Device, io: &[u8]) -> Looked
     ensures { showing_of result ≡ command_call device io.now }
 {
     if broken(device, io.len()) {
         return hidden(Answer::BrokenRecord);
     }
-    if is_in(device, 0) {
+    if is_in(device, State::CommandTransfer) {
         return hidden(Answer::Done);
     }
     let w = device.wrapper;
     let block = w.block;
-    Shown {
+    Looked {
         answer: Answer::Done,
-        shown: true,
-        lun: w.lun,
-        blocklength: w.blocklength,
-        block: block,
+        shown: Some(Shown {
+            lun: w.lun,
+            blocklength: w.blocklength,
+            block,
+        }),
     }
 }
 
@@ -74,24 +77,27 @@ fn nothing(answer: Answer) -> Step
     ensures { result ≡ offers_none answer }
 {
     Step {
-        answer: answer,
-        offer: Offer::Nothing,
+        answer,
+        offer: None,
     }
 }
 
-// The first `blocklength` bytes of `block` are decoded, and the command is offered with this `lun`.
-fn decoded(lun: u8, blocklength: u8, block: [u8; 16], extended: bool) -> Step
-    requires { blocklength ≤ 16 }
-    ensures { stepping_of result ≡ stepping_of_decoding lun (decode_call extended (take blocklength block)) }
+// The block of the wrapper `wrapper` is decoded, and the command is offered with its LUN.
+#[tactic(auto, unfolding(crate::specs::Command::block_of, crate::specs::Command::stepping_of_decoding))]
+fn decoded(wrapper: Wrapper, extended: bool) -> Step
+    requires { wrapper.blocklength ≤ 16 }
+    ensures { stepping_of result ≡ stepping_of_decoding wrapper.lun (decode_call extended (block_of wrapper)) }
 {
-    let n = blocklength as usize;
-    let d = scsi::decode_told(&block[..n], extended);
-    match d {
-        Decoded::Empty => nothing(Answer::EmptyBlock),
-        Decoded::Command(command) => Step {
-            answer: Answer::Done,
-            offer: Offer::Command(lun, command),
-        },
+    let Some(command) = scsi::decode_told(&wrapper.block[..wrapper.blocklength as usize], extended)
+    else {
+        return nothing(Answer::EmptyBlock);
+    };
+    Step {
+        answer: Answer::Done,
+        offer: Some(Offer {
+            lun: wrapper.lun,
+            command,
+        }),
     }
 }
 
@@ -99,11 +105,10 @@ fn decoded(lun: u8, blocklength: u8, block: [u8; 16], extended: bool) -> Step
 pub fn offers(device: Device) -> bool
     ensures { result ≡ is_offered device }
 {
-    if is_in(device, 0) {
+    if is_in(device, State::CommandTransfer) {
         return false;
     }
-    let status = device.status;
-    !present(status)
+    !present(device.status)
 }
 
 // The command step offers the command, decoded, while the firmware has set no status for it. The caller tells whether extended addressing
@@ -115,9 +120,7 @@ pub fn command_step_told(device: Device, io: &[u8], extended: bool) -> Step
         return nothing(Answer::BrokenRecord);
     }
     if offers(device) {
-        let w = device.wrapper;
-        let block = w.block;
-        return decoded(w.lun, w.blocklength, block, extended);
+        return decoded(device.wrapper, extended);
     }
     nothing(Answer::Done)
 }

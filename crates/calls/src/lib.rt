@@ -1,26 +1,27 @@
 // The firmware and the bus make these calls between polls, on the record by value. Every call takes any record, any buffers and any
 // numbers, and ends with one of document 01's answers; 10 is checked first. `device` is the record and `io` is the IO buffer.
 //     command    the command shown to the firmware, and the command step
-#![tactic(auto)]
+#![tactic(auto, using(crate::proofs::Laws::ways), unfolding(crate::specs::Checks::is_in, crate::specs::Status::takes_status))]
 
 pub mod command;
 
 ghost use Rattle.std.specs.Prelude.{◌≡◌, not};
-ghost use Rattle.device.specs.Device.{numbers_of, with_status};
+ghost use Rattle.ring.specs.States.{state_number};
+ghost use Rattle.device.specs.Device.{numbers_of};
 ghost use Rattle.device.specs.Broken.{is_whole};
 ghost use Rattle.calls.specs.Checks.{is_in};
 ghost use Rattle.calls.specs.Status.{stating_of, takes_status, accepted_status, set_status_call};
-ghost use Rattle.calls.specs.Inner.Returned.{refuses, unmoved, moves_to, puts_in, keeps, enters0};
+ghost use Rattle.calls.specs.Inner.Returned.{refuses, checked, unmoved, moves_to, puts_in, keeps, enters0};
 ghost use Rattle.calls.specs.Data.{moving_of, read_data_call, write_data_call, write_data_all_call};
 ghost use Rattle.calls.specs.Bus.{handling_of, handling_of_request, reset_call, control_call};
 
 use answers::{Answer, Stalls};
+use buffer::marked::Overflow;
 use buffer::{Marks, marked};
-use device::{Device, Status, numbers_of, rebuilt, whole};
-use fields::least;
-use ring::{State, state_number};
+use device::{Device, Told, numbers_of, whole};
+use ring::State;
 use wrapper::counters::{Left, PutIn, put_in_after, residue_of};
-use wrapper::status::{StatusByte, status_of};
+use wrapper::status::status_of;
 
 // The firmware gives a status byte and its figure: how many bytes it dealt with.
 #[derive(Clone, Copy)]
@@ -57,19 +58,12 @@ pub struct Request {
     pub request: u8,
 }
 
-// The host gets nothing back from a control request, or one byte.
-#[derive(Clone, Copy)]
-pub enum Reply {
-    Nothing,
-    MaxLun(u8),
-}
-
-// A reset or a control request reports the answer, what is asked of both endpoints, and what goes back to the host.
+// A reset or a control request reports the answer, what is asked of both endpoints, and what goes back to the host: nothing, or max LUN.
 #[derive(Clone, Copy)]
 pub struct Controlled {
     pub answer: Answer,
     pub stalls: Stalls,
-    pub reply: Reply,
+    pub reply: Option<u8>,
 }
 
 // A reset or a control request gives the record and that report.
@@ -88,69 +82,49 @@ pub(crate) fn broken(device: Device, len: usize) -> bool
     !whole(numbers_of(device), len)
 }
 
-// This says whether the device is in the state with this `number`.
-pub fn is_in(device: Device, number: u8) -> bool
-    ensures { result ≡ is_in number device }
+// This says whether the device is in this `state`.
+pub fn is_in(device: Device, state: State) -> bool
+    ensures { result ≡ is_in (state_number state) device }
 {
-    let state = device.state;
-    state_number(state) == number
-}
-
-// The record gets this `status`, and all else stays.
-fn with_status(device: Device, status: Status) -> Device
-    ensures { result ≡ with_status status device }
-{
-    let state = device.state;
-    let marks = device.marks;
-    let wrapper = device.wrapper;
-    let left = device.left;
-    rebuilt(device, state, marks, wrapper, status, left)
+    device.state == state
 }
 
 // ---- the status
 
-// This says whether a status is accepted in the state with the number `state`.
-fn takes_status(state: u8) -> bool
-    ensures { result ≡ takes_status state }
+// This says whether a status is accepted in this `state`.
+fn takes_status(state: State) -> bool
+    ensures { result ≡ takes_status (state_number state) }
 {
-    if state == 2 {
-        return true;
-    }
-    if state == 4 {
-        return true;
-    }
-    if state == 5 {
-        return true;
-    }
-    state == 7
+    matches!(
+        state,
+        State::DataTransferNoData
+            | State::DataTransferToHost
+            | State::DataTransferToHostStatusAwait
+            | State::DataTransferFromHost
+    )
 }
 
 // No status was taken, and the record stays.
 fn untaken(device: Device, answer: Answer) -> Stated
     ensures { result ≡ refuses device answer }
 {
-    Stated {
-        device: device,
-        answer: answer,
-    }
+    Stated { device, answer }
 }
 
 // The state accepts a status; a status byte above 2 is still refused.
 fn accept(device: Device, given: FirmwareStatus) -> Stated
     ensures { stating_of result ≡ accepted_status device given }
 {
-    let byte = status_of(given.status);
-    match byte {
-        StatusByte::Refused => untaken(device, Answer::StatusRefused),
-        StatusByte::Known(status) => {
-            let w = device.wrapper;
-            let residue = residue_of(w.length, given.figure);
-            let d = with_status(device, Status::Present(status, residue));
-            Stated {
-                device: d,
-                answer: Answer::Done,
-            }
-        }
+    let Some(status) = status_of(given.status) else {
+        return untaken(device, Answer::StatusRefused);
+    };
+    let residue = residue_of(device.wrapper.length, given.figure);
+    Stated {
+        device: Device {
+            status: Some(Told { status, residue }),
+            ..device
+        },
+        answer: Answer::Done,
     }
 }
 
@@ -161,25 +135,34 @@ pub fn set_status(device: Device, io: &[u8], given: FirmwareStatus) -> Stated
     if broken(device, io.len()) {
         return untaken(device, Answer::BrokenRecord);
     }
-    let state = device.state;
-    if takes_status(state_number(state)) {
-        return accept(device, given);
+    if !takes_status(device.state) {
+        return untaken(device, Answer::StatusRefused);
     }
-    untaken(device, Answer::StatusRefused)
+    accept(device, given)
 }
 
 // ---- data
+
+// A read or write works in this `state` alone: 10 is checked first, over an IO buffer of `len` bytes, and then 3.
+fn checked(device: Device, len: usize, state: State) -> Result<(), Answer>
+    ensures { result ≡ checked (state_number state) device len }
+{
+    if broken(device, len) {
+        return Err(Answer::BrokenRecord);
+    }
+    if !is_in(device, state) {
+        return Err(Answer::InvalidState);
+    }
+    Ok(())
+}
 
 // Nothing was read or written, and the record stays.
 fn refused(device: Device, answer: Answer) -> Moved
     ensures { result ≡ unmoved device answer }
 {
     Moved {
-        device: device,
-        report: Count {
-            answer: answer,
-            count: 0,
-        },
+        device,
+        report: Count { answer, count: 0 },
     }
 }
 
@@ -187,14 +170,9 @@ fn refused(device: Device, answer: Answer) -> Moved
 fn left_at(device: Device, marks: Marks, answer: Answer, count: usize) -> Moved
     ensures { result ≡ moves_to device marks answer count }
 {
-    let mut d = device;
-    d.marks = marks;
     Moved {
-        device: d,
-        report: Count {
-            answer: answer,
-            count: count,
-        },
+        device: Device { marks, ..device },
+        report: Count { answer, count },
     }
 }
 
@@ -202,78 +180,61 @@ fn left_at(device: Device, marks: Marks, answer: Answer, count: usize) -> Moved
 fn put_in(device: Device, marks: Marks, count: usize) -> Moved
     ensures { result ≡ puts_in device marks count }
 {
-    let counted = device.putin;
-    let mut d = device;
-    d.putin = put_in_after(counted, count);
-    left_at(d, marks, Answer::Done, count)
+    let putin = put_in_after(device.putin, count);
+    left_at(Device { putin, ..device }, marks, Answer::Done, count)
 }
 
 // The first unread bytes go to `dst`, as many as it holds.
 pub fn read_data(device: Device, dst: &mut [u8], io: &[u8]) -> Moved
     ensures { moving_of result dst.new ≡ read_data_call device io.now dst.old }
 {
-    if broken(device, io.len()) {
-        return refused(device, Answer::BrokenRecord);
+    if let Err(why) = checked(device, io.len(), State::DataTransferFromHost) {
+        return refused(device, why);
     }
-    if is_in(device, 7) {
-        let marks = device.marks;
-        let got = marked::read(io, marks, dst.len(), dst);
-        let after = got.marks;
-        return left_at(device, after, Answer::Done, got.count);
-    }
-    refused(device, Answer::InvalidState)
+    let got = marked::read(io, device.marks, dst.len(), dst);
+    left_at(device, got.marks, Answer::Done, got.count)
 }
 
 // The first bytes of `src` go into the buffer: as many as fit, and no more than are left.
 pub fn write_data(device: Device, io: &mut [u8], src: &[u8]) -> Moved
     ensures { moving_of result io.new ≡ write_data_call device io.old src.now }
 {
-    if broken(device, io.len()) {
-        return refused(device, Answer::BrokenRecord);
+    if let Err(why) = checked(device, io.len(), State::DataTransferToHost) {
+        return refused(device, why);
     }
-    if is_in(device, 4) {
-        let marks = device.marks;
-        let left = device.left;
-        let n = least(left.0 as usize, src.len());
-        let put = marked::write(io, marks, &src[..n]);
-        let after = put.marks;
-        return put_in(device, after, put.count);
-    }
-    refused(device, Answer::InvalidState)
+    let n = (device.left.0 as usize).min(src.len());
+    let put = marked::write(io, device.marks, &src[..n]);
+    put_in(device, put.marks, put.count)
 }
 
 // All of `src` goes into the buffer, or nothing; left does not limit it.
 pub fn try_write_data_all(device: Device, io: &mut [u8], src: &[u8]) -> Moved
     ensures { moving_of result io.new ≡ write_data_all_call device io.old src.now }
 {
-    if broken(device, io.len()) {
-        return refused(device, Answer::BrokenRecord);
+    if let Err(why) = checked(device, io.len(), State::DataTransferToHost) {
+        return refused(device, why);
     }
-    if is_in(device, 4) {
-        let marks = device.marks;
-        let all = marked::write_all(io, marks, 0, src);
-        let after = all.marks;
-        if all.missing == 0 {
-            return put_in(device, after, src.len());
-        }
+    match marked::write_all(io, device.marks, 0, src) {
+        Ok(marks) => put_in(device, marks, src.len()),
         // A refusal keeps the move.
-        return left_at(device, after, Answer::IoBufferOverflow(all.missing), 0);
+        Err(Overflow { missing, marks }) => {
+            left_at(device, marks, Answer::IoBufferOverflow(missing), 0)
+        }
     }
-    refused(device, Answer::InvalidState)
 }
 
 // ---- the bus
 
 // Nothing is asked of the endpoints, and the record stays.
-fn kept(device: Device, answer: Answer, reply: Reply) -> Handled
+fn kept(device: Device, answer: Answer, reply: Option<u8>) -> Handled
     ensures { result ≡ keeps device answer reply }
 {
     Handled {
-        device: device,
+        device,
         report: Controlled {
-            answer: answer,
+            answer,
             stalls: Stalls::Kept,
-            reply: reply,
+            reply,
         },
     }
 }
@@ -283,24 +244,18 @@ fn kept(device: Device, answer: Answer, reply: Reply) -> Handled
 fn enter(device: Device) -> Handled
     ensures { result ≡ enters0 device }
 {
-    let unread = device.marks;
-    let wrapper = device.wrapper;
-    let mut d = rebuilt(
-        device,
-        State::CommandTransfer,
-        unread,
-        wrapper,
-        Status::Absent,
-        Left(0),
-    );
-    let none = PutIn(0);
-    d.putin = none;
     Handled {
-        device: d,
+        device: Device {
+            state: State::CommandTransfer,
+            status: None,
+            left: Left(0),
+            putin: PutIn(0),
+            ..device
+        },
         report: Controlled {
             answer: Answer::Done,
             stalls: Stalls::Unstalled,
-            reply: Reply::Nothing,
+            reply: None,
         },
     }
 }
@@ -310,7 +265,7 @@ pub fn reset(device: Device, io: &[u8]) -> Handled
     ensures { handling_of result ≡ reset_call device io.now }
 {
     if broken(device, io.len()) {
-        return kept(device, Answer::BrokenRecord, Reply::Nothing);
+        return kept(device, Answer::BrokenRecord, None);
     }
     enter(device)
 }
@@ -319,13 +274,11 @@ pub fn reset(device: Device, io: &[u8]) -> Handled
 fn serve(device: Device, request: u8) -> Handled
     ensures { handling_of result ≡ handling_of_request request device }
 {
-    if request == 0xFF {
-        return enter(device);
+    match request {
+        0xFF => enter(device),
+        0xFE => kept(device, Answer::Done, Some(device.fixed.maxlun)),
+        _ => kept(device, Answer::Done, None),
     }
-    if request == 0xFE {
-        return kept(device, Answer::Done, Reply::MaxLun(device.fixed.maxlun));
-    }
-    kept(device, Answer::Done, Reply::Nothing)
 }
 
 // A control request counts only if it goes from device to host, is a class request, and is for an interface.
@@ -333,10 +286,10 @@ pub fn control(device: Device, io: &[u8], request: Request) -> Handled
     ensures { handling_of result ≡ control_call device io.now request }
 {
     if broken(device, io.len()) {
-        return kept(device, Answer::BrokenRecord, Reply::Nothing);
+        return kept(device, Answer::BrokenRecord, None);
     }
-    if request.requesttype == 0xA1 {
-        return serve(device, request.request);
+    if request.requesttype != 0xA1 {
+        return kept(device, Answer::Done, None);
     }
-    kept(device, Answer::Done, Reply::Nothing)
+    serve(device, request.request)
 }

@@ -4,6 +4,7 @@ use mathlib.Core.Path.{◌≡◌, refl, sym, ap, ◌∙◌}
 use mathlib.Core.Bool.{Bool, true, false, not, cond, ◌&&◌}
 use mathlib.Core.List.{List, [], ◌∷◌}
 use Prim.Native.Nat.{ℕ, ◌+◌, ◌-◌, ◌≤◌, ◌<◌}
+use Rattle.std.specs.Prelude.{Result, Ok, Err}
 use native.Mathlib.Nat.{add-sub_cancel_left}
 use native.Mathlib.Omega.{arith}
 use lib.Dec.{eqb}
@@ -22,6 +23,9 @@ use Rattle.device.specs.Device.{numbers_of}
 use Rattle.device.specs.Broken.{is_whole, unless_broken}
 use Rattle.device.proofs.Wholly.{is_whole_lem}
 use Rattle.scsi.specs.Decoding.{Decoding, decoded, decode_call, plain_is_extended}
+use Rattle.scsi.specs.declared.numbers.Refusal.{Refusal}
+use Rattle.scsi.specs.declared.numbers.Refusal.TheVariants.{BrokenRecord, EmptyBlock}
+use Rattle.scsi.specs.Inner.Numbers.{refusal_number, outcome_number}
 use Rattle.scsi.specs.Numbers.{DecodeOutcome, decode_outcome, decode_outcome_of}
 use Rattle.calls.specs.Checks.{is_in}
 use Rattle.calls.specs.Command.{Showing, hiding, showing, is_shown, command_call, Stepping, stepping, is_offered, stepping_of_decoding, block_of, command_step_told_call}
@@ -141,6 +145,11 @@ module _ (extended : Bool) (lun : ℕ) (block was : List ℕ) {a : ℕ} {l : Lis
   unfolding Steps found decode_call
   steps_offered z ex = offered_by_lem (eqb (length block) 0) given z ex
 
+-- No refusal has the number 0.
+refuses : (f : Refusal) → refusal_number f ≡ 0 → ⊥
+refuses BrokenRecord e = omega (arith, e)
+refuses EmptyBlock e = omega (arith, e)
+
 -- ---- the two calls
 
 module _ (r io was : List ℕ) where
@@ -195,18 +204,20 @@ module _ (r io was : List ℕ) where
         unfolding stepped left word
         step_none e p = rw (← ed, ← et, not_true t p) at (on_6 extended e)
 
-        module _ (e : length was ≡ 6) (p : not t ≡ false) {a : ℕ} {l : List ℕ}
-            (h : decode_outcome a l ≡ decode_outcome_of was (decode_call extended (block_of (wrapper_at r)))) where
+        module _ (e : length was ≡ 6) (p : not t ≡ false) (o : Result (Unit {0}) Refusal) {l : List ℕ}
+            (h : decode_outcome (outcome_number o) l ≡ decode_outcome_of was (decode_call extended (block_of (wrapper_at r)))) where
           decoded_step : left was (stepping_of_decoding (wrapper_at r).lun (decode_call extended (block_of (wrapper_at r)))) ≡ command_step_by extended r io was
           unfolding stepped device_at
           decoded_step = rw (← ed, ← et, not_false t p) at (on_6 extended e)
 
-          pub step_empty : (a ≡ 0 → ⊥) → command_outcome a l ≡ command_step_by extended r io was
-          step_empty n = steps_empty extended (wrapper_at r).lun (block_of (wrapper_at r)) was e h n ∙ decoded_step
+          pub step_empty : {f : Refusal} → o ≡ Err f → {x : ℕ} → x ≡ refusal_number f → command_outcome x l ≡ command_step_by extended r io was
+          step_empty {f} eo ex =
+              let n : outcome_number o ≡ refusal_number f = ap outcome_number eo in
+              rw (ex, ← n) (steps_empty extended (wrapper_at r).lun (block_of (wrapper_at r)) was e h (λ z. refuses f (sym n ∙ z)) ∙ decoded_step)
 
-          pub step_offered : a ≡ 0 → {x : ℕ} → x ≡ word 0 (get field.lun r) 0 1 0 → command_outcome x l ≡ command_step_by extended r io was
+          pub step_offered : {u : Unit {0}} → o ≡ Ok u → {x : ℕ} → x ≡ word 0 (get field.lun r) 0 1 0 → command_outcome x l ≡ command_step_by extended r io was
           unfolding wrapper_at
-          step_offered z ex = steps_offered extended (wrapper_at r).lun (block_of (wrapper_at r)) was e h z ex ∙ decoded_step
+          step_offered eo ex = steps_offered extended (wrapper_at r).lun (block_of (wrapper_at r)) was e h (ap outcome_number eo) ex ∙ decoded_step
 
   -- ---- the plain step, and the one that is told a number
 

@@ -1,5 +1,6 @@
 // The command shown to the firmware, and the command step, over a record of bytes. Each call takes any bytes of any length, and tests
-// first what it was lent. A refusal with 10 leaves all of it as it was.
+// first what it was lent. A refusal with 10 leaves all of it as it was. The results are words of the C interface, where an answer alone is
+// its number; the flag that tells of extended addressing is a number there too.
 // The block is shown and decoded where it stands in the record: copies of the block, and of the command by value, would be most of what
 // these calls need of the firmware's stack.
 #![tactic(auto)]
@@ -8,6 +9,7 @@ ghost use Rattle.std.specs.Prelude.{◌≡◌, ◌&&◌, ◌≤◌, length};
 ghost use Rattle.fields.specs.Field.{get};
 ghost use Rattle.scsi.specs.Decoding.{decode_call};
 ghost use Rattle.scsi.specs.Numbers.{decode_outcome, decode_outcome_of};
+ghost use Rattle.scsi.specs.Inner.Numbers.{outcome_number};
 ghost use Rattle.device.specs.Device.{numbers_of};
 ghost use Rattle.device.specs.Broken.{is_whole};
 ghost use Rattle.calls.specs.Command.{showing, block_of};
@@ -23,8 +25,9 @@ use calls::is_in;
 use device::whole;
 use fields::byte;
 use recordbytes::{device_at, in_record, known, numbers_at};
+use ring::State;
 use scsi::PLAIN_IS_EXTENDED;
-use scsi::numbers::put_decoded;
+use scsi::numbers::{Refusal, put_decoded};
 
 // Says whether the bytes are a record, and one that is not broken.
 fn unbroken(record: &[u8], io: &[u8]) -> bool
@@ -61,16 +64,16 @@ pub fn command(record: &[u8], io: &[u8], block: &mut [u8]) -> u64
     if !unbroken(record, io) {
         return 10;
     }
-    if is_in(device_at(record), 0) {
+    if is_in(device_at(record), State::CommandTransfer) {
         return 0;
     }
     show_block(record, block)
 }
 
 // Decodes the block of the record's command into the six numbers `command`.
-fn decode_block(record: &[u8], extended: bool, command: &mut [u64]) -> u32
+fn decode_block(record: &[u8], extended: bool, command: &mut [u64]) -> Result<(), Refusal>
     requires { (length «record».now ≡ record_size) × (get block_length «record».now ≤ 16) }
-    ensures { decode_outcome result command.new ≡ decode_outcome_of command.old (decode_call extended (block_of (wrapper_at «record».now))) }
+    ensures { decode_outcome (outcome_number result) command.new ≡ decode_outcome_of command.old (decode_call extended (block_of (wrapper_at «record».now))) }
 {
     let end = in_record::BLOCK + byte(record, in_record::BLOCK_LENGTH) as usize;
     put_decoded(&record[in_record::BLOCK..end], extended, command)
@@ -97,11 +100,10 @@ fn step(record: &[u8], io: &[u8], extended: bool, command: &mut [u64]) -> u64
     if !offers(device_at(record)) {
         return 0;
     }
-    let answer = decode_block(record, extended, command);
-    if answer != 0 {
-        return answer as u64;
+    match decode_block(record, extended, command) {
+        Ok(()) => offered_word(record),
+        Err(refusal) => refusal.number() as u64,
     }
-    offered_word(record)
 }
 
 // Makes the command step with extended addressing on: this is the plain entry.

@@ -1,5 +1,6 @@
 // The firmware reads and writes the data of a transfer, over a record of bytes. Each call takes any bytes of any length. It tests first
-// whether they are a record, and the call by value tests whether that is broken. A refusal with 10 leaves everything as it was.
+// whether they are a record, and the call by value tests whether that is broken. A refusal with 10 leaves everything as it was. It is a number
+// and no error of an enum, because C reads the result.
 #![tactic(auto)]
 
 ghost use Rattle.std.specs.Prelude.{◌≡◌, false, cond, length};

@@ -1,4 +1,4 @@
--- proofs.Laws         what has to be shown for each way through a function
+-- proofs.Laws         what a creation tells its caller
 -- proofs.Wholly       what follows for a whole record; the test says whether a record is whole
 -- proofs.Narrow       the numbers of a device that its record has four bytes for
 -- proofs.Unique       no second answer satisfies a promise

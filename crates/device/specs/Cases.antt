@@ -1,6 +1,6 @@
 -- One table of cases: document 01's of creation, and ours of broken records. proofs/Cases.antt states that each of them holds. Assumes
 -- nothing.
-use Rattle.std.specs.Prelude.{Bool, true, false, List, [], ◌∷◌, ℕ}
+use Rattle.std.specs.Prelude.{Bool, true, false, List, [], ◌∷◌, ℕ, Option, None, Some}
 use Rattle.fields.specs.Case.{Case, case}
 use Rattle.buffer.specs.declared.Marks.{Marks}
 use Rattle.buffer.specs.Buffer.{at}
@@ -8,10 +8,9 @@ use Rattle.answers.specs.Answers.{answer}
 use Rattle.ring.specs.declared.State.{State}
 use Rattle.ring.specs.declared.State.TheVariants.{CommandTransfer, CommandTransferInvalid, StatusTransfer, DataTransferToHost, DataTransferToHostEnding, DataTransferFromHostEnding}
 use Rattle.wrapper.specs.declared.status.CommandStatus.TheVariants.{Passed}
-use Rattle.device.specs.declared.Status.{Status}
-use Rattle.device.specs.declared.Status.TheVariants.{Absent, Present}
+use Rattle.device.specs.declared.Told.{Told}
 use Rattle.device.specs.declared.Numbers.{Numbers}
-use Rattle.device.specs.Device.{numbers_of}
+use Rattle.device.specs.Device.{told, numbers_of}
 use Rattle.device.specs.Create.{fixed, creation_checks, new_device, no_device, create_call}
 use Rattle.device.specs.Broken.{is_whole}
 
@@ -25,12 +24,12 @@ starred =
     ∷ []
 
 -- This record has P 8, max LUN 0 and an IO buffer of 31 bytes, and the parts that are given; nothing is left.
-abbrev numbers_in : State → Status → Marks → ℕ → ℕ → Numbers
+abbrev numbers_in : State → Option Told → Marks → ℕ → ℕ → Numbers
 numbers_in state status marks lun blocklength = record { fixed = fixed 8 0 31; state = state; marks = marks; tag = 0; lun = lun; blocklength = blocklength; status = status; left = record { 0 = 0 } }
 
 -- This status says that the command passed, with residue 0.
-abbrev passed : Status
-passed = Present Passed (record { 0 = 0 })
+abbrev passed : Option Told
+passed = Some (told Passed (record { 0 = 0 }))
 
 -- This says whether a new record with these numbers, over a buffer of that `size`, is whole.
 abbrev sized : ℕ → ℕ → ℕ → Bool
@@ -49,17 +48,17 @@ ours =
     ∷ case (creation_checks (fixed 65600 0 65536)) 5
     ∷ case (creation_checks (fixed 264 0 65536)) 8
     -- a record that is whole, and then each way to be broken
-    ∷ case (is_whole (numbers_in DataTransferToHost Absent (at 3 31) 15 16) 31) true
-    ∷ case (is_whole (numbers_in DataTransferToHost Absent (at 3 31) 15 16) 32) false
-    ∷ case (is_whole (numbers_in DataTransferToHost Absent (at 4 3) 15 16) 31) false
-    ∷ case (is_whole (numbers_in DataTransferToHost Absent (at 3 32) 15 16) 31) false
-    ∷ case (is_whole (numbers_in DataTransferToHost Absent (at 3 31) 16 16) 31) false
-    ∷ case (is_whole (numbers_in DataTransferToHost Absent (at 3 31) 15 17) 31) false
+    ∷ case (is_whole (numbers_in DataTransferToHost None (at 3 31) 15 16) 31) true
+    ∷ case (is_whole (numbers_in DataTransferToHost None (at 3 31) 15 16) 32) false
+    ∷ case (is_whole (numbers_in DataTransferToHost None (at 4 3) 15 16) 31) false
+    ∷ case (is_whole (numbers_in DataTransferToHost None (at 3 32) 15 16) 31) false
+    ∷ case (is_whole (numbers_in DataTransferToHost None (at 3 31) 16 16) 31) false
+    ∷ case (is_whole (numbers_in DataTransferToHost None (at 3 31) 15 17) 31) false
     ∷ case (is_whole (numbers_in CommandTransfer passed (at 0 0) 0 0) 31) false
     ∷ case (is_whole (numbers_in CommandTransferInvalid passed (at 0 0) 0 0) 31) false
-    ∷ case (is_whole (numbers_in StatusTransfer Absent (at 0 0) 0 0) 31) false
-    ∷ case (is_whole (numbers_in DataTransferToHostEnding Absent (at 0 0) 0 0) 31) false
-    ∷ case (is_whole (numbers_in DataTransferFromHostEnding Absent (at 0 0) 0 0) 31) false
+    ∷ case (is_whole (numbers_in StatusTransfer None (at 0 0) 0 0) 31) false
+    ∷ case (is_whole (numbers_in DataTransferToHostEnding None (at 0 0) 0 0) 31) false
+    ∷ case (is_whole (numbers_in DataTransferFromHostEnding None (at 0 0) 0 0) 31) false
     -- "a creation rule is violated": each rule in turn
     ∷ case (sized 8 15 31) true
     ∷ case (sized 8 16 31) false

@@ -1,13 +1,12 @@
 -- "Creation checks 2, 5, 8, 9 in that order." Assumes nothing: these are definitions.
-use Rattle.std.specs.Prelude.{ℕ, Bool, cond, ◌||◌, eqb, ltb}
+use Rattle.std.specs.Prelude.{ℕ, Bool, cond, ◌||◌, eqb, ltb, None, Result, Ok, Err}
 use Rattle.buffer.specs.Buffer.{at}
+use Rattle.answers.specs.declared.Answer.{Answer}
 use Rattle.answers.specs.Answers.{Answering, answer, answer_of}
 use Rattle.ring.specs.declared.State.TheVariants.{CommandTransfer}
 use Rattle.wrapper.specs.Wrapper.{no_wrapper}
-use Rattle.device.specs.declared.Status.TheVariants.{Absent}
 use Rattle.device.specs.declared.Fixed.{Fixed}
 use Rattle.device.specs.declared.Device.{Device}
-use Rattle.device.specs.declared.create.Created.{Created}
 
 -- `p` is in the domain: "packet size P is 8, 16, 32 or 64".
 unfoldable pub is_packet_size : ℕ → Bool
@@ -27,7 +26,7 @@ creation_checks f =
 
 -- A new device with the numbers `f` waits for a wrapper. Until the first one comes, tag, L, LUN and block are 0, and nothing is put in.
 abbrev pub new_device : Fixed → Device
-new_device f = record { fixed = f; state = CommandTransfer; marks = at 0 0; wrapper = no_wrapper; status = Absent; left = record { 0 = 0 }; putin = record { 0 = 0 } }
+new_device f = record { fixed = f; state = CommandTransfer; marks = at 0 0; wrapper = no_wrapper; status = None; left = record { 0 = 0 }; putin = record { 0 = 0 } }
 
 -- "no device" is a record in which every number is 0.
 abbrev pub no_device : Device
@@ -38,9 +37,10 @@ pub record Creation : Type 0 where
   pub answer : Answering
   pub device : Device
 
--- This reads what the code returned, `r`, as such a record.
-abbrev pub creation_of : Created → Creation
-creation_of r = record { answer = answer_of r.answer; device = r.device }
+-- This reads what the code returned as such a record: a device `d`, or the answer `why` it is refused.
+abbrev pub creation_of : Result Device Answer → Creation
+creation_of (Ok d) = record { answer = answer 0; device = d }
+creation_of (Err why) = record { answer = answer_of why; device = no_device }
 
 -- This is creation with any numbers `f`.
 unfoldable pub create_call : Fixed → Creation

@@ -1,5 +1,5 @@
 -- The device record: what it holds, and each change of it that a rule makes. Assumes nothing: these are definitions.
-use Rattle.std.specs.Prelude.{Bool, true, false, ℕ}
+use Rattle.std.specs.Prelude.{Bool, ℕ, is_some, Option, None}
 use Rattle.buffer.specs.declared.Marks.{Marks}
 use Rattle.ring.specs.declared.State.{State}
 use Rattle.ring.specs.declared.State.TheVariants.{CommandTransfer}
@@ -7,15 +7,19 @@ use Rattle.wrapper.specs.declared.Wrapper.{Wrapper}
 use Rattle.wrapper.specs.declared.counters.Left.{Left}
 use Rattle.wrapper.specs.declared.counters.PutIn.{PutIn}
 use Rattle.wrapper.specs.Counters.{risen}
-use Rattle.device.specs.declared.Status.{Status}
-use Rattle.device.specs.declared.Status.TheVariants.{Absent, Present}
+use Rattle.wrapper.specs.declared.counters.Residue.{Residue}
+use Rattle.wrapper.specs.declared.status.CommandStatus.{CommandStatus}
+use Rattle.device.specs.declared.Told.{Told}
 use Rattle.device.specs.declared.Device.{Device}
 use Rattle.device.specs.declared.Numbers.{Numbers}
 
 -- This says whether a status is present.
-abbrev pub is_present : Status → Bool
-is_present Absent = false
-is_present (Present status residue) = true
+abbrev pub is_present : Option Told → Bool
+is_present status = is_some status
+
+-- The host is told this `status` and this `residue`.
+abbrev pub told : CommandStatus → Residue → Told
+told status residue = record { status = status; residue = residue }
 
 -- These are the numbers of the record `d` that decide whether it is broken and what a poll does.
 abbrev pub numbers_of : Device → Numbers
@@ -23,7 +27,7 @@ numbers_of d = record { fixed = d.fixed; state = d.state; marks = d.marks; tag =
 
 -- The record `d` gets these parts. What creation fixed and the count of what was put in stay. Every change of a record is one of these, or
 -- one of that count.
-abbrev pub rebuilt : Device → State → Marks → Wrapper → Status → Left → Device
+abbrev pub rebuilt : Device → State → Marks → Wrapper → Option Told → Left → Device
 rebuilt d state marks wrapper status left = record { fixed = d.fixed; state = state; marks = marks; wrapper = wrapper; status = status; left = left; putin = d.putin }
 
 -- The record `d` gets the state `s`.
@@ -39,7 +43,7 @@ abbrev pub with_wrapper : Wrapper → Device → Device
 with_wrapper w d = rebuilt d d.state d.marks w d.status d.left
 
 -- The record `d` gets the status `s`.
-abbrev pub with_status : Status → Device → Device
+abbrev pub with_status : Option Told → Device → Device
 with_status s d = rebuilt d d.state d.marks d.wrapper s d.left
 
 -- In the record `d`, left becomes `l`.
@@ -62,4 +66,4 @@ putting_in accepted d = with_put_in (risen d.putin accepted) d
 
 -- The record `d` enters 0. "Entering 0 clears status and left .. it does not empty the buffer." What was put in is counted anew.
 abbrev pub entering0 : Device → Device
-entering0 d = counted_anew (in_state CommandTransfer (with_status Absent (with_left (record { 0 = 0 }) d)))
+entering0 d = counted_anew (in_state CommandTransfer (with_status None (with_left (record { 0 = 0 }) d)))

@@ -48,9 +48,9 @@ pub extern "C" fn souk_poll(
         one,
         two,
         Turn {
-            first: first,
-            second: second,
-            write: write,
+            first,
+            second,
+            write,
         },
     )
 }

@@ -1,11 +1,12 @@
 -- These are laws of fields: one for each fact, at every width.
 --     byte_held, byte_read           a field of one byte is what a byte holds of that element; of a byte it is the byte
 --     byte_alone                     the one byte of such a field
---     one_order                      one byte has no order
 --     get_below                      what a field holds has its place there, in any list
 --     little_doubled, big_doubled    two fields side by side are one of twice the width
+--     le_two, le_four, be_two, be_four, be_eight    what std makes of a field's bytes is the number that it holds, at std's widths
+--     le_digits                      what std makes of a number is its digits
 --     get_append, get_front          what follows the message does not count
---     put_stored, four_stored, byte_stored    stores in order write a field
+--     put_stored, byte_stored    stores in order write a field
 --     length_put                     a message keeps its length
 --     get_put                        what was written is read
 --     bytes_before, bytes_behind, get_before, get_behind    a field before or after the written one keeps its bytes, and reads as before
@@ -19,11 +20,12 @@ use mathlib.Core.List.{List, [], ◌∷◌, ◌++◌, reverse, reverse_aux, reve
 use Prim.Native.Nat.{ℕ, zero, suc, ◌+◌, ◌*◌, ◌^◌, ◌/◌, ◌%◌, ◌≤◌, ◌<◌}
 use native.Mathlib.Nat.{add_comm, one-mul, mul_assoc, mul_comm, pow-suc, mod-add-div, mod-lt, mod-eq_of_lt, div-lt_iff_lt-mul, zero-lt-suc}
 use native.Mathlib.Omega.{arith}
-use native.Mathlib.Numerals.{unary_clauses}
 use lib.Dec.{lit<}
 use lib.Pow.{shl_exact}
 use lib.ListN.{length, take, drop, get_or, set, take-append-drop, length-take, length-drop}
 use lib.Seq.{drop-cons, drop-drop, take-append-le, drop-append-le, take-add, length-take-le, sets, sets-eq}
+use Rattle.std.proofs.Common.{Fits, w8}
+use Rattle.std.specs.Int.{w16, w32, w64, from_le_bytes, from_be_bytes, to_le_bytes}
 use Rattle.fields.specs.Overlay.{overlay}
 use Rattle.fields.specs.Field.{Order, little, big, Field, little_endian, big_endian, one_byte, bytes_at, counted, digits, ordered, get, put}
 use Rattle.fields.proofs.Overlay.{overlay_own, length_overlay, part_inside, part_before, part_behind}
@@ -93,10 +95,6 @@ get_below f m =
     let bs : List ℕ = take f.width (drop f.start m) in
     counted_below f.width (ordered f.order bs) (omega (arith, length_ordered f.order bs, length-take f.width (drop f.start m)))
 
-pub one_order : (m : List ℕ) (at : ℕ) {x : ℕ} → at < length m → x ≡ get (one_byte at) m → x ≡ get (big_endian at 1) m
-unfolding get bytes_at ordered
-one_order m at h e = rw (drop-cons m at 0 h) (rw (drop-cons m at 0 h) at e)
-
 -- The bytes of a field are those of its two halves.
 halves : (m : List ℕ) (at w : ℕ) → take (w + w) (drop at m) ≡ take w (drop at m) ++ take w (drop (at + w) m)
 halves m at w = take-add w w (drop at m) ∙ ap (λ (l : List ℕ). take w (drop at m) ++ take w l) (drop-drop w at m)
@@ -119,6 +117,40 @@ big_doubled m at w {low} {high} h eh el =
     add_comm (256 ^ w * high) low
     ∙ rw (el, eh, halves m at w, reverse-append first second, counted_append (reverse second) (reverse first), length_reverse second, half_length m (at + w) w (omega arith))
 
+-- ---- what std reads and writes
+
+pub le_two : (m : List ℕ) (at : ℕ) {bs : List ℕ} {n : ℕ} → n ≡ from_le_bytes w16 bs → bs ≡ bytes_at (little_endian at 2) m
+    → at + 2 ≤ length m → ((i : ℕ) → Fits w8 (get_or m i 0)) → n ≡ get (little_endian at 2) m
+unfolding get bytes_at counted ordered
+le_two m at e eb h small = e ∙ rw (eb, part_listed m at 2 h) (omega (arith, (small (at)).fits, (small (suc (at))).fits))
+
+pub le_four : (m : List ℕ) (at : ℕ) {bs : List ℕ} {n : ℕ} → n ≡ from_le_bytes w32 bs → bs ≡ bytes_at (little_endian at 4) m
+    → at + 4 ≤ length m → ((i : ℕ) → Fits w8 (get_or m i 0)) → n ≡ get (little_endian at 4) m
+unfolding get bytes_at counted ordered
+le_four m at e eb h small = e ∙ rw (eb, part_listed m at 4 h) (omega (arith, (small (at)).fits, (small (suc (at))).fits, (small (suc (suc (at)))).fits, (small (suc (suc (suc (at))))).fits))
+
+pub be_two : (m : List ℕ) (at : ℕ) {bs : List ℕ} {n : ℕ} → n ≡ from_be_bytes w16 bs → bs ≡ bytes_at (little_endian at 2) m
+    → at + 2 ≤ length m → ((i : ℕ) → Fits w8 (get_or m i 0)) → n ≡ get (big_endian at 2) m
+unfolding get bytes_at counted ordered
+be_two m at e eb h small = e ∙ rw (eb, part_listed m at 2 h) (omega (arith, (small (at)).fits, (small (suc (at))).fits))
+
+pub be_four : (m : List ℕ) (at : ℕ) {bs : List ℕ} {n : ℕ} → n ≡ from_be_bytes w32 bs → bs ≡ bytes_at (little_endian at 4) m
+    → at + 4 ≤ length m → ((i : ℕ) → Fits w8 (get_or m i 0)) → n ≡ get (big_endian at 4) m
+unfolding get bytes_at counted ordered
+be_four m at e eb h small = e ∙ rw (eb, part_listed m at 4 h) (omega (arith, (small (at)).fits, (small (suc (at))).fits, (small (suc (suc (at)))).fits, (small (suc (suc (suc (at))))).fits))
+
+pub be_eight : (m : List ℕ) (at : ℕ) {bs : List ℕ} {n : ℕ} → n ≡ from_be_bytes w64 bs → bs ≡ bytes_at (little_endian at 8) m
+    → at + 8 ≤ length m → ((i : ℕ) → Fits w8 (get_or m i 0)) → n ≡ get (big_endian at 8) m
+unfolding get bytes_at counted ordered
+be_eight m at e eb h small = e ∙ rw (eb, part_listed m at 8 h) (omega (arith, (small (at)).fits, (small (suc (at))).fits, (small (suc (suc (at)))).fits, (small (suc (suc (suc (at))))).fits, (small (suc (suc (suc (suc (at)))))).fits, (small (suc (suc (suc (suc (suc (at))))))).fits, (small (suc (suc (suc (suc (suc (suc (at)))))))).fits, (small (suc (suc (suc (suc (suc (suc (suc (at))))))))).fits))
+
+-- The bytes that std makes of a number are its digits.
+pub le_digits : (n : ℕ) → to_le_bytes w32 n ≡ digits 4 n
+unfolding digits
+le_digits n = grind arith
+
+pub ruleset reads = (le_two, le_four, be_two, be_four, be_eight)
+
 -- ---- a field of a message that goes on
 
 pub get_append : (f : Field) (m ys : List ℕ) → f.start + f.width ≤ length m → get f (m ++ ys) ≡ get f m
@@ -139,11 +171,6 @@ length_put f n m h = length_overlay m f.start _ (omega (arith, length_written f.
 pub put_stored : (m : List ℕ) (at w n : ℕ) → at + w ≤ length m → sets m at (digits w n) ≡ put (little_endian at w) n m
 unfolding put ordered overlay
 put_stored m at w n h = sets-eq (digits w n) m at (omega (arith, length_digits w n))
-
-pub four_stored : (m : List ℕ) (at n : ℕ) → at + 4 ≤ length m
-    → set (set (set (set m at (n % 256)) (at + 1) (n / 256 % 256)) (at + 2) (n / 256 / 256 % 256)) (at + 3) (n / 256 / 256 / 256 % 256) ≡ put (little_endian at 4) n m
-unfolding digits
-four_stored m at n h = simp unary_clauses (put_stored m at 4 n h)
 
 pub byte_stored : (m : List ℕ) (at n : ℕ) → n < 256 → at < length m → set m at n ≡ put (one_byte at) n m
 unfolding digits

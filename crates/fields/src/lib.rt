@@ -1,10 +1,10 @@
-// These functions read and write the fields of the public standards' tables: numbers in byte slices, in both orders of their bytes, and
-// bits of one byte. A number of twice the width is two numbers side by side, so each function that reads one calls the function for half
-// its width. `least` stands here because several crates need it.
+// These functions read and write the fields of the public standards' tables: bytes and numbers in byte slices, in both orders of their
+// bytes, and bits of one byte.
 #![tactic(auto)]
 
-ghost use Rattle.std.specs.Prelude.{◌≡◌, ◌+◌, ◌≤◌, ◌<◌, min, length};
-ghost use Rattle.fields.specs.Field.{little_endian, big_endian, one_byte, get, put, bits, get_bits, put_bits};
+ghost use Rattle.std.specs.Prelude.{◌≡◌, ◌+◌, ◌≤◌, ◌<◌, length};
+ghost use Rattle.fields.specs.Field.{little_endian, big_endian, one_byte, bytes_at, get, put, bits, get_bits, put_bits};
+ghost use Rattle.fields.specs.Overlay.{overlay};
 
 // Reads the byte of `m` at index `at`.
 pub fn byte(m: &[u8], at: usize) -> u8
@@ -14,14 +14,27 @@ pub fn byte(m: &[u8], at: usize) -> u8
     m[at]
 }
 
+// Copies the `N` bytes of `m` from index `at` on.
+pub fn bytes_at<const N: usize>(m: &[u8], at: usize) -> [u8; N]
+    requires { at + N ≤ length m.now }
+    ensures { result ≡ bytes_at (little_endian at N) m.now }
+{
+    let mut bytes = [0; N];
+    // By index: std's conversions hand on pointers, which tools/pointers.awk refuses; with `array::from_fn` the proof didn't close.
+    for i in 0..N {
+        bytes[i] = m[at + i];
+    }
+    bytes
+}
+
+// Each width and order has a function: a trait for the widths would have an impl for each, and would be no plainer.
+
 // Reads the number in the 2 bytes of `m` from index `at` on, the least significant byte first.
 pub fn le16(m: &[u8], at: usize) -> u16
     requires { at + 2 ≤ length m.now }
     ensures { result ≡ get (little_endian at 2) m.now }
 {
-    let low = byte(m, at) as u16;
-    let high = byte(m, at + 1) as u16;
-    low + 256 * high
+    u16::from_le_bytes(bytes_at(m, at))
 }
 
 // Reads the number in the 4 bytes of `m` from index `at` on, the least significant byte first.
@@ -29,9 +42,7 @@ pub fn le32(m: &[u8], at: usize) -> u32
     requires { at + 4 ≤ length m.now }
     ensures { result ≡ get (little_endian at 4) m.now }
 {
-    let low = le16(m, at) as u32;
-    let high = le16(m, at + 2) as u32;
-    low + 65536 * high
+    u32::from_le_bytes(bytes_at(m, at))
 }
 
 // Reads the number in the 2 bytes of `m` from index `at` on, the most significant byte first.
@@ -39,9 +50,7 @@ pub fn be16(m: &[u8], at: usize) -> u16
     requires { at + 2 ≤ length m.now }
     ensures { result ≡ get (big_endian at 2) m.now }
 {
-    let high = byte(m, at) as u16;
-    let low = byte(m, at + 1) as u16;
-    256 * high + low
+    u16::from_be_bytes(bytes_at(m, at))
 }
 
 // Reads the number in the 4 bytes of `m` from index `at` on, the most significant byte first.
@@ -49,9 +58,7 @@ pub fn be32(m: &[u8], at: usize) -> u32
     requires { at + 4 ≤ length m.now }
     ensures { result ≡ get (big_endian at 4) m.now }
 {
-    let high = be16(m, at) as u32;
-    let low = be16(m, at + 2) as u32;
-    65536 * high + low
+    u32::from_be_bytes(bytes_at(m, at))
 }
 
 // Reads the number in the 8 bytes of `m` from index `at` on, the most significant byte first.
@@ -59,9 +66,7 @@ pub fn be64(m: &[u8], at: usize) -> u64
     requires { at + 8 ≤ length m.now }
     ensures { result ≡ get (big_endian at 8) m.now }
 {
-    let high = be32(m, at) as u64;
-    let low = be32(m, at + 4) as u64;
-    4294967296 * high + low
+    u64::from_be_bytes(bytes_at(m, at))
 }
 
 // Writes `n` to the byte of `m` at index `at`.
@@ -72,18 +77,23 @@ pub fn put_byte(m: &mut [u8], at: usize, n: u8)
     m[at] = n;
 }
 
+// Writes `bytes` to the `N` bytes of `m` from index `at` on.
+pub fn put_bytes<const N: usize>(m: &mut [u8], at: usize, bytes: [u8; N])
+    requires { at + N ≤ length m.old }
+    ensures { m.new ≡ overlay m.old at bytes.entry }
+{
+    // By index: `copy_from_slice` looks at the pointers' distance, which tools/pointers.awk refuses.
+    for i in 0..N {
+        m[at + i] = bytes[i];
+    }
+}
+
 // Writes `n` to the 4 bytes of `m` from index `at` on, the least significant byte first.
 pub fn put_le32(m: &mut [u8], at: usize, n: u32)
     requires { at + 4 ≤ length m.old }
     ensures { m.new ≡ put (little_endian at 4) n m.old }
 {
-    let second = n / 256;
-    let third = second / 256;
-    let fourth = third / 256;
-    m[at] = (n % 256) as u8;
-    m[at + 1] = (second % 256) as u8;
-    m[at + 2] = (third % 256) as u8;
-    m[at + 3] = (fourth % 256) as u8;
+    put_bytes(m, at, n.to_le_bytes());
 }
 
 // Reads `width` bits of the byte of `m` at index `at`, from the bit `low` upwards.
@@ -105,11 +115,4 @@ pub fn put_bits(m: &mut [u8], at: usize, low: u8, width: u8, n: u8)
     let within = n % (1u8 << width);
     let below = b % (1u8 << low);
     m[at] = ((above + within) << low) + below;
-}
-
-// Gives the lesser of `a` and `b`.
-pub fn least(a: usize, b: usize) -> usize
-    ensures { result ≡ min a b }
-{
-    if a < b { a } else { b }
 }

@@ -1,6 +1,5 @@
 -- These laws belong to no single call.
---     BufferWays, CodecWays    what each way through a call owes
---     Unique                   no contract has a second answer
+--     BufferWays    what each way through a call of the buffer owes
+--     Unique        no contract has a second answer
 pub mod BufferWays
-pub mod CodecWays
 pub mod Unique

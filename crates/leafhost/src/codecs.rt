@@ -1,27 +1,27 @@
 // These are the calls of the wrapper, the status and the verdict, and the decoder's two entries. If what the caller lends for the result
 // has another length than it should, it is a broken record: the answer is 10, and nothing changes.
-ghost use Rattle.std.specs.Prelude.{◌≡◌, length};
+ghost use Rattle.std.specs.Prelude.{◌≡◌};
 ghost use Rattle.scsi.specs.Numbers.{decode_outcome, shown_decode, shown_told};
 ghost use Rattle.wrapper.specs.Verdict.{verdict_of, verdict_number};
 ghost use Rattle.leafhost.specs.Codecs.{wrapper_numbers, parse_outcome, shown_parse, status_outcome, shown_status};
 
-use buffer::span::put;
 use scsi::numbers::{decode_into, decode_told_into};
-use wrapper::status::StatusByte;
+use wrapper::counters::residue_of;
+use wrapper::status::{status_bytes, status_of};
 use wrapper::verdict::verdict_number;
 use wrapper::{Wrapper, direction_number, in_status};
 
-// Stores the five numbers of the wrapper `w` in `fields`.
-fn put_fields(fields: &mut [u32], w: Wrapper)
-    requires { length fields.old ≡ 5 }
-    ensures { fields.new ≡ wrapper_numbers w }
+// Gives the five numbers of the wrapper `w`.
+fn numbers(w: Wrapper) -> [u32; 5]
+    ensures { result ≡ wrapper_numbers w }
 {
-    let direction = w.direction;
-    fields[0] = w.tag;
-    fields[1] = w.length;
-    fields[2] = direction_number(direction) as u32;
-    fields[3] = w.lun as u32;
-    fields[4] = w.blocklength as u32;
+    [
+        w.tag,
+        w.length,
+        direction_number(w.direction) as u32,
+        w.lun as u32,
+        w.blocklength as u32,
+    ]
 }
 
 // Answers 1 if `message` is a valid wrapper, and 0 if it is not. A valid one leaves its five numbers in `fields` and the 16 bytes of its
@@ -30,21 +30,15 @@ fn put_fields(fields: &mut [u32], w: Wrapper)
 pub extern "C" fn wrapper_parse(message: &[u8], fields: &mut [u32], block: &mut [u8]) -> u32
     ensures { parse_outcome result fields.new block.new ≡ shown_parse message.now fields.old block.old }
 {
-    if fields.len() != 5 {
+    if fields.len() != 5 || block.len() != 16 {
         return 10;
     }
-    if block.len() != 16 {
-        return 10;
-    }
-    let p = wrapper::parse(message);
-    if p.valid {
-        let w = p.wrapper;
-        let b = w.block;
-        put_fields(fields, w);
-        put(block, 0, &b);
-        return 1;
-    }
-    0
+    let Some(w) = wrapper::parse(message) else {
+        return 0;
+    };
+    fields.copy_from_slice(&numbers(w));
+    block.copy_from_slice(&w.block);
+    1
 }
 
 // Writes the status for a wrapper with this `tag` and `length` (L), with the firmware's `figure` and its status byte, `byte`. It answers 0
@@ -62,16 +56,11 @@ pub extern "C" fn wrapper_status(
     if bytes.len() != in_status::SIZE {
         return 10;
     }
-    let known = wrapper::status::status_of(byte);
-    match known {
-        StatusByte::Known(s) => {
-            let residue = wrapper::counters::residue_of(length, figure);
-            let b = wrapper::status::status_bytes(tag, residue, s);
-            put(bytes, 0, &b);
-            0
-        }
-        StatusByte::Refused => 12,
-    }
+    let Some(status) = status_of(byte) else {
+        return 12;
+    };
+    bytes.copy_from_slice(&status_bytes(tag, residue_of(length, figure), status));
+    0
 }
 
 // Answers with BOT's verdict on `message`, for a device with the LUNs 0 to `maxlun`: 0 invalid, 1 valid only, 2 meaningful.

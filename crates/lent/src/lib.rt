@@ -2,6 +2,7 @@
 // thin: it takes the record `d` out of the reference, makes the call of the same name on it by value, and puts the new record back. Every
 // call takes any record, any buffers and any numbers. It promises what the call by value promises, for what the reference holds at entry
 // and at exit.
+// The seven differ in the call alone and stay apart: `thin.proofs.Law.thin_spec`, by which each is proved, speaks of just these four lines.
 #![tactic(auto)]
 
 ghost use Rattle.std.specs.Prelude.{◌≡◌};

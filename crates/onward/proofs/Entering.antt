@@ -39,6 +39,7 @@ use Rattle.bbb.proofs.Keeping.{call_done}
 use Rattle.recordbytes.specs.Layout as field
 use Rattle.recordbytes.specs.Record.{status_at, device_at, store_state, store_marks}
 use Rattle.border.specs.Word.{word}
+use Rattle.onward.specs.declared.Lengths.{Lengths}
 use Rattle.onward.specs.Inner.Onward.{Steady, Ending, MayEnd, status_in, EndsOn}
 use Rattle.onward.proofs.Going.{flag_says, is_ready}
 
@@ -58,20 +59,20 @@ ending_in P ring.DataTransferFromHostEnding h a b c d e = e
 
 -- ---- what the tests tell
 
-pub may_end : (r : List ℕ) (len packet one two write : ℕ) {state flag left p to from : ℕ} {s f v : Bool}
+pub may_end : (r : List ℕ) (lent : Lengths) (write : ℕ) {state flag left p to from : ℕ} {s f v : Bool}
     → length r ≡ field.record_size → state ≡ get field.state r → 4 ≤ state → state ≤ 8 → flag ≡ get field.present r → flag ≡ 1 → write ≡ 0 → left ≡ get field.left r → left ≡ 0
-    → (s ≡ true → Steady r len) → not s ≡ false → p ≡ get field.packet_size r → f ≡ is_fitting p packet one two → not f ≡ false
-    → to ≡ get field.write_mark r → to ≤ len → from ≡ get field.read_mark r → from ≤ to → v ≡ is_packet_size p → v ≡ true → MayEnd r len packet one two write
+    → (s ≡ true → Steady r lent.io) → not s ≡ false → p ≡ get field.packet_size r → f ≡ is_fitting p lent.packet lent.one lent.two → not f ≡ false
+    → to ≡ get field.write_mark r → to ≤ lent.io → from ≡ get field.read_mark r → from ≤ to → v ≡ is_packet_size p → v ≡ true → MayEnd r lent write
 unfolding device_at
-may_end r len packet one two write {s = s} {f = f} long es low known eg one-there served el none steady qs ep ef qf et within er order ev sized =
+may_end r lent write {s = s} {f = f} long es low known eg one-there served el none steady qs ep ef qf et within er order ev sized =
     let flag : get field.present r ≡ 1 = sym eg ∙ one-there in
     let there : is_present (status_at r) ≡ true = rw flag at (flag_says r (omega (arith, flag))) in
     let up : get field.state r ≤ 8 = rw es at known in
     let number : 4 ≤ state_number (state_of_number (get field.state r)) = rw (state_number_lem (get field.state r) up, ← es) low in
     let suits : status_fits (state_of_number (get field.state r)) (is_present (status_at r)) ≡ true = rw there (ending_in (λ (x : State). status_fits x true ≡ true) (state_of_number (get field.state r)) number refl refl refl refl refl) in
-    let st : Steady r len = steady (not_false s qs) in
+    let st : Steady r lent.io = steady (not_false s qs) in
     record {
-      ready = is_ready r len packet one two long st up (omega (arith, flag)) (omega (arith, er, et, order)) (omega (arith, et, within)) suits (rw ep at (sym ef ∙ not_false f qf)) (rw ep at (sym ev ∙ sized));
+      ready = is_ready r lent long st up (omega (arith, flag)) (omega (arith, er, et, order)) (omega (arith, et, within)) suits (rw ep at (sym ef ∙ not_false f qf)) (rw ep at (sym ev ∙ sized));
       ends = record { state = number; present = there; left = sym el ∙ none; served = served };
       small = st.small;
     }

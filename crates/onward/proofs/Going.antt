@@ -8,13 +8,14 @@ use mathlib.Core.Path.{◌≡◌, refl, sym, ap, ◌∙◌}
 use mathlib.Core.Bool.{Bool, true, false, not, cond, ◌&&◌, ◌||◌}
 use mathlib.Core.List.{List, [], ◌∷◌}
 use Prim.Native.Nat.{ℕ, ◌+◌, ◌-◌, ◌≤◌, min}
+use Rattle.std.specs.Prelude.{Some, None}
 use native.Mathlib.Nat.{min-le_right, min-eq_right, max-eq_left}
 use native.Mathlib.Omega.{arith}
 use lib.Dec.{eqb, ltb, leb}
 use lib.ListN.{length, take, drop}
 use lib.Seq.{take-take, take_all}
 use borrow.Table.Steps.{cases}
-use borrow.Author.Tests.{eq-eqb, ne_eqb, eqb-true, eqb-false, le-ltb, le-leb, lt-leb, leb-true}
+use borrow.Author.Tests.{eq-eqb, ne_eqb, eqb-true, eqb-false, le-ltb, le-leb, leb-true}
 use Rattle.fields.specs.Field.{get}
 use Rattle.fields.specs.Overlay.{overlay}
 use Rattle.fields.proofs.Bools.{and_left, and_right, not_true, not_false, clash}
@@ -45,6 +46,7 @@ use Rattle.recordbytes.specs.Record.{status_by, status_at, marks_at, wrapper_at,
 use Rattle.recordbytes.proofs.Storing.{is_apart}
 use Rattle.recordbytes.proofs.Stored.{write, get_elsewhere, known_is}
 use Rattle.border.specs.Word.{word}
+use Rattle.onward.specs.declared.Lengths.{Lengths}
 use Rattle.onward.specs.Inner.Onward.{Steady, Ready, sends_in, Sending, CanSend, MaySend, Taking, CanTake, MayTake, buffer_of_numbers, SendsOrStays, TakesOrStays}
 
 -- ---- the tests
@@ -66,16 +68,13 @@ module _ (state flag : ℕ) where
   unfolding sends_in
   sends_without e = rw e (or_none (eqb state 4) (eqb state 6))
 
-  pub sends_6 : flag ≡ 1 → state ≡ 6 → true ≡ leb flag 1 && sends_in state (eqb flag 1)
+  pub sends_6 : flag ≡ 1 → state ≡ 6 → eqb state 6 ≡ leb flag 1 && sends_in state (eqb flag 1)
   unfolding sends_in
   sends_6 e q = rw (e, q)
 
   pub sends_4 : flag ≡ 1 → (state ≡ 6 → ⊥) → eqb state 4 ≡ leb flag 1 && sends_in state (eqb flag 1)
   unfolding sends_in
   sends_4 e n = rw (e, ne_eqb _ _ n) (or_nothing (eqb state 4))
-
-  pub sends_not : (flag ≡ 0 → ⊥) → (flag ≡ 1 → ⊥) → false ≡ leb flag 1 && sends_in state (eqb flag 1)
-  sends_not a b = rw (lt-leb flag 1 (omega (arith, a, b)))
 
   sends_known : sends_in state (eqb flag 1) ≡ true → state ≤ 8
   unfolding sends_in
@@ -135,10 +134,10 @@ module _ (r : List ℕ) where
   flag_says h = cases (eqb (get field.present r) 0) (λ e. rw (eqb-true (get field.present r) 0 e)) (λ e. rw (the_other (get field.present r) h e))
 
   -- The poll is refused neither with 10 nor with 11.
-  module _ (len packet one two : ℕ) (long : length r ≡ field.record_size) (s : Steady r len) (state : get field.state r ≤ 8) (flag : get field.present r ≤ 1)
-      (order : get field.read_mark r ≤ get field.write_mark r) (within : get field.write_mark r ≤ len)
-      (suits : status_fits (state_of_number (get field.state r)) (is_present (status_at r)) ≡ true) (fits : is_fitting (get field.packet_size r) packet one two ≡ true) where
-    pub is_ready : is_packet_size (get field.packet_size r) ≡ true → Ready r len packet one two
+  module _ (lent : Lengths) (long : length r ≡ field.record_size) (s : Steady r lent.io) (state : get field.state r ≤ 8) (flag : get field.present r ≤ 1)
+      (order : get field.read_mark r ≤ get field.write_mark r) (within : get field.write_mark r ≤ lent.io)
+      (suits : status_fits (state_of_number (get field.state r)) (is_present (status_at r)) ≡ true) (fits : is_fitting (get field.packet_size r) lent.packet lent.one lent.two ≡ true) where
+    pub is_ready : is_packet_size (get field.packet_size r) ≡ true → Ready r lent
     unfolding device_at fixed_at marks_at wrapper_at
     is_ready sized = record {
       known = known_is r (record { long = long; state = state; flag = flag; status = s.status; direction = s.direction });
@@ -146,12 +145,12 @@ module _ (r : List ℕ) where
       fits = fits;
     }
 
-  pub may_send : (len packet one two write : ℕ) {state flag p to from left : ℕ} {i s f : Bool}
+  pub may_send : (lent : Lengths) (write : ℕ) {state flag p to from left : ℕ} {i s f : Bool}
       → length r ≡ field.record_size → state ≡ get field.state r → flag ≡ get field.present r → i ≡ leb flag 1 && sends_in state (eqb flag 1) → not i ≡ false → write ≡ 0
-      → (s ≡ true → Steady r len) → not s ≡ false → p ≡ get field.packet_size r → f ≡ is_fitting p packet one two → not f ≡ false
-      → to ≡ get field.write_mark r → to ≤ len → from ≡ get field.read_mark r → from + p ≤ to → left ≡ get field.left r → leb p left ≡ true → MaySend r len packet one two write
+      → (s ≡ true → Steady r lent.io) → not s ≡ false → p ≡ get field.packet_size r → f ≡ is_fitting p lent.packet lent.one lent.two → not f ≡ false
+      → to ≡ get field.write_mark r → to ≤ lent.io → from ≡ get field.read_mark r → from + p ≤ to → left ≡ get field.left r → leb p left ≡ true → MaySend r lent write
   unfolding device_at fixed_at marks_at
-  may_send len packet one two write {p = p} {left = left} {i = i} {s = s} {f = f} long es eg ei qi served steady qs ep ef qf et within er order el some =
+  may_send lent write {p = p} {left = left} {i = i} {s = s} {f = f} long es eg ei qi served steady qs ep ef qf et within er order el some =
       let kind : leb (get field.present r) 1 && sends_in (get field.state r) (eqb (get field.present r) 1) ≡ true = rw (es, eg) at (sym ei ∙ not_false i qi) in
       let flag : get field.present r ≤ 1 = leb-true _ _ (and_left (leb (get field.present r) 1) (sends_in (get field.state r) (eqb (get field.present r) 1)) kind) in
       let sends : sends_in (get field.state r) (eqb (get field.present r) 1) ≡ true = and_right (leb (get field.present r) 1) (sends_in (get field.state r) (eqb (get field.present r) 1)) kind in
@@ -159,28 +158,28 @@ module _ (r : List ℕ) where
       let in_one : sends_in (state_number (state_of_number (get field.state r))) (is_present (status_at r)) ≡ true = rw (state_number_lem (get field.state r) known, flag_says flag) sends in
       let suits : status_fits (state_of_number (get field.state r)) (is_present (status_at r)) ≡ true =
       sending_in (λ (x : State) (b : Bool). status_fits x b ≡ true) (state_of_number (get field.state r)) (is_present (status_at r)) in_one refl refl refl in
-      let fits : is_fitting (get field.packet_size r) packet one two ≡ true = rw ep at (sym ef ∙ not_false f qf) in
-      let st : Steady r len = steady (not_false s qs) in
+      let fits : is_fitting (get field.packet_size r) lent.packet lent.one lent.two ≡ true = rw ep at (sym ef ∙ not_false f qf) in
+      let st : Steady r lent.io = steady (not_false s qs) in
       let enough : p ≤ left = leb-true p left some in
       record {
-        ready = is_ready len packet one two long st known flag (omega (arith, er, et, order)) (omega (arith, et, within)) suits fits;
+        ready = is_ready lent long st known flag (omega (arith, er, et, order)) (omega (arith, et, within)) suits fits;
         sends = record { state = in_one; served = served; left = omega (arith, ep, el, enough); unread = omega (arith, ep, er, et, order) };
-        can = record { small = st.small; within = omega (arith, et, within); unread = omega (arith, ep, er, et, order); into = fits_into _ packet one two fits };
+        can = record { small = st.small; within = omega (arith, et, within); unread = omega (arith, ep, er, et, order); into = fits_into _ lent.packet lent.one lent.two fits };
       }
 
-  pub may_take : (len packet one two first : ℕ) {state flag p at from left : ℕ} {s f : Bool}
+  pub may_take : (lent : Lengths) (first : ℕ) {state flag p at from left : ℕ} {s f : Bool}
       → length r ≡ field.record_size → state ≡ get field.state r → state ≡ 7 → flag ≡ get field.present r → flag ≡ 0 → first ≡ 0
-      → (s ≡ true → Steady r len) → not s ≡ false → p ≡ get field.packet_size r → one ≡ p → f ≡ is_fitting p packet one two → not f ≡ false
-      → at ≡ get field.write_mark r → from ≡ get field.read_mark r → from ≤ at → at + p ≤ len → left ≡ get field.left r → leb p left ≡ true → MayTake r len packet one two first
+      → (s ≡ true → Steady r lent.io) → not s ≡ false → p ≡ get field.packet_size r → lent.one ≡ p → f ≡ is_fitting p lent.packet lent.one lent.two → not f ≡ false
+      → at ≡ get field.write_mark r → from ≡ get field.read_mark r → from ≤ at → at + p ≤ lent.io → left ≡ get field.left r → leb p left ≡ true → MayTake r lent first
   unfolding device_at fixed_at marks_at state_of_number
-  may_take len packet one two first {p = p} {left = left} {s = s} {f = f} long es seven eg none-there served steady qs ep whole ef qf et er order fits el some =
+  may_take lent first {p = p} {left = left} {s = s} {f = f} long es seven eg none-there served steady qs ep whole ef qf et er order fits el some =
       let state : get field.state r ≡ 7 = sym es ∙ seven in
       let flag : get field.present r ≡ 0 = sym eg ∙ none-there in
       let absent : is_present (status_at r) ≡ false = rw flag at (flag_says (omega (arith, flag))) in
-      let st : Steady r len = steady (not_false s qs) in
+      let st : Steady r lent.io = steady (not_false s qs) in
       let enough : p ≤ left = leb-true p left some in
       record {
-        ready = is_ready len packet one two long st (omega (arith, state)) (omega (arith, flag)) (omega (arith, er, et, order)) (omega (arith, et, fits)) (rw state) (rw ep at (sym ef ∙ not_false f qf));
+        ready = is_ready lent long st (omega (arith, state)) (omega (arith, flag)) (omega (arith, er, et, order)) (omega (arith, et, fits)) (rw state) (rw ep at (sym ef ∙ not_false f qf));
         takes = record { state = rw state; absent = absent; served = served; left = omega (arith, ep, el, enough); whole = whole ∙ ep; room = omega (arith, ep, et, fits) };
         can = record { small = st.small; room = omega (arith, ep, et, fits); whole = whole ∙ ep };
       }
@@ -317,7 +316,7 @@ module _ (n : Numbers) (io : List ℕ) (h : n.fixed.packetsize ≤ n.marks.write
 
 module _ (n : Numbers) (io r p : List ℕ) {t : Bool} {p' : List ℕ} (et : t ≡ is_packet_size n.fixed.packetsize)
     (ep : p' ≡ cond (is_packet_size n.fixed.packetsize) (overlay p 0 (take n.fixed.packetsize (drop n.marks.read io))) p) where
-  pub stays_sent : not t ≡ true → SendsOrStays n io r p 0 r p'
+  pub stays_sent : not t ≡ true → SendsOrStays n io r p None r p'
   stays_sent q =
       let no : is_packet_size n.fixed.packetsize ≡ false = sym et ∙ not_true t q in
       record { sends = λ yes. absurd (clash (sym yes ∙ no)); stays = λ _. record { answer = refl; bytes = refl; buffer = rw no at ep } }
@@ -326,7 +325,7 @@ module _ (n : Numbers) (io r p : List ℕ) {t : Bool} {p' : List ℕ} (et : t �
       → {k x : ℕ} {falls : Left} {a b l : List ℕ}
       → falls ≡ fallen n.left n.fixed.packetsize → a ≡ cond (is_present n.status) (store_state DataTransferToHostEnding r) r
       → b ≡ store_marks (at (n.marks.read + n.fixed.packetsize) (marks_at a).write) a → l ≡ store_left falls b → k ≡ n.fixed.packetsize → x ≡ word 0 0 0 0 k
-      → SendsOrStays n io r p x l p'
+      → SendsOrStays n io r p (Some x) l p'
   unfolding device_at
   leaves_sent q long en len packet can {b = b} ef ea eb el ek ex =
       let yes : is_packet_size n.fixed.packetsize ≡ true = sym et ∙ not_false t q in
@@ -336,7 +335,7 @@ module _ (n : Numbers) (io r p : List ℕ) {t : Bool} {p' : List ℕ} (et : t �
       let moved : b ≡ store_marks (read_off n.fixed.packetsize (buffer_of_numbers n io)).marks there = eb ∙ rw (ea, mark) (ap (λ (m : Marks). store_marks m there) (all_read n io h)) in
       record {
         sends = λ _. record {
-          answer = ex ∙ ap (word 0 0 0 0) (ek ∙ all_ready n io h);
+          answer = ap Some (ex ∙ ap (word 0 0 0 0) (ek ∙ all_ready n io h));
           bytes = el ∙ rw (moved, ef) (ap (λ (k : ℕ). store_left (fallen n.left k) (store_marks (read_off n.fixed.packetsize (buffer_of_numbers n io)).marks there)) (all_ready n io h));
           packet = rw yes at ep ∙ ap (overlay p 0) (all_given n io h);
         };
@@ -345,21 +344,21 @@ module _ (n : Numbers) (io r p : List ℕ) {t : Bool} {p' : List ℕ} (et : t �
 
 module _ (n : Numbers) (io r one : List ℕ) {t : Bool} {io' : List ℕ} (et : t ≡ is_packet_size n.fixed.packetsize)
     (eio : io' ≡ cond (is_packet_size n.fixed.packetsize) (overlay io n.marks.write (take n.fixed.packetsize (drop 0 one))) io) where
-  pub stays_taken : not t ≡ true → TakesOrStays n io r one 0 r io'
+  pub stays_taken : not t ≡ true → TakesOrStays n io r one None r io'
   stays_taken q =
       let no : is_packet_size n.fixed.packetsize ≡ false = sym et ∙ not_true t q in
       record { takes = λ yes. absurd (clash (sym yes ∙ no)); stays = λ _. record { answer = refl; bytes = refl; buffer = rw no at eio } }
 
   pub leaves_taken : not t ≡ false → n ≡ numbers_of (device_at r) → (len : ℕ) → CanTake n len (length one) → {x : ℕ} {falls : Left} {a l : List ℕ}
       → falls ≡ fallen n.left n.fixed.packetsize → a ≡ store_marks (at (marks_at r).read (n.marks.write + n.fixed.packetsize)) r → l ≡ store_left falls a → x ≡ word 0 0 0 1 0
-      → TakesOrStays n io r one x l io'
+      → TakesOrStays n io r one (Some x) l io'
   unfolding device_at
   leaves_taken q en len can ef ea el ex =
       let yes : is_packet_size n.fixed.packetsize ≡ true = sym et ∙ not_false t q in
       let mark : (marks_at r).read ≡ n.marks.read = ap (λ (m : Numbers). m.marks.read) (sym en) in
       let all : take n.fixed.packetsize (drop 0 one) ≡ one = take_all n.fixed.packetsize one (omega (arith, can.whole)) in
       record {
-        takes = λ _. record { answer = ex; bytes = el ∙ rw (ea, ef, mark, ← can.whole); io = rw yes at eio ∙ ap (overlay io n.marks.write) all };
+        takes = λ _. record { answer = ap Some ex; bytes = el ∙ rw (ea, ef, mark, ← can.whole); io = rw yes at eio ∙ ap (overlay io n.marks.write) all };
         stays = λ no. absurd (clash (sym yes ∙ no));
       }
 
@@ -370,4 +369,4 @@ module _ (r : List ℕ) (s : State) (b : Bool) {t : Bool} (et : t ≡ b) where
   pub reaches_not : t ≡ false → r ≡ cond b (store_state s r) r
   reaches_not q = rw (← et, q)
 
-pub ruleset ways = (sends_without, sends_6, sends_4, sends_not, stays_sent, stays_taken, reaches, reaches_not)
+pub ruleset ways = (sends_without, sends_6, sends_4, stays_sent, stays_taken, reaches, reaches_not)

@@ -4,6 +4,7 @@
 use mathlib.Core.Path.{◌≡◌, sym, ◌∙◌}
 use mathlib.Core.List.{List}
 use Prim.Native.Nat.{ℕ}
+use Rattle.std.specs.Prelude.{Option}
 use borrow.Table.Steps.{cases}
 use Rattle.fields.proofs.Only.{Only}
 use Rattle.device.specs.declared.Numbers.{Numbers}
@@ -24,13 +25,13 @@ all_three : {r l b c p q : List ℕ} → r ≡ l → b ≡ c → p ≡ q → ◌
 all_three e f h = rw (e, f, h)
 
 -- A result and what it leaves are those of another.
-abbrev Same : (x y : ℕ) (r l b c : List ℕ) → Type 0
+abbrev Same : (x y : Option ℕ) (r l b c : List ℕ) → Type 0
 Same x y r l b c = (x ≡ y) × (◌≡◌ {A = List ℕ × List ℕ} (r, b) (l, c))
 
-stays_once : {x y : ℕ} {r b r' l b' c : List ℕ} → Stays x r r' b b' → Stays y r l b c → Same x y r' l b' c
+stays_once : {x y : Option ℕ} {r b r' l b' c : List ℕ} → Stays x r r' b b' → Stays y r l b c → Same x y r' l b' c
 stays_once p q = (p.answer ∙ sym q.answer, both (p.bytes ∙ sym q.bytes) (p.buffer ∙ sym q.buffer))
 
-module _ (n : Numbers) (io r b : List ℕ) {x y : ℕ} {r' l b' c : List ℕ} where
+module _ (n : Numbers) (io r b : List ℕ) {x y : Option ℕ} {r' l b' c : List ℕ} where
   sends_once : SendsOrStays n io r b x r' b' → SendsOrStays n io r b y l c → Same x y r' l b' c
   sends_once p q =
       cases (is_packet_size n.fixed.packetsize)

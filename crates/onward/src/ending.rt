@@ -5,7 +5,7 @@ ghost use Rattle.recordbytes.specs.Layout as field;
 ghost use Rattle.recordbytes.specs.Layout.{record_size};
 ghost use Rattle.onward.specs.Inner.Onward.{MayEnd, EndsOn};
 
-use crate::steady;
+use crate::{Lengths, steady};
 use bbb::fits;
 use border::word::word;
 use buffer::marked::read;
@@ -18,41 +18,33 @@ use wrapper::counters::Residue;
 use wrapper::status::status_of_number;
 
 // Whether the record is whole, what was offered fits, and the status goes out: the state is 4 to 8, a status is present, and nothing is
-// left. The lengths are those of `sends_on`; `write` is IN's answer. A no leaves the poll to the ring. Any bytes may be asked.
-pub fn ends_on(record: &[u8], len: usize, packet: usize, one: usize, two: usize, write: u8) -> bool
-    ensures { result ≡ true → MayEnd «record».now len packet one two write }
+// left. `write` is IN's answer. A no leaves the poll to the ring. Any bytes may be asked.
+pub fn ends_on(record: &[u8], lent: Lengths, write: u8) -> bool
+    ensures { result ≡ true → MayEnd «record».now lent write }
 {
     if record.len() != in_record::SIZE {
         return false;
     }
     let state = byte(record, in_record::STATE);
-    if state < 4 {
+    if state < 4 || 8 < state {
         return false;
     }
-    if 8 < state {
-        return false;
-    }
-    if byte(record, in_record::STATUS_PRESENT) != 1 {
-        return false;
-    }
-    if write != 0 {
+    if byte(record, in_record::STATUS_PRESENT) != 1 || write != 0 {
         return false;
     }
     if le32(record, in_record::LEFT) != 0 {
         return false;
     }
-    if !steady(record, len) {
+    if !steady(record, lent.io) {
         return false;
     }
     let p = byte(record, in_record::PACKET_SIZE) as usize;
-    if !fits(p, packet, one, two) {
+    if !fits(p, lent.packet, lent.one, lent.two) {
         return false;
     }
+    let from = le32(record, in_record::READ_MARK) as usize;
     let to = le32(record, in_record::WRITE_MARK) as usize;
-    if len < to {
-        return false;
-    }
-    if to < le32(record, in_record::READ_MARK) as usize {
+    if to < from || lent.io < to {
         return false;
     }
     is_packet_size(p)

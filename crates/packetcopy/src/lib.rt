@@ -5,7 +5,7 @@ ghost use Rattle.std.specs.Prelude.{◌≡◌, cond, ◌+◌, ◌≤◌, length,
 ghost use Rattle.fields.specs.Overlay.{overlay};
 ghost use Rattle.device.specs.Create.{is_packet_size};
 
-use buffer::span::{copy8, copy16, copy32, copy64};
+use buffer::span::copy;
 
 // Copies `p` bytes if `p` is a packet size, and says whether it is one: the bytes of `src` from index `from` on go to `dst`, from index
 // `at` on. The test costs nothing here, because each size is copied by code of its own.
@@ -13,24 +13,19 @@ pub fn put_packet(dst: &mut [u8], at: usize, src: &[u8], from: usize, p: usize) 
     requires { (from + p ≤ length src.now) × (at + p ≤ length dst.old) }
     ensures { (result ≡ is_packet_size p) × (dst.new ≡ cond (is_packet_size p) (overlay dst.old at (take p (drop from src.now))) dst.old) }
 {
+    // One match over all four: the compiler counts p's bits and jumps by a table, 7 instructions a poll more.
     if p < 32 {
-        if p == 8 {
-            copy8(dst, at, src, from);
-            return true;
+        match p {
+            8 => copy::<8, 1>(dst, at, src, from),
+            16 => copy::<16, 1>(dst, at, src, from),
+            _ => return false,
         }
-        if p == 16 {
-            copy16(dst, at, src, from);
-            return true;
+    } else {
+        match p {
+            32 => copy::<16, 2>(dst, at, src, from),
+            64 => copy::<16, 4>(dst, at, src, from),
+            _ => return false,
         }
-        return false;
     }
-    if p == 64 {
-        copy64(dst, at, src, from);
-        return true;
-    }
-    if p == 32 {
-        copy32(dst, at, src, from);
-        return true;
-    }
-    false
+    true
 }

@@ -1,6 +1,6 @@
 -- Laws of one packet: what has to be shown for each way through a function (`ways`). Assumes nothing.
 use mathlib.Core.Path.{◌≡◌, refl, sym, ap, ◌∙◌}
-use mathlib.Core.Bool.{Bool, true, false, cond}
+use mathlib.Core.Bool.{Bool, true, false, cond, true≢false}
 use mathlib.Core.List.{List, []}
 use Prim.Native.Nat.{ℕ, ◌-◌, ◌≤◌, min, max, zero-le}
 use native.Mathlib.Omega.{arith}
@@ -8,17 +8,18 @@ use native.Mathlib.Nat.{add-zero, le-max_left, max-eq_left, min-zero, min-le_lef
 use lib.Dec.{eqb, ltb, lit<}
 use lib.ListN.{length, take, length-take}
 use lib.Seq.{take-length, take-take}
-use borrow.Author.Tests.{eq-eqb, ne_eqb, eqb-true, eqb-false, ltb-true}
-use borrow.Table.Steps.{cases}
+use borrow.Author.Tests.{eq-eqb, ne_eqb, ltb-true}
+use Rattle.std.specs.Prelude.{Ok, Err, Option, Some, None, is_some, unwrap_or}
+use Rattle.std.specs.Bool.{then_some}
 use Rattle.fields.specs.Overlay.{overlay}
 use Rattle.fields.proofs.Bools.{of_picked}
 use Rattle.fields.proofs.Overlay.{overlay_nothing}
 use Rattle.buffer.specs.declared.Marks.{Marks}
-use Rattle.buffer.specs.declared.marked.Put.{Put}
-use Rattle.buffer.specs.Buffer.{Buffer, buffer, at, unread, room_in_all, lacks_room, missing, with_room, written_all, filled, emptied, ready, ready_bytes, read_off}
-use Rattle.buffer.specs.Inner.Buffer.{Sound, Leaves}
+use Rattle.buffer.specs.declared.marked.Overflow.{Overflow}
+use Rattle.buffer.specs.Buffer.{Buffer, buffer, at, unread, room_in_all, lacks_room, missing, with_room, filled, emptied, ready, ready_bytes, read_off}
+use Rattle.buffer.specs.Inner.Buffer.{Sound, Leaves, WritesAll}
 use Rattle.buffer.proofs.Unread.{moved_emptied, filled_none}
-use Rattle.buffer.proofs.Room.{missing_by_unread, lacks_missing, none_missing, some_missing, lacks_more, room_refused}
+use Rattle.buffer.proofs.Room.{missing_by_unread, lacks_missing, lacks_more, room_refused}
 use Rattle.buffer.proofs.Ways.{writes}
 use Rattle.answers.specs.declared.Answer.TheVariants.{Done, IoBufferOverflow}
 use Rattle.answers.specs.declared.Endpoint.{Endpoint}
@@ -33,7 +34,7 @@ use Rattle.wrapper.specs.Status.{status_bytes}
 use Rattle.wrapper.proofs.Csw.{length_status}
 use Rattle.packets.specs.declared.Received.{Received}
 use Rattle.packets.specs.Packets.{handed, read_answer, takes_one, brought, received, accepted, send_answer, sent_count, sent_off, sent_into, filled_up, status_written}
-use Rattle.packets.specs.Inner.Packets.{Reports, Reads, Sends}
+use Rattle.packets.specs.Inner.Packets.{Reads, Sends}
 
 -- ---- how much moves
 
@@ -47,13 +48,25 @@ moves_most e n h = rw h (by (serves e))
 
 -- These laws are about what the endpoint hands over.
 module _ (e : Endpoint) (packet : List ℕ) {b : Bool} (h : b ≡ serves e) where
-  pub handed_all : b ≡ true → packet ≡ handed e packet
+  pub handed_all : b ≡ true → length packet ≡ length (handed e packet)
   unfolding handed
   handed_all q = rw (← h, q)
 
-  pub handed_none : b ≡ false → take 0 packet ≡ handed e packet
+  pub handed_none : b ≡ false → 0 ≡ length (handed e packet)
   unfolding handed
   handed_none q = rw (← h, q)
+
+-- It hands over the first bytes of the packet.
+handed_first : (e : Endpoint) (packet : List ℕ) → take (length (handed e packet)) packet ≡ handed e packet
+unfolding handed
+handed_first e packet = by (serves e)
+  where
+    by : (b : Bool) → take (length (cond b packet [])) packet ≡ cond b packet []
+    by true = take-length packet
+    by false = refl
+
+pub handed_long : (e : Endpoint) (packet : List ℕ) {k : ℕ} → k ≡ length (handed e packet) → k ≡ length (take k packet)
+handed_long e packet h = rw h (sym (ap length (handed_first e packet)))
 
 pub handed_most : (e : Endpoint) (packet : List ℕ) (p : ℕ) → length packet ≤ p → length (handed e packet) ≤ p
 unfolding handed
@@ -65,33 +78,58 @@ handed_most e packet p h = by (serves e)
 
 -- ---- a read
 
-module _ (t : Put) (e : Endpoint) (n : ℕ) where
-  pub reports_room : t.missing ≡ 0 → {o : Answer} → answer_of o ≡ answered_by e → {v : Bool} → v ≡ serves e
-      → Reports t e n (record { answer = o; taken = v; count = n; marks = t.marks })
-  reports_room q ho hv = let none = eq-eqb _ _ q in record { answer = rw none ho; taken = rw none hv; count = rw none; marks = refl }
+some_if : (b : Bool) (n : ℕ) → then_some b n ≡ cond b (Some n) None
+some_if true n = refl
+some_if false n = refl
 
-  pub reports_none : (t.missing ≡ 0 → ⊥) → Reports t e n (record { answer = IoBufferOverflow t.missing; taken = false; count = 0; marks = t.marks })
-  reports_none q = let some = ne_eqb _ _ q in record { answer = rw some; taken = rw some; count = rw some; marks = refl }
+-- Room is asked for at least `p` bytes, and what is handed over is no more.
+module _ (p : ℕ) (e : Endpoint) (packet : List ℕ) (s : Buffer) (fits : length packet ≤ p) {k : ℕ} (hk : k ≡ length (handed e packet)) where
+  hy : take k packet ≡ handed e packet
+  hy = rw hk (handed_first e packet)
 
--- The code asks whether nothing is missing, and 01 whether room is too small.
-by_missing : {A : Type 0} (p : ℕ) (s : Buffer) (x y : A) → cond (eqb (missing p s) 0) x y ≡ cond (lacks_room p s) y x
-by_missing p s x y =
-    cases (eqb (missing p s) 0)
-    (λ e. rw (e, none_missing p s (eqb-true (missing p s) 0 e)))
-    (λ e. rw (e, some_missing p s (eqb-false (missing p s) 0 e)))
+  most : max p (length (take k packet)) ≡ p
+  most = rw hy (max-eq_left (handed_most e packet p fits))
 
-pub reads : (p : ℕ) (e : Endpoint) (packet : List ℕ) (s : Buffer) → length packet ≤ p → {ys : List ℕ} → ys ≡ handed e packet → {t : Put} {io : List ℕ} → t.missing ≡ missing (max p (length ys)) s
-    → Leaves (buffer io t.marks) (written_all p ys s) → {r : Received} → Reports t e (length ys) r → Reads p e packet s r io
-unfolding read_answer takes_one brought received
-reads p e packet s fits hy {t} hd hl x =
-    let most : max p (length (handed e packet)) ≡ p = max-eq_left (handed_most e packet p fits) in
-    let lacked : t.missing ≡ missing p s = rw (hy, most) at hd in
-    record {
-      answer = x.answer ∙ rw lacked (by_missing p s _ _);
-      taken = x.taken ∙ rw lacked (by_missing p s _ _);
-      count = x.count ∙ rw (lacked, hy) (by_missing p s _ _);
-      leaves = rw (x.marks, ← hy) hl;
-    }
+  pub reads_room : {m : Marks} {io : List ℕ} → WritesAll p (take k packet) s (Ok m) io → {o : Answer} → answer_of o ≡ answered_by e
+      → {v : Bool} → v ≡ serves e → {n : Option ℕ} → n ≡ then_some v k → Reads p e packet s (record { answer = o; brought = n; marks = m }) io
+  unfolding read_answer takes_one brought received
+  reads_room w ho hv hn =
+      let room : lacks_room p s ≡ false = rw most at w.0 in
+      record { answer = rw room ho; brought = rw (hn, hv, room, hk) (some_if (serves e) _); leaves = rw hy at w.1 }
+
+  pub reads_none : {o : Overflow} {io : List ℕ} → WritesAll p (take k packet) s (Err o) io
+      → Reads p e packet s (record { answer = IoBufferOverflow o.missing; brought = None; marks = o.marks }) io
+  unfolding read_answer takes_one brought received
+  reads_none w =
+      let full : lacks_room p s ≡ true = rw most at w.0 in
+      let lacked = rw most at w.1 in
+      record { answer = rw (full, lacked); brought = rw full; leaves = rw hy at w.2 }
+
+-- Whether a packet was taken, and how many bytes it brought.
+module _ (p : ℕ) (e : Endpoint) (packet : List ℕ) (s : Buffer) where
+  brought_none : takes_one p e s ≡ false → brought p e packet s ≡ 0
+  unfolding takes_one brought handed
+  brought_none = by (lacks_room p s) (serves e)
+    where
+      by : (full b : Bool) → cond full false b ≡ false → cond full 0 (length (cond b packet [])) ≡ 0
+      by true b h = refl
+      by false true h = absurd (true≢false h)
+      by false false h = refl
+
+  module _ {r : Received} {io : List ℕ} (x : Reads p e packet s r io) where
+    pub was_taken : is_some r.brought ≡ takes_one p e s
+    was_taken = rw x.brought (by (takes_one p e s))
+      where
+        by : (b : Bool) → is_some (cond b (Some (brought p e packet s)) None) ≡ b
+        by true = refl
+        by false = refl
+
+    pub was_brought : unwrap_or r.brought 0 ≡ brought p e packet s
+    was_brought = rw x.brought (by (takes_one p e s) brought_none)
+      where
+        by : (b : Bool) → (b ≡ false → brought p e packet s ≡ 0) → unwrap_or (cond b (Some (brought p e packet s)) None) 0 ≡ brought p e packet s
+        by true h = refl
+        by false h = sym (h refl)
 
 -- What a read answers is true of the room that it leaves.
 pub read_lacks : (p : ℕ) (e : Endpoint) (packet : List ℕ) (s : Buffer) → Sound s → Lacks p (room_in_all (received p e packet s)) (read_answer p e s)
@@ -165,23 +203,26 @@ module _ (p : ℕ) (e : Endpoint) (s : Buffer) where
         let serving : serves e ≡ true = sym h ∙ q in
         record { answer = sym (answer_served e (unread s) serving); count = rw serving hk; leaves = rw serving hl; into = rw serving hp }
 
-    pub sends_unserved : {o : Answer} → b ≡ false → Sound s → answer_of o ≡ send_answer e (unread s) → Sends p e s packet (record { answer = o; count = 0; marks = s.marks }) packet
-    sends_unserved q g ho =
+    pub sends_unserved : {o : Answer} {n : ℕ} → b ≡ false → Sound s → n ≡ unread s → answer_of o ≡ send_answer e n → Sends p e s packet (record { answer = o; count = 0; marks = s.marks }) packet
+    sends_unserved q g hu ho =
         let none = sent_unserved (sym h ∙ q) in
-        record { answer = ho; count = sym none; leaves = record { same = sym (off_nothing none); sound = g }; into = sym (into_nothing none packet) }
+        record { answer = rw hu at ho; count = sym none; leaves = record { same = sym (off_nothing none); sound = g }; into = sym (into_nothing none packet) }
 
 -- ---- what is written before
 
 module _ (p : ℕ) (left : Left) (s : Buffer) {w : ℕ} (hw : w ≡ min left.0 p) where
-  pub fills_up : {t : Buffer} → Leaves t (filled 0xFF (w - unread s) s) → Leaves t (filled_up p left s)
+  pub fills_up : {have : ℕ} → have ≡ unread s → {t : Buffer} → Leaves t (filled 0xFF (w - have) s) → Leaves t (filled_up p left s)
   unfolding filled_up
-  fills_up h = rw hw at h
+  fills_up hu h = rw (hw, hu) at h
 
   pub fills_none : Sound s → w ≤ unread s → Leaves s (filled_up p left s)
   unfolding filled_up
   fills_none g h =
       let none : min left.0 p - unread s ≡ 0 = omega arith in
       record { same = rw (none, filled_none 0xFF s); sound = g }
+
+  pub fills_not : {have : ℕ} → have ≡ unread s → Sound s → w ≤ have → Leaves s (filled_up p left s)
+  fills_not hu g h = fills_none g (rw hu at h)
 
 -- In an empty buffer there is nothing to move, so asking for room changes nothing.
 room_in_empty : (n : ℕ) (io : List ℕ) → with_room n (buffer io (at 0 0)) ≡ buffer io (at 0 0)
@@ -206,4 +247,4 @@ puts_status tag residue status io {b} {k} eb ek =
     (writes ys k s s sound (record { same = sym (room_in_empty (length ys) io); sound = sound }) (rw sub-zero fits) b
     (eb ∙ ap (overlay io 0) (take_most (length io) ys ∙ ap (λ (n : ℕ). take n ys) (sym fits))))
 
-pub ruleset ways = (handed_all, handed_none, reports_room, reports_none, reads, sends_nothing, sends_something, sends_served, sends_unserved, fills_up, fills_none, puts_status)
+pub ruleset ways = (handed_all, handed_none, reads_room, reads_none, sends_nothing, sends_something, sends_served, sends_unserved, fills_up, fills_not, puts_status)

@@ -1,9 +1,9 @@
 -- No second answer satisfies a promise, and no second content of the slice that a function may write to. `Post` is the contract itself,
 -- as the check reads it. Assumes nothing.
 use mathlib.Core.Path.{◌≡◌, sym, ap, ◌∙◌}
-use mathlib.Core.Bool.{Bool}
 use mathlib.Core.List.{List}
 use Prim.Native.Nat.{ℕ}
+use Rattle.std.specs.Prelude.{Option}
 use Rattle.fields.proofs.Only.{Only}
 use Rattle.buffer.specs.declared.Marks.{Marks}
 use Rattle.buffer.specs.Buffer.{Buffer}
@@ -24,8 +24,8 @@ use Rattle.packets.proofs.put_status.Kinds as put-status-kinds
 use Rattle.packets.proofs.put_status.Reads as put-status
 
 -- A record is determined by its parts.
-abbrev received : Answer → Bool → ℕ → Marks → Received
-received o t n m = record { answer = o; taken = t; count = n; marks = m }
+abbrev received : Answer → Option ℕ → Marks → Received
+received o n m = record { answer = o; brought = n; marks = m }
 
 abbrev sent : Answer → ℕ → Marks → Sent
 sent o n m = record { answer = o; count = n; marks = m }
@@ -33,10 +33,9 @@ sent o n m = record { answer = o; count = n; marks = m }
 read_once : (p : ℕ) (e : Endpoint) (packet : List ℕ) (s : Buffer) (x y : Received) {b c : List ℕ} → Reads p e packet s x b → Reads p e packet s y c → (x ≡ y) × (b ≡ c)
 read_once p e packet s x y k l =
     let m = left_once k.leaves l.leaves in (
-      ap (λ (z : Answer). received z x.taken x.count x.marks) (answer_once x.answer y.answer k.answer l.answer)
-          ∙ ap (λ (z : Bool). received y.answer z x.count x.marks) (k.taken ∙ sym l.taken)
-          ∙ ap (λ (z : ℕ). received y.answer y.taken z x.marks) (k.count ∙ sym l.count)
-          ∙ ap (received y.answer y.taken y.count) m.0,
+      ap (λ (z : Answer). received z x.brought x.marks) (answer_once x.answer y.answer k.answer l.answer)
+          ∙ ap (λ (z : Option ℕ). received y.answer z x.marks) (k.brought ∙ sym l.brought)
+          ∙ ap (received y.answer y.brought) m.0,
       m.1,
     )
 

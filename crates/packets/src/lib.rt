@@ -1,28 +1,26 @@
 // One packet is read into the IO buffer or sent from it; before a send the buffer may be filled up or get the status.
-#![tactic(auto)]
+#![tactic(auto, using(crate::proofs::Laws::ways))]
 
 ghost use Rattle.std.specs.Prelude.{◌≡◌, ◌≤◌, length};
 ghost use Rattle.buffer.specs.Buffer.{buffer, at};
 ghost use Rattle.buffer.specs.Inner.Buffer.{Sound, Leaves};
 ghost use Rattle.answers.specs.Answers.{answer_of};
 ghost use Rattle.wrapper.specs.Status.{status_number};
-ghost use Rattle.packets.specs.Packets.{send_answer, filled_up, status_written};
-ghost use Rattle.packets.specs.Inner.Packets.{Reports, Reads, Sends};
+ghost use Rattle.packets.specs.Packets.{handed, send_answer, filled_up, status_written};
+ghost use Rattle.packets.specs.Inner.Packets.{Reads, Sends};
 
 use answers::{Answer, Endpoint, answered, served};
-use buffer::marked::Put;
+use buffer::marked::{Overflow, Taken};
 use buffer::{Marks, marked};
-use fields::least;
 use wrapper::counters::{Left, Residue};
 use wrapper::in_status;
 use wrapper::status::CommandStatus;
 
-// After OUT was asked for a packet, these are the answer, whether a packet was taken, how many bytes it brought, and the marks.
+// After OUT was asked for a packet, these are the answer, how many bytes the packet brought if one was taken, and the marks.
 #[derive(Clone, Copy)]
 pub struct Received {
     pub answer: Answer,
-    pub taken: bool,
-    pub count: usize,
+    pub brought: Option<usize>,
     pub marks: Marks,
 }
 
@@ -34,25 +32,11 @@ pub struct Sent {
     pub marks: Marks,
 }
 
-// A read reports this after room was asked for: `t` is what came of that, and `n` bytes were put in if there was room.
-fn reported(t: Put, out: Endpoint, n: usize) -> Received
-    ensures { Reports t out n result }
+// The endpoint hands over this many bytes of the `packet` that it offers: all if it does its part, and none otherwise.
+fn handed(out: Endpoint, packet: &[u8]) -> usize
+    ensures { result ≡ length (handed out packet.now) }
 {
-    let marks = t.marks;
-    if t.missing == 0 {
-        return Received {
-            answer: answered(out),
-            taken: served(out),
-            count: n,
-            marks: marks,
-        };
-    }
-    Received {
-        answer: Answer::IoBufferOverflow(t.missing),
-        taken: false,
-        count: 0,
-        marks: marks,
-    }
+    if served(out) { packet.len() } else { 0 }
 }
 
 // One packet is read from OUT. Room for `p` bytes is asked for before the endpoint is, so the unread bytes may move even if OUT is busy.
@@ -60,12 +44,19 @@ pub fn read_packet(io: &mut [u8], m: Marks, p: usize, out: Endpoint, packet: &[u
     requires { Sound (buffer io.old m) × (length packet.now ≤ p) }
     ensures { Reads p out packet.now (buffer io.old m) result io.new }
 {
-    if served(out) {
-        let t = marked::write_all(io, m, p, packet);
-        return reported(t, out, packet.len());
+    let count = handed(out, packet);
+    match marked::write_all(io, m, p, &packet[..count]) {
+        Ok(marks) => Received {
+            answer: answered(out),
+            brought: served(out).then_some(count),
+            marks,
+        },
+        Err(Overflow { missing, marks }) => Received {
+            answer: Answer::IoBufferOverflow(missing),
+            brought: None,
+            marks,
+        },
     }
-    let t = marked::write_all(io, m, p, &packet[..0]);
-    reported(t, out, 0)
 }
 
 // With nothing unread the endpoint is not asked, and the answer is 0.
@@ -84,16 +75,15 @@ pub fn send_packet(io: &[u8], m: Marks, p: usize, e: Endpoint, packet: &mut [u8]
     ensures { Sends p e (buffer io.now m) packet.old result packet.new }
 {
     if served(e) {
-        let t = marked::read(io, m, p, packet);
-        let marks = t.marks;
+        let Taken { count, marks } = marked::read(io, m, p, packet);
         return Sent {
             answer: Answer::Done,
-            count: t.count,
-            marks: marks,
+            count,
+            marks,
         };
     }
     Sent {
-        answer: send_answer(m.write - m.read, e),
+        answer: send_answer(m.unread(), e),
         count: 0,
         marks: m,
     }
@@ -104,11 +94,10 @@ pub fn fill(io: &mut [u8], m: Marks, p: usize, left: Left) -> Marks
     requires { Sound (buffer io.old m) }
     ensures { Leaves (buffer io.new result) (filled_up p left (buffer io.old m)) }
 {
-    let want = least(left.0 as usize, p);
-    let have = m.write - m.read;
+    let want = (left.0 as usize).min(p);
+    let have = m.unread();
     if have < want {
-        let t = marked::fill_up_to(io, m, 0xFF, want - have);
-        return t.marks;
+        return marked::fill_up_to(io, m, 0xFF, want - have).marks;
     }
     m
 }
@@ -117,7 +106,7 @@ pub fn fill(io: &mut [u8], m: Marks, p: usize, left: Left) -> Marks
 pub fn put_status(io: &mut [u8], tag: u32, residue: Residue, status: CommandStatus) -> Marks
     ensures { Leaves (buffer io.new result) (status_written tag residue (status_number status) (buffer io.old (at 0 0))) }
 {
-    let n = least(io.len(), in_status::SIZE);
+    let n = io.len().min(in_status::SIZE);
     wrapper::status::put_status(io, tag, residue, status);
     Marks { read: 0, write: n }
 }

@@ -11,10 +11,10 @@ ghost use Rattle.pollbytes.specs.Inner.Short.{PollsOrStays};
 use bbb::Turn;
 use fields::byte;
 use onward::ending::{end_on, ends_on};
-use onward::{send_on, sends_on, take_on, takes_on};
+use onward::{Lengths, send_on, sends_on, take_on, takes_on};
 use recordbytes::{in_record, numbers_at};
 
-// Looks for a poll in the middle of a transfer, and makes it. The answer 0, which is no such poll's, says that it was not made.
+// Looks for a poll in the middle of a transfer, and makes it. Without a result it was not made.
 fn onward_poll(
     record: &mut [u8],
     io: &mut [u8],
@@ -22,38 +22,32 @@ fn onward_poll(
     one: &[u8],
     two: &[u8],
     turn: Turn,
-) -> u64
+) -> Option<u64>
     requires { length «record».old ≡ record_size }
     ensures { PollsOrStays «record».old io.old (given packet.old one.now two.now turn) result «record».new io.new packet.new }
 {
+    let lent = Lengths {
+        io: io.len(),
+        packet: packet.len(),
+        one: one.len(),
+        two: two.len(),
+    };
     if byte(record, in_record::STATE) == 7 {
-        if takes_on(
-            record,
-            io.len(),
-            packet.len(),
-            one.len(),
-            two.len(),
-            turn.first,
-        ) {
+        if takes_on(record, lent, turn.first) {
             return take_on(record, numbers_at(record), io, one);
         }
-        return 0;
+        return None;
     }
-    if sends_on(
-        record,
-        io.len(),
-        packet.len(),
-        one.len(),
-        two.len(),
-        turn.write,
-    ) {
+    if sends_on(record, lent, turn.write) {
         return send_on(record, numbers_at(record), io, packet);
     }
-    0
+    None
 }
 
-// Makes any other poll: the one that sends the status by a way of its own, and the rest by the ring. It takes the answers one by one: then
-// `poll` hands on its parameters as they are, and goes here by a jump.
+// Makes any other poll: the one that sends the status by a way of its own, and the rest by the ring. It is never put into its caller, where
+// the short way would then save all registers for it. It takes the answers one by one, since a struct would go by a pointer to it.
+#[cold]
+#[inline(never)]
 fn other_poll(
     record: &mut [u8],
     io: &mut [u8],
@@ -66,26 +60,24 @@ fn other_poll(
 ) -> u64
     ensures { poll_outcome result «record».new io.new packet.new ≡ poll_on «record».old io.old (given packet.old one.now two.now (record { first = first; second = second; write = write })) }
 {
-    if ends_on(record, io.len(), packet.len(), one.len(), two.len(), write) {
+    let lent = Lengths {
+        io: io.len(),
+        packet: packet.len(),
+        one: one.len(),
+        two: two.len(),
+    };
+    if ends_on(record, lent, write) {
         return end_on(record, io, packet);
     }
-    ringbytes::poll(
-        record,
-        io,
-        packet,
-        &one[..],
-        &two[..],
-        Turn {
-            first: first,
-            second: second,
-            write: write,
-        },
-    )
+    let turn = Turn {
+        first,
+        second,
+        write,
+    };
+    ringbytes::poll(record, io, packet, one, two, turn)
 }
 
 // Looks first for a poll in the middle of a transfer, since most polls are; these are never refused with 10 or 11.
-// A record of another length is refused with 10 by a call of its own, with nothing offered. A function that is called once is always put
-// into its caller, and the short way would then save all registers for the long one: 18 instructions a poll more on x86-64.
 pub fn poll(
     record: &mut [u8],
     io: &mut [u8],
@@ -96,19 +88,17 @@ pub fn poll(
 ) -> u64
     ensures { poll_outcome result «record».new io.new packet.new ≡ poll_on «record».old io.old (given packet.old one.now two.now turn) }
 {
-    if record.len() != in_record::SIZE {
-        return other_poll(record, io, packet, &one[..0], &two[..0], 0, 0, 0);
-    }
-    let made = onward_poll(record, io, packet, one, two, turn);
-    if made != 0 {
-        return made;
+    if record.len() == in_record::SIZE {
+        if let Some(made) = onward_poll(record, io, packet, one, two, turn) {
+            return made;
+        }
     }
     other_poll(
         record,
         io,
         packet,
-        &one[..],
-        &two[..],
+        one,
+        two,
         turn.first,
         turn.second,
         turn.write,

@@ -7,6 +7,7 @@ use Prim.Native.Nat.{ℕ, ◌+◌, ◌-◌, ◌≤◌, ◌<◌}
 use native.Mathlib.Omega.{arith}
 use lib.ListN.{length, drop, length-append}
 use lib.Seq.{drop_at}
+use Rattle.std.specs.Prelude.{Some}
 use Rattle.fields.proofs.Seq.{none_of}
 use Rattle.buffer.proofs.Kept.{length_unread}
 use Rattle.wrapper.specs.declared.DataDirection.{DataDirection}
@@ -17,8 +18,7 @@ use Rattle.wrapper.specs.Status.{status_of_number}
 use Rattle.wrapper.proofs.Csw.{length_status}
 use Rattle.wrapper.proofs.Numbers.{status_number_lem}
 use Rattle.device.specs.declared.Device.{Device}
-use Rattle.device.specs.declared.Status.TheVariants.{Present}
-use Rattle.device.specs.Device.{numbers_of}
+use Rattle.device.specs.Device.{numbers_of, told}
 use Rattle.device.proofs.Wholly.{whole_sound, packet_known, packet_bounds}
 use Rattle.bbb.specs.Poll.{Given}
 use Rattle.calls.specs.Checks.{buffer_of}
@@ -111,9 +111,9 @@ module _ (p : Script) (u : Supposed (played p)) where
   unfolding shows
   told_is = here.device
 
-  told_status : (after_status t).device.status ≡ Present (status_of_number t.last_status.status) (residue_of (L t) t.last_status.figure)
+  told_status : (after_status t).device.status ≡ Some (told (status_of_number t.last_status.status) (residue_of (L t) t.last_status.figure))
   unfolding with_figure
-  told_status = ap (λ (d : Device). d.status) told_is ∙ ap (λ (w : Wrapper). Present (status_of_number t.last_status.status) (residue_of w.length t.last_status.figure)) arrived_there.wrapper
+  told_status = ap (λ (d : Device). d.status) told_is ∙ ap (λ (w : Wrapper). Some (told (status_of_number t.last_status.status) (residue_of w.length t.last_status.figure))) arrived_there.wrapper
 
   -- What is due when the status has come.
   told_due : due (after_status t) ≡ polls_due t
@@ -142,7 +142,7 @@ module _ (p : Script) (u : Supposed (played p)) where
   -- What holds at the end of a story with fewer served polls than the number: the invariant, the status, and what is still due.
   record Sum : Type 0 where
     transfer : Transfer (wrapper t) (P t) (host t) (firmware t) (ended t)
-    status : (ended t).device.status ≡ Present (status_of_number t.last_status.status) (residue_of (L t) t.last_status.figure)
+    status : (ended t).device.status ≡ Some (told (status_of_number t.last_status.status) (residue_of (L t) t.last_status.figure))
     count : due (ended t) + served_since t ≡ polls_due t
 
   sum : served_since t < polls_due t → Sum
@@ -180,7 +180,7 @@ module _ (p : Script) (u : Supposed (played p)) where
   -- ---- what is promised
 
   -- The status that is promised is the one that is present.
-  the_status_lem : bytes_for (wrapper t).tag (Present (status_of_number t.last_status.status) (residue_of (L t) t.last_status.figure)) ≡ the_status t
+  the_status_lem : bytes_for (wrapper t).tag (Some (told (status_of_number t.last_status.status) (residue_of (L t) t.last_status.figure))) ≡ the_status t
   the_status_lem = rw (status_number_lem t.last_status.status here.byte)
 
   positive : 0 < P t
@@ -192,7 +192,7 @@ module _ (p : Script) (u : Supposed (played p)) where
       let k : Device = (ended t).device in
       let more : 0 < due (ended t) = omega (arith, z.count) in
       let o : Owes (wrapper t) (host t) (firmware t) k.status =
-      owes (wrapper t) (host t) (firmware t) k.fixed.packetsize (rw z.transfer.packetsize positive) k.state k.status k.left.0 (unread_in (ended t)) _ _ z.status z.transfer.phase more in
+      owes (wrapper t) (host t) (firmware t) k.fixed.packetsize (rw z.transfer.packetsize positive) k.state k.status k.left.0 (unread_in (ended t)) _ z.status z.transfer.phase more in
       record { rest = o.rest; some = o.some; prefix = o.whole ∙ rw (z.status, the_status_lem) }
 
   ends : served_since t + 1 ≡ polls_due t → (g : Given) → Later (poll g) (ended t) (shows (poll g) (ended t)) → is_served (shows (poll g) (ended t)).answer ≡ true → Ends t (shows (poll g) (ended t))
@@ -203,10 +203,10 @@ module _ (p : Script) (u : Supposed (played p)) where
       let st : StepsBy (wrapper t) (P t) (host t) (firmware t) (poll g) e =
       event_steps (wrapper t) (P t) (host t) (firmware t) u.few e z.transfer (omega (arith, z.count)) (poll g) later.no_reset in
       let o : Socket = next (poll g) e in
-      let same : o.device.status ≡ Present (status_of_number t.last_status.status) (residue_of (L t) t.last_status.figure) = st.status later.no_status ∙ z.status in
+      let same : o.device.status ≡ Some (told (status_of_number t.last_status.status) (residue_of (L t) t.last_status.figure)) = st.status later.no_status ∙ z.status in
       let none_due : due o ≡ 0 = omega (arith, rw does at (st.count (rw z.status) later.full), z.count) in
       let r : Rests (wrapper t) (host t ++ (shows (poll g) e).sent) (firmware t ++ (shows (poll g) e).put) o.device.state o.device.status (unread_in o) =
-      rests (wrapper t) _ _ o.device.fixed.packetsize (rw st.transfer.packetsize positive) o.device.state o.device.status o.device.left.0 (unread_in o) _ _ same st.transfer.phase none_due in
+      rests (wrapper t) _ _ o.device.fixed.packetsize (rw st.transfer.packetsize positive) o.device.state o.device.status o.device.left.0 (unread_in o) _ same st.transfer.phase none_due in
       let bytes : host t ++ (shows (poll g) e).sent ≡ the_data t ++ the_status t =
       r.whole ∙ ap₂ (λ (ys zs : List ℕ). data_of (wrapper t).direction (L t) ys ++ zs) (ap (λ (l : List ℕ). firmware t ++ l) (poll_puts g e) ∙ append-nil (firmware t)) (ap (bytes_for (wrapper t).tag) same ∙ the_status_lem) in
       record {

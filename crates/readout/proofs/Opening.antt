@@ -8,6 +8,7 @@ use native.Mathlib.Nat.{add-zero}
 use native.Mathlib.Omega.{arith}
 use lib.ListN.{length, take, drop, length-append, drop_of_length-le}
 use lib.Seq.{take_all}
+use Rattle.std.specs.Prelude.{Option}
 use Rattle.fields.proofs.Bools.{clash}
 use Rattle.buffer.specs.Buffer.{unread, unread_bytes, lacks_room}
 use Rattle.buffer.proofs.Kept.{length_unread}
@@ -19,7 +20,7 @@ use Rattle.wrapper.specs.declared.DataDirection.TheVariants.{Out, In, NotExpecte
 use Rattle.wrapper.specs.declared.Wrapper.{Wrapper}
 use Rattle.wrapper.specs.Wrapper.{Valid, wrapper_of}
 use Rattle.wrapper.proofs.Cbw.{valid_is, no_data_only}
-use Rattle.device.specs.declared.Status.{Status}
+use Rattle.device.specs.declared.Told.{Told}
 use Rattle.device.specs.Device.{numbers_of, is_present}
 use Rattle.device.specs.Broken.{status_fits, Whole}
 use Rattle.bbb.specs.Poll.{Given, Polling, Point, buffer_of_point, no_data_rule, to_host_rule, from_host_rule, starting, start_rule, message_at, parsing, parse_rule, refusing, poll_rule, poll_call}
@@ -32,14 +33,14 @@ use Rattle.readout.proofs.Rules.{bytes_of, packets_of, poll_long, owing, Fit, Le
 use Rattle.readout.proofs.Waiting.{Arriving, From, from_count, Reads, idle, short, ripe, ripe_first, by_reading}
 
 -- Without a status the device is in a state in which one is taken.
-absent_takes : {w : Wrapper} {got put : List ℕ} {σ : State} {st : Status} {left : ℕ} {xs : List ℕ} → Phase w got put σ st left xs → is_present st ≡ false → status_fits σ (is_present st) ≡ true → takes_status (state_number σ) ≡ true
+absent_takes : {w : Wrapper} {got put : List ℕ} {σ : State} {st : Option Told} {left : ℕ} {xs : List ℕ} → Phase w got put σ st left xs → is_present st ≡ false → status_fits σ (is_present st) ≡ true → takes_status (state_number σ) ≡ true
 unfolding takes_status
 absent_takes (to_host e dir same sum) absent fits = rw e
 absent_takes (waiting e none all) absent fits = rw e
 absent_takes (to_host_ending e dir all few) absent fits = absurd (clash (sym (rw (e, absent) at fits)))
 absent_takes (from_host e dir none) absent fits = rw e
 absent_takes (from_host_ending e dir none) absent fits = absurd (clash (sym (rw (e, absent) at fits)))
-absent_takes (sending s r e here all) absent fits = absurd (clash (sym (rw (e, absent) at fits)))
+absent_takes (sending t e here all) absent fits = absurd (clash (sym (rw (e, absent) at fits)))
 
 -- ---- after the packet that completed it
 
@@ -77,7 +78,7 @@ module _ (m : List ℕ) (g : Given) where
   record Begins (o : Polling) : Type 0 where
     n : ℕ
     p : ℕ
-    status : Status
+    status : Option Told
     absent : is_present status ≡ false
     leads : Leads (wrapper_of (m ++ first_packet_of (packets_of g o))) [] [] g 1 p status (wrapper_of (m ++ first_packet_of (packets_of g o))).length n o
 

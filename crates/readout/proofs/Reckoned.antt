@@ -11,12 +11,12 @@ use native.Mathlib.Omega.{arith}
 use lib.Dec.{lit<}
 use lib.ListN.{length, replicate, length-append}
 use borrow.Author.Tests.{eqb-false, ne_eqb, le-leb, leb-true}
+use Rattle.std.specs.Prelude.{None}
 use Rattle.buffer.specs.Buffer.{at}
 use Rattle.ring.specs.declared.State.TheVariants.{DataTransferToHost}
 use Rattle.wrapper.specs.declared.counters.PutIn.{PutIn}
 use Rattle.wrapper.specs.Counters.{risen}
 use Rattle.wrapper.specs.Wrapper.{wrapper_of}
-use Rattle.device.specs.declared.Status.TheVariants.{Absent}
 use Rattle.bbb.specs.Poll.{Given, given}
 use Rattle.device.specs.Create.{fixed}
 use Rattle.calls.specs.Data.{write_all_in}
@@ -101,7 +101,7 @@ rounds (suc k) = write_all zeros ∷ poll (sending 64) ∷ rounds k
 
 -- The socket between two packets, with `left` bytes left and the count `c`.
 abbrev between : ℕ → PutIn → Socket
-between left c = socket (record { fixed = fixed 64 0 64; state = DataTransferToHost; marks = at 64 64; wrapper = wrapper_of longest; status = Absent; left = record { 0 = left }; putin = c }) zeros
+between left c = socket (record { fixed = fixed 64 0 64; state = DataTransferToHost; marks = at 64 64; wrapper = wrapper_of longest; status = None; left = record { 0 = left }; putin = c }) zeros
 
 -- A packet is put in and sent.
 round : (left : ℕ) (c : PutIn) → 64 ≤ left → next (poll (sending 64)) (next (write_all zeros) (between left c)) ≡ between (left - 64) (risen c 64)

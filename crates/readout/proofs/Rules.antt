@@ -11,6 +11,7 @@ use borrow.Table.Steps.{cases}
 use borrow.Author.Tests.{eqb-true, eqb-false, le-ltb}
 use lib.ListN.{length, take, drop, replicate, length-append, length-replicate}
 use lib.Seq.{length-take-le}
+use Rattle.std.specs.Prelude.{Option, None, Some}
 use Rattle.fields.proofs.Bools.{of_picked, clash}
 use Rattle.fields.proofs.Seq.{none_of}
 use Rattle.buffer.specs.Buffer.{Buffer, buffer, at, unread, unread_bytes, lacks_room}
@@ -24,15 +25,12 @@ use Rattle.ring.specs.declared.State.TheVariants.{StatusTransfer, DataTransferTo
 use Rattle.ring.specs.States.{state_number}
 use Rattle.wrapper.specs.declared.DataDirection.TheVariants.{Out, In}
 use Rattle.wrapper.specs.declared.Wrapper.{Wrapper}
-use Rattle.wrapper.specs.declared.counters.Residue.{Residue}
-use Rattle.wrapper.specs.declared.status.CommandStatus.{CommandStatus}
 use Rattle.wrapper.specs.Counters.{fallen}
 use Rattle.wrapper.specs.Status.{status_number, status_bytes}
 use Rattle.wrapper.proofs.Csw.{length_status}
 use Rattle.packets.specs.Packets.{handed, takes_one, brought}
 use Rattle.device.specs.declared.Device.{Device}
-use Rattle.device.specs.declared.Status.{Status}
-use Rattle.device.specs.declared.Status.TheVariants.{Absent, Present}
+use Rattle.device.specs.declared.Told.{Told}
 use Rattle.device.specs.Device.{numbers_of, is_present}
 use Rattle.device.specs.Broken.{Whole}
 use Rattle.bbb.specs.Poll.{Given, Polling, Point, buffer_of_point, reaching, leaving, ends, send_by, send, send_status, send_data, offered_packet, take_by, take_data, enter_status, status_await_rule, to_host_ending_rule, falls_short, to_host_rule, from_host_ending_rule, from_host_rule, poll_rule, Fits}
@@ -72,7 +70,7 @@ later_bytes n g o = flatten (drop n (packets_of g o))
 
 -- Where a poll leads whose outcome is `o`. Before its rule, `k` packets were taken, P was `p`, the status was `st`, `left` bytes were
 -- left, and `n` served polls were due.
-pub record Leads (w : Wrapper) (got put : List ℕ) (g : Given) (k p : ℕ) (st : Status) (left n : ℕ) (o : Polling) : Type 0 where
+pub record Leads (w : Wrapper) (got put : List ℕ) (g : Given) (k p : ℕ) (st : Option Told) (left n : ℕ) (o : Polling) : Type 0 where
   pub wrapper : o.device.wrapper ≡ w
   pub status : o.device.status ≡ st
   pub phase : Phase w (got ++ bytes_of o) put o.device.state o.device.status o.device.left.0 (unread_bytes (buffer_after o))
@@ -131,8 +129,8 @@ module _ (w : Wrapper) (got put : List ℕ) (g : Given) where
   -- ---- 3
 
   -- a packet of the status goes out
-  module _ (x : Point) (fit : Fit w x) (s : CommandStatus) (r : Residue) (here : x.device.status ≡ Present s r) (in3 : x.device.state ≡ StatusTransfer)
-      (all : got ++ unread_bytes (buffer_of_point x) ≡ data_of w.direction w.length put ++ status_bytes w.tag r (status_number s)) (some : 0 < length (unread_bytes (buffer_of_point x))) where
+  module _ (x : Point) (fit : Fit w x) (t : Told) (here : x.device.status ≡ Some t) (in3 : x.device.state ≡ StatusTransfer)
+      (all : got ++ unread_bytes (buffer_of_point x) ≡ data_of w.direction w.length put ++ status_bytes w.tag t.residue (status_number t.status)) (some : 0 < length (unread_bytes (buffer_of_point x))) where
     status_falls : Long (send_status g x) → ceiling (length (unread_bytes (buffer_after (send_status g x)))) (P x) + one (send_status g x) ≡ ceiling (length (unread_bytes (buffer_of_point x))) (P x)
     unfolding is_served
     status_falls long =
@@ -151,7 +149,7 @@ module _ (w : Wrapper) (got put : List ℕ) (g : Given) where
     leads_status long = record {
       wrapper = fit.wrapper;
       status = refl;
-      phase = sending s r in3 here (append_assoc got (bytes_of (send_status g x)) _ ∙ ap (λ (ys : List ℕ). got ++ ys) (send_unread false g x fit.sound) ∙ all);
+      phase = sending t in3 here (append_assoc got (bytes_of (send_status g x)) _ ∙ ap (λ (ys : List ℕ). got ++ ys) (send_unread false g x fit.sound) ∙ all);
       count = λ _ _. rw in3 (status_falls long);
       wire = λ takes. absurd (clash (sym (rw in3 at takes)));
     }
@@ -164,15 +162,15 @@ module _ (w : Wrapper) (got put : List ℕ) (g : Given) where
         let long : length (stated x).io ≡ length x.io = (follows_status x.device.wrapper.tag x.device.status (buffer_of_point x)).long in
         record { sound = stated_sound x; some = fit.some; packet = rw long fit.packet; status = rw long fit.status; wrapper = fit.wrapper }
 
-    leads_enter : (st : Status) → x.device.status ≡ st → is_present st ≡ true → Goes x (owing x) (enter_status g x)
+    leads_enter : (st : Option Told) → x.device.status ≡ st → is_present st ≡ true → Goes x (owing x) (enter_status g x)
     unfolding enter_status
-    leads_enter Absent here present long = absurd (clash (sym present))
-    leads_enter (Present s r) here present long =
-        let put_in : unread_bytes (buffer_of_point (stated x)) ≡ status_bytes w.tag r (status_number s) = stated_unread x s r here fit.status ∙ ap (λ (v : Wrapper). status_bytes v.tag r (status_number s)) fit.wrapper in
-        let thirteen : length (unread_bytes (buffer_of_point (stated x))) ≡ 13 = ap length put_in ∙ length_status w.tag r (status_number s) in
+    leads_enter None here present long = absurd (clash (sym present))
+    leads_enter (Some t) here present long =
+        let put_in : unread_bytes (buffer_of_point (stated x)) ≡ status_bytes w.tag t.residue (status_number t.status) = stated_unread x t here fit.status ∙ ap (λ (v : Wrapper). status_bytes v.tag t.residue (status_number t.status)) fit.wrapper in
+        let thirteen : length (unread_bytes (buffer_of_point (stated x))) ≡ 13 = ap length put_in ∙ length_status w.tag t.residue (status_number t.status) in
         let n : ceiling (length (unread_bytes (buffer_of_point (stated x)))) (P x) ≡ owing x = rw (thirteen, none, ceiling_none (P x) fit.some) (sym (zero-add _)) in
         subst (λ (k : ℕ). Leads w got put g x.taken (P x) x.device.status x.device.left.0 k (enter_status g x)) n
-        (leads_status (stated x) fit_stated s r here refl (rw (put_in, all)) (omega arith) long)
+        (leads_status (stated x) fit_stated t here refl (rw (put_in, all)) (omega arith) long)
 
     leads_wait : is_present x.device.status ≡ false → Goes x (owing x) (ends g (reaching DataTransferToHostStatusAwait x) (answer 0))
     leads_wait absent long = record { wrapper = fit.wrapper; status = refl; phase = waiting refl none (append-nil got ∙ all); count = λ present. absurd (clash (sym present ∙ absent)); wire = λ _. still x.device.left.0 (no_later g x.taken) }

@@ -11,6 +11,7 @@ use borrow.Author.Tests.{ne_eqb, eqb-true, eqb-false}
 use borrow.Table.Steps.{cases}
 use lib.ListN.{length, take}
 use lib.Seq.{take-take, take-length}
+use Rattle.std.specs.Prelude.{Option}
 use Rattle.fields.proofs.Bools.{clash}
 use Rattle.buffer.specs.Buffer.{unread, unread_bytes, lacks_room}
 use Rattle.buffer.proofs.Kept.{length_unread}
@@ -19,7 +20,7 @@ use Rattle.ring.specs.declared.State.TheVariants.{StatusTransfer, DataTransferTo
 use Rattle.ring.specs.States.{state_number}
 use Rattle.wrapper.specs.declared.Wrapper.{Wrapper}
 use Rattle.device.specs.declared.Device.{Device}
-use Rattle.device.specs.declared.Status.{Status}
+use Rattle.device.specs.declared.Told.{Told}
 use Rattle.device.specs.Device.{numbers_of, is_present, with_marks, with_put_in}
 use Rattle.device.specs.Broken.{Whole}
 use Rattle.device.proofs.Wholly.{whole_sound, wrapper_fits, packet_fits, packet_known, packet_bounds}
@@ -112,7 +113,7 @@ module _ (w : Wrapper) (p : ℕ) (got put : List ℕ) (few : length put ≤ w.le
     rule_leads σ (to_host_ending e dir all few') at-σ = rw e (leads_to_ending w got put g start fit dir all few' (rw (at-σ, e) at t.whole.status))
     rule_leads σ (from_host e dir none) at-σ = rw e (leads_from w got put g start fit dir none (λ _. refl) zero-le fits.first)
     rule_leads σ (from_host_ending e dir none) at-σ = rw e (leads_from_ending w got put g start fit dir none refl fits.first (rw (at-σ, e) at t.whole.status))
-    rule_leads σ (sending st r e here all) at-σ = rw e (in_3 (at-σ ∙ e) (leads_status w got put g start fit st r here (at-σ ∙ e) all (unread_some (at-σ ∙ e))))
+    rule_leads σ (sending t e here all) at-σ = rw e (in_3 (at-σ ∙ e) (leads_status w got put g start fit t here (at-σ ∙ e) all (unread_some (at-σ ∙ e))))
 
     poll_leads : GoesOn (poll_rule s.device s.io g)
     unfolding poll_rule
@@ -150,14 +151,14 @@ module _ (w : Wrapper) (p : ℕ) (got put : List ℕ) (s : Socket) (t : Transfer
   unchanged n stalls delivered accepted = record { transfer = rw (append-nil, append-nil) t; status = λ _. refl; count = λ _ _. add-zero _; wire = λ _. nothing_moved s.device.left.0 }
 
   -- In 3 no status is taken. In the states in which one is taken, the phase does not depend on the status.
-  restated : (σ : State) (st : Status) → takes_status (state_number σ) ≡ true → Phase w got put σ s.device.status s.device.left.0 (unread_in s) → Phase w got put σ st s.device.left.0 (unread_in s)
+  restated : (σ : State) (st : Option Told) → takes_status (state_number σ) ≡ true → Phase w got put σ s.device.status s.device.left.0 (unread_in s) → Phase w got put σ st s.device.left.0 (unread_in s)
   unfolding takes_status
   restated σ st takes (to_host e dir same sum) = to_host e dir same sum
   restated σ st takes (waiting e none all) = waiting e none all
   restated σ st takes (to_host_ending e dir all few) = to_host_ending e dir all few
   restated σ st takes (from_host e dir none) = from_host e dir none
   restated σ st takes (from_host_ending e dir none) = from_host_ending e dir none
-  restated σ st takes (sending c r e here all) = absurd (clash (sym (rw e at takes)))
+  restated σ st takes (sending t e here all) = absurd (clash (sym (rw e at takes)))
 
   status_steps : (f : FirmwareStatus) → StepsBy w p got put (status f) s
   unfolding shows served is_poll accepts is_status with_figure
@@ -218,7 +219,7 @@ module _ (w : Wrapper) (p : ℕ) (got put : List ℕ) (s : Socket) (t : Transfer
     put_in in4 n ys behind σ at-σ (to_host_ending e dir all few) = absurd (clash (sym (rw (at-σ, e) at in4)))
     put_in in4 n ys behind σ at-σ (from_host e dir none) = absurd (clash (sym (rw (at-σ, e) at in4)))
     put_in in4 n ys behind σ at-σ (from_host_ending e dir none) = absurd (clash (sym (rw (at-σ, e) at in4)))
-    put_in in4 n ys behind σ at-σ (sending c r e here all) = absurd (clash (sym (rw (at-σ, e) at in4)))
+    put_in in4 n ys behind σ at-σ (sending t e here all) = absurd (clash (sym (rw (at-σ, e) at in4)))
 
     -- In 7 the unread bytes do not matter.
     read_off_lem : is_in 7 s.device ≡ true → (n : Answering) (delivered : List ℕ) (σ : State) → s.device.state ≡ σ → Phase w got put σ s.device.status s.device.left.0 (unread_in s)
@@ -229,7 +230,7 @@ module _ (w : Wrapper) (p : ℕ) (got put : List ℕ) (s : Socket) (t : Transfer
     read_off_lem in7 n delivered σ at-σ (to_host_ending e dir all few) = absurd (clash (sym (rw (at-σ, e) at in7)))
     read_off_lem in7 n delivered σ at-σ (from_host e dir none) = marked DataTransferFromHost (at-σ ∙ e) n [] delivered (from_host refl dir none) (λ _ _. refl)
     read_off_lem in7 n delivered σ at-σ (from_host_ending e dir none) = absurd (clash (sym (rw (at-σ, e) at in7)))
-    read_off_lem in7 n delivered σ at-σ (sending c r e here all) = absurd (clash (sym (rw (at-σ, e) at in7)))
+    read_off_lem in7 n delivered σ at-σ (sending t e here all) = absurd (clash (sym (rw (at-σ, e) at in7)))
 
   read_steps : (dst : List ℕ) → StepsBy w p got put (read dst) s
   unfolding shows served is_poll accepts is_status

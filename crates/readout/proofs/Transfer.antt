@@ -6,16 +6,14 @@ use mathlib.Core.Path.{◌≡◌}
 use mathlib.Core.List.{List, [], ◌++◌}
 use Prim.Native.Nat.{ℕ, ◌+◌, ◌≤◌}
 use lib.ListN.{length}
+use Rattle.std.specs.Prelude.{Option, Some}
 use Rattle.buffer.specs.Buffer.{unread_bytes}
 use Rattle.ring.specs.declared.State.{State}
 use Rattle.ring.specs.declared.State.TheVariants.{CommandTransfer, CommandTransferInvalid, DataTransferNoData, StatusTransfer, DataTransferToHost, DataTransferToHostStatusAwait, DataTransferToHostEnding, DataTransferFromHost, DataTransferFromHostEnding}
 use Rattle.wrapper.specs.declared.DataDirection.TheVariants.{Out, In}
 use Rattle.wrapper.specs.declared.Wrapper.{Wrapper}
-use Rattle.wrapper.specs.declared.status.CommandStatus.{CommandStatus}
-use Rattle.wrapper.specs.declared.counters.Residue.{Residue}
 use Rattle.wrapper.specs.Status.{status_number, status_bytes}
-use Rattle.device.specs.declared.Status.{Status}
-use Rattle.device.specs.declared.Status.TheVariants.{Present}
+use Rattle.device.specs.declared.Told.{Told}
 use Rattle.device.specs.Device.{numbers_of}
 use Rattle.device.specs.Broken.{Whole}
 use Rattle.calls.specs.Checks.{buffer_of}
@@ -24,7 +22,7 @@ use Rattle.readout.specs.Demand.{ceiling, filled_to, data_of}
 
 -- The host got `got`, and the firmware put in `put`. The device is in `state`, with `left` bytes left and the bytes `unread` unread. Then
 -- this holds, state by state:
-pub data Phase (w : Wrapper) (got put : List ℕ) (state : State) (status : Status) (left : ℕ) (unread : List ℕ) : Type 0 where
+pub data Phase (w : Wrapper) (got put : List ℕ) (state : State) (status : Option Told) (left : ℕ) (unread : List ℕ) : Type 0 where
   -- 4: `got` and `unread` are together what was put in, and the bytes got and those left are L in number.
   to_host : state ≡ DataTransferToHost → w.direction ≡ In → got ++ unread ≡ put → left + length got ≡ w.length → Phase w got put state status left unread
   -- 5: the host got all its data.
@@ -35,7 +33,7 @@ pub data Phase (w : Wrapper) (got put : List ℕ) (state : State) (status : Stat
   from_host : state ≡ DataTransferFromHost → w.direction ≡ Out → got ≡ [] → Phase w got put state status left unread
   from_host_ending : state ≡ DataTransferFromHostEnding → w.direction ≡ Out → got ≡ [] → Phase w got put state status left unread
   -- 3: `got` and `unread` are together the data and the status.
-  sending : (s : CommandStatus) (r : Residue) → state ≡ StatusTransfer → status ≡ Present s r → got ++ unread ≡ data_of w.direction w.length put ++ status_bytes w.tag r (status_number s)
+  sending : (t : Told) → state ≡ StatusTransfer → status ≡ Some t → got ++ unread ≡ data_of w.direction w.length put ++ status_bytes w.tag t.residue (status_number t.status)
       → Phase w got put state status left unread
 
 -- The unread bytes of the socket `s`.

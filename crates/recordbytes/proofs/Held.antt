@@ -11,15 +11,13 @@ use Prim.Native.Nat.{ℕ, ◌^◌, ◌<◌}
 use native.Mathlib.Omega.{arith}
 use lib.Dec.{eqb}
 use lib.ListN.{length}
+use Rattle.std.specs.Prelude.{Option, Some}
 use Rattle.fields.specs.Field.{bytes_at, get}
 use Rattle.fields.proofs.Bools.{of_picked}
 use Rattle.fields.proofs.Field.{get_below}
 use Rattle.fields.proofs.Seq.{length_part}
-use Rattle.wrapper.specs.declared.counters.Residue.{Residue}
-use Rattle.wrapper.specs.declared.status.CommandStatus.{CommandStatus}
 use Rattle.device.specs.declared.Fixed.{Fixed}
-use Rattle.device.specs.declared.Status.{Status}
-use Rattle.device.specs.declared.Status.TheVariants.{Present}
+use Rattle.device.specs.declared.Told.{Told}
 use Rattle.device.specs.declared.Device.{Device}
 use Rattle.device.specs.Device.{numbers_of}
 use Rattle.device.specs.Create.{creation_checks, new_device}
@@ -34,11 +32,11 @@ use Rattle.recordbytes.proofs.RoundTrip.{back, back_known, new_holds}
 
 -- ---- what is read
 
-residue_read : (r : List ℕ) (b : CommandStatus) (x : Residue) → status_at r ≡ Present b x → x.0 < 2 ^ 32
+residue_read : (r : List ℕ) (t : Told) → status_at r ≡ Some t → t.residue.0 < 2 ^ 32
 unfolding status_at status_by
 residue_read r =
-    of_picked (λ (s : Status). (b : CommandStatus) (x : Residue) → s ≡ Present b x → x.0 < 2 ^ 32) (eqb (get field.present r) 0)
-    (λ _. residue_absent) (λ _. residue_present _ _ (get_below field.residue r))
+    of_picked (λ (s : Option Told). (t : Told) → s ≡ Some t → t.residue.0 < 2 ^ 32) (eqb (get field.present r) 0)
+    (λ _. residue_absent) (λ _. residue_present _ (get_below field.residue r))
 
 pub narrow_read : (r : List ℕ) → length r ≡ field.record_size → Narrow (device_at r)
 unfolding device_at wrapper_at bytes_at

@@ -20,6 +20,7 @@ use lib.Dec.{eqb, leb}
 use lib.ListN.{length}
 use borrow.Author.Tests.{leb-true, eq-eqb, eqb-true}
 use borrow.Table.Steps.{cases}
+use Rattle.std.specs.Prelude.{Option, None, Some}
 use Rattle.fields.specs.Field.{Field, bytes_at, counted, ordered, get}
 use Rattle.fields.proofs.Bools.{clash}
 use Rattle.fields.proofs.Overlay.{length_overlay, part_before, part_behind}
@@ -31,8 +32,7 @@ use Rattle.wrapper.specs.declared.counters.Left.{Left}
 use Rattle.wrapper.specs.declared.counters.PutIn.{PutIn}
 use Rattle.wrapper.specs.Status.{status_number}
 use Rattle.wrapper.specs.Wrapper.{direction_number}
-use Rattle.device.specs.declared.Status.{Status}
-use Rattle.device.specs.declared.Status.TheVariants.{Absent, Present}
+use Rattle.device.specs.declared.Told.{Told}
 use Rattle.device.specs.declared.Device.{Device}
 use Rattle.device.specs.Device.{in_state, with_marks, with_status, with_wrapper, with_left, with_put_in}
 use Rattle.recordbytes.specs.Layout as field
@@ -59,9 +59,9 @@ module _ (r : List ℕ) (k : Known r) (ws : List Write) (within : are_within fie
 -- ---- a call's parts
 
 -- These are the numbers of a status.
-abbrev pub status_writes : Status → List Write
-status_writes Absent = write field.present 0 ∷ []
-status_writes (Present byte residue) = write field.present 1 ∷ write field.residue residue.0 ∷ write field.status (status_number byte) ∷ []
+abbrev pub status_writes : Option Told → List Write
+status_writes None = write field.present 0 ∷ []
+status_writes (Some t) = write field.present 1 ∷ write field.residue t.residue.0 ∷ write field.status (status_number t.status) ∷ []
 
 -- These are the numbers of a wrapper; its block is stored after them.
 abbrev pub wrapper_writes : Wrapper → List Write
@@ -105,12 +105,12 @@ module _ (r : List ℕ) (k : Known r) where
   status_stays : store_status (status_at r) r ≡ r
   status_stays = status_kept r k.flag k.status
 
-  pub renewed : (w : Wrapper) (x : Status) (s : State) (m : Marks) (l : Left)
+  pub renewed : (w : Wrapper) (x : Option Told) (s : State) (m : Marks) (l : Left)
       → store_device (in_state s (with_marks m (with_left l (with_status x (with_wrapper w (device_at r)))))) r ≡ store_left l (store_marks m (store_state s (store_status x (store_wrapper w r))))
   unfolding store_device device_at
   renewed w x s m l = ap (λ (q : List ℕ). store_left l (store_marks m (store_state s (store_status x (store_wrapper w q))))) (put_in_kept r)
 
-  pub polled : (x : Status) (s : State) (m : Marks) (l : Left)
+  pub polled : (x : Option Told) (s : State) (m : Marks) (l : Left)
       → store_device (in_state s (with_marks m (with_left l (with_status x (device_at r))))) r ≡ store_left l (store_marks m (store_state s (store_status x r)))
   unfolding device_at
   polled x s m l = renewed (wrapper_at r) x s m l ∙ ap (λ (q : List ℕ). store_left l (store_marks m (store_state s (store_status x q)))) wrapper_stays
@@ -130,27 +130,27 @@ module _ (r : List ℕ) (k : Known r) where
     parsed s m l = renewed w (status_at r) s m l ∙ ap (λ (q : List ℕ). store_left l (store_marks m (store_state s q))) status_behind_wrapper
 
   -- These parts did not change, after a status was stored, or a status and a state.
-  state_next : (x : Status) → store_state state₀ (store_status x r) ≡ store_status x r
+  state_next : (x : Option Told) → store_state state₀ (store_status x r) ≡ store_status x r
   unfolding is_apart
-  state_next Absent = state_behind r k (status_writes Absent) refl refl
-  state_next (Present byte residue) = state_behind r k (status_writes (Present byte residue)) refl refl
+  state_next None = state_behind r k (status_writes None) refl refl
+  state_next (Some t) = state_behind r k (status_writes (Some t)) refl refl
 
-  marks_next : (x : Status) (s : State) → store_marks (marks_at r) (store_state s (store_status x r)) ≡ store_state s (store_status x r)
+  marks_next : (x : Option Told) (s : State) → store_marks (marks_at r) (store_state s (store_status x r)) ≡ store_state s (store_status x r)
   unfolding store_state is_apart
-  marks_next Absent s = marks_behind r k (status_writes Absent ++ (write field.state (state_number s) ∷ [])) refl refl refl
-  marks_next (Present byte residue) s = marks_behind r k (status_writes (Present byte residue) ++ (write field.state (state_number s) ∷ [])) refl refl refl
+  marks_next None s = marks_behind r k (status_writes None ++ (write field.state (state_number s) ∷ [])) refl refl refl
+  marks_next (Some t) s = marks_behind r k (status_writes (Some t) ++ (write field.state (state_number s) ∷ [])) refl refl refl
 
-  left_next : (x : Status) (m : Marks) → store_left left₀ (store_marks m (store_status x r)) ≡ store_marks m (store_status x r)
+  left_next : (x : Option Told) (m : Marks) → store_left left₀ (store_marks m (store_status x r)) ≡ store_marks m (store_status x r)
   unfolding store_marks is_apart
-  left_next Absent m = left_behind r k (status_writes Absent ++ (write field.read_mark m.read ∷ write field.write_mark m.write ∷ [])) refl refl
-  left_next (Present byte residue) m = left_behind r k (status_writes (Present byte residue) ++ (write field.read_mark m.read ∷ write field.write_mark m.write ∷ [])) refl refl
+  left_next None m = left_behind r k (status_writes None ++ (write field.read_mark m.read ∷ write field.write_mark m.write ∷ [])) refl refl
+  left_next (Some t) m = left_behind r k (status_writes (Some t) ++ (write field.read_mark m.read ∷ write field.write_mark m.write ∷ [])) refl refl
 
-  pub entered : (x : Status) (s : State) (l : Left) → store_device (in_state s (with_status x (with_left l (device_at r)))) r ≡ store_left l (store_state s (store_status x r))
+  pub entered : (x : Option Told) (s : State) (l : Left) → store_device (in_state s (with_status x (with_left l (device_at r)))) r ≡ store_left l (store_state s (store_status x r))
   unfolding device_at
   entered x s l = polled x s (marks_at r) l ∙ ap (store_left l) (marks_next x s)
 
   -- A status and marks changed: state and left stay.
-  status_marks : (x : Status) (m : Marks) → store_device (with_marks m (with_status x (device_at r))) r ≡ store_marks m (store_status x r)
+  status_marks : (x : Option Told) (m : Marks) → store_device (with_marks m (with_status x (device_at r))) r ≡ store_marks m (store_status x r)
   unfolding device_at
   status_marks x m = polled x state₀ m left₀ ∙ ap (λ (q : List ℕ). store_left left₀ (store_marks m q)) (state_next x) ∙ left_next x m
 
@@ -172,13 +172,13 @@ module _ (r : List ℕ) (k : Known r) where
   unfolding device_at
   marks_alone m = status_marks (status_at r) m ∙ ap (store_marks m) status_stays
 
-  pub status_alone : (x : Status) → store_device (with_status x (device_at r)) r ≡ store_status x r
+  pub status_alone : (x : Option Told) → store_device (with_status x (device_at r)) r ≡ store_status x r
   unfolding device_at is_apart
   status_alone x = entered x state₀ left₀ ∙ ap (store_left left₀) (state_next x) ∙ left_alone x
     where
-      left_alone : (x : Status) → store_left left₀ (store_status x r) ≡ store_status x r
-      left_alone Absent = left_behind r k (status_writes Absent) refl refl
-      left_alone (Present byte residue) = left_behind r k (status_writes (Present byte residue)) refl refl
+      left_alone : (x : Option Told) → store_left left₀ (store_status x r) ≡ store_status x r
+      left_alone None = left_behind r k (status_writes None) refl refl
+      left_alone (Some t) = left_behind r k (status_writes (Some t)) refl refl
 
   pub device_kept : store_device (device_at r) r ≡ r
   unfolding device_at
@@ -237,5 +237,5 @@ module _ (r : List ℕ) (k : Known r) (c : PutIn) (small : (get field.put_in r �
   pub counted_marks : (m : Marks) → store_device (with_marks m (with_put_in c (device_at r))) r ≡ store_marks m (store_put_in c r)
   counted_marks m = count_first (with_marks m (device_at r)) ∙ rw counted_holds at (marks_alone (store_put_in c r) counted_known m)
 
-  pub counted_entered : (x : Status) (s : State) (l : Left) → store_device (in_state s (with_status x (with_left l (with_put_in c (device_at r))))) r ≡ store_left l (store_state s (store_status x (store_put_in c r)))
+  pub counted_entered : (x : Option Told) (s : State) (l : Left) → store_device (in_state s (with_status x (with_left l (with_put_in c (device_at r))))) r ≡ store_left l (store_state s (store_status x (store_put_in c r)))
   counted_entered x s l = count_first (in_state s (with_status x (with_left l (device_at r)))) ∙ rw counted_holds at (entered (store_put_in c r) counted_known x s l)

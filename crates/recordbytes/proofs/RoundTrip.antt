@@ -12,22 +12,21 @@ use native.Mathlib.Omega.{arith}
 use lib.Dec.{leb, lit<}
 use lib.ListN.{length, replicate}
 use borrow.Author.Tests.{leb-true}
+use Rattle.std.specs.Prelude.{Option, None, Some}
 use Rattle.fields.specs.Field.{Field, bytes_at, counted, ordered, get}
 use Rattle.fields.proofs.Bools.{and_left}
 use Rattle.fields.proofs.Overlay.{part_inside}
 use Rattle.ring.specs.States.{state_number, state_of_number}
 use Rattle.ring.proofs.Numbers.{state_back, state_small}
 use Rattle.wrapper.specs.declared.Wrapper.{Wrapper}
-use Rattle.wrapper.specs.declared.counters.Residue.{Residue}
-use Rattle.wrapper.specs.declared.status.CommandStatus.{CommandStatus}
 use Rattle.wrapper.specs.declared.status.CommandStatus.TheVariants.{Passed}
 use Rattle.wrapper.specs.Status.{status_number}
 use Rattle.wrapper.specs.Wrapper.{direction_number, direction_of_number, no_wrapper}
 use Rattle.wrapper.proofs.Numbers.{direction_back, direction_small, status_back, status_small}
+use Rattle.device.specs.Device.{told}
 use Rattle.device.specs.declared.Fixed.{Fixed}
 use Rattle.device.specs.declared.Device.{Device}
-use Rattle.device.specs.declared.Status.{Status}
-use Rattle.device.specs.declared.Status.TheVariants.{Absent, Present}
+use Rattle.device.specs.declared.Told.{Told}
 use Rattle.device.specs.Create.{new_device}
 use Rattle.recordbytes.specs.Layout as field
 use Rattle.recordbytes.specs.Record.{is_known, status_by, status_at, marks_at, wrapper_at, fixed_at, device_at, store_state, store_marks, store_left, store_put_in, store_status, store_wrapper, store_device, new_record}
@@ -68,38 +67,38 @@ module _ (r : List ℕ) (long : length r ≡ field.record_size) (w : Wrapper) (s
 
 -- The field stands apart from all three of them.
 abbrev BesideStatus : Field → Type 0
-BesideStatus g = are_apart g (status_writes (Present Passed (record { 0 = 0 }))) ≡ true
+BesideStatus g = are_apart g (status_writes (Some (told Passed (record { 0 = 0 })))) ≡ true
 
 module _ (q : List ℕ) (long : length q ≡ field.record_size) where
-  length_status : (s : Status) → length (store_status s q) ≡ field.record_size
-  length_status Absent = length_all field.record_size (status_writes Absent) q long refl
-  length_status (Present b x) = length_all field.record_size (status_writes (Present b x)) q long refl
+  length_status : (s : Option Told) → length (store_status s q) ≡ field.record_size
+  length_status None = length_all field.record_size (status_writes None) q long refl
+  length_status (Some t) = length_all field.record_size (status_writes (Some t)) q long refl
 
-  bytes_beside_status : (s : Status) (g : Field) → BesideStatus g → bytes_at g (store_status s q) ≡ bytes_at g q
-  bytes_beside_status Absent g a = bytes_elsewhere field.record_size g (status_writes Absent) q long refl (rw (and_left (is_apart field.present g) (is_apart field.residue g && (is_apart field.status g && true)) a))
-  bytes_beside_status (Present b x) g a = bytes_elsewhere field.record_size g (status_writes (Present b x)) q long refl a
+  bytes_beside_status : (s : Option Told) (g : Field) → BesideStatus g → bytes_at g (store_status s q) ≡ bytes_at g q
+  bytes_beside_status None g a = bytes_elsewhere field.record_size g (status_writes None) q long refl (rw (and_left (is_apart field.present g) (is_apart field.residue g && (is_apart field.status g && true)) a))
+  bytes_beside_status (Some t) g a = bytes_elsewhere field.record_size g (status_writes (Some t)) q long refl a
 
-  status_there : (s : Status) → ((b : CommandStatus) (x : Residue) → s ≡ Present b x → x.0 < 2 ^ 32) → status_at (store_status s q) ≡ s
+  status_there : (s : Option Told) → ((t : Told) → s ≡ Some t → t.residue.0 < 2 ^ 32) → status_at (store_status s q) ≡ s
   unfolding status_at status_by is_apart
-  status_there Absent h = rw (get_there field.record_size [] field.present 0 [] q long refl refl (lit< tt))
-  status_there (Present b x) h =
-      let flag = get_there field.record_size [] field.present 1 (write field.residue x.0 ∷ write field.status (status_number b) ∷ []) q long refl refl (lit< tt) in
-      let residue = get_there field.record_size (write field.present 1 ∷ []) field.residue x.0 (write field.status (status_number b) ∷ []) q long refl refl (h b x refl) in
-      let byte = get_there field.record_size (write field.present 1 ∷ write field.residue x.0 ∷ []) field.status (status_number b) [] q long refl refl (a_byte _ 2 (status_small b) (lit< tt)) in
-      rw (flag, residue, byte, status_back b)
+  status_there None h = rw (get_there field.record_size [] field.present 0 [] q long refl refl (lit< tt))
+  status_there (Some t) h =
+      let flag = get_there field.record_size [] field.present 1 (write field.residue t.residue.0 ∷ write field.status (status_number t.status) ∷ []) q long refl refl (lit< tt) in
+      let residue = get_there field.record_size (write field.present 1 ∷ []) field.residue t.residue.0 (write field.status (status_number t.status) ∷ []) q long refl refl (h t refl) in
+      let byte = get_there field.record_size (write field.present 1 ∷ write field.residue t.residue.0 ∷ []) field.status (status_number t.status) [] q long refl refl (a_byte _ 2 (status_small t.status) (lit< tt)) in
+      rw (flag, residue, byte, status_back t.status)
 
   -- A test of the flag and the status byte sees these.
-  flag_small : (s : Status) → get field.present (store_status s q) ≤ 1
+  flag_small : (s : Option Told) → get field.present (store_status s q) ≤ 1
   unfolding is_apart
-  flag_small Absent = rw (get_there field.record_size [] field.present 0 [] q long refl refl (lit< tt)) (leb-true 0 1 refl)
-  flag_small (Present b x) = rw (get_there field.record_size [] field.present 1 (write field.residue x.0 ∷ write field.status (status_number b) ∷ []) q long refl refl (lit< tt)) (leb-true 1 1 refl)
+  flag_small None = rw (get_there field.record_size [] field.present 0 [] q long refl refl (lit< tt)) (leb-true 0 1 refl)
+  flag_small (Some t) = rw (get_there field.record_size [] field.present 1 (write field.residue t.residue.0 ∷ write field.status (status_number t.status) ∷ []) q long refl refl (lit< tt)) (leb-true 1 1 refl)
 
-  byte_small : (s : Status) → (s ≡ Absent → get field.status q ≤ 2) → get field.status (store_status s q) ≤ 2
+  byte_small : (s : Option Told) → (s ≡ None → get field.status q ≤ 2) → get field.status (store_status s q) ≤ 2
   unfolding is_apart
-  byte_small Absent h = rw (get_elsewhere field.record_size field.status (status_writes Absent) q long refl refl) (h refl)
-  byte_small (Present b x) h =
-      rw (get_there field.record_size (write field.present 1 ∷ write field.residue x.0 ∷ []) field.status (status_number b) [] q long refl refl (a_byte _ 2 (status_small b) (lit< tt)))
-      (leb-true _ _ (status_small b))
+  byte_small None h = rw (get_elsewhere field.record_size field.status (status_writes None) q long refl refl) (h refl)
+  byte_small (Some t) h =
+      rw (get_there field.record_size (write field.present 1 ∷ write field.residue t.residue.0 ∷ []) field.status (status_number t.status) [] q long refl refl (a_byte _ 2 (status_small t.status) (lit< tt)))
+      (leb-true _ _ (status_small t.status))
 
 -- ---- the whole device
 
@@ -201,7 +200,7 @@ module _ (d : Device) (r : List ℕ) (long : length r ≡ field.record_size) (si
   unfolding store_put_in is_apart
   put_in_read h = of_zeroth field.put_in refl refl refl refl ∙ get_there field.record_size [] field.put_in d.putin.0 [] r long refl refl h
 
-  status_read : ((b : CommandStatus) (x : Residue) → d.status ≡ Present b x → x.0 < 2 ^ 32) → status_at (store_device d r) ≡ d.status
+  status_read : ((t : Told) → d.status ≡ Some t → t.residue.0 < 2 ^ 32) → status_at (store_device d r) ≡ d.status
   unfolding status_at is_apart
   status_read h = rw (of_status_lem field.present refl, of_status_lem field.status refl, of_status_lem field.residue refl) (status_there first length_first d.status h)
 
@@ -238,7 +237,7 @@ back d r s o =
     (sym (put_in_read d r o.long s.block s.putin)))
 
 -- The bytes are still a record. If there is no status, the status byte stays, so it must have been known before.
-pub back_known : (d : Device) (r : List ℕ) → length r ≡ field.record_size → length d.wrapper.block ≡ 16 → (d.status ≡ Absent → get field.status r ≤ 2) → is_known (store_device d r) ≡ true
+pub back_known : (d : Device) (r : List ℕ) → length r ≡ field.record_size → length d.wrapper.block ≡ 16 → (d.status ≡ None → get field.status r ≤ 2) → is_known (store_device d r) ≡ true
 unfolding is_apart
 back_known d r long sixteen h =
     let q : List ℕ = first d r long sixteen in

@@ -8,12 +8,12 @@
 use mathlib.Core.Path.{◌≡◌, refl, sym, ap, ◌∙◌}
 use mathlib.Core.Bool.{Bool, true, false, ◌||◌}
 use mathlib.Core.List.{List}
-use Prim.Native.Nat.{ℕ, ◌+◌, ◌%◌, ◌^◌, ◌≤◌, ◌<◌}
-use native.Mathlib.Nat.{mod-eq_of_lt}
+use Prim.Native.Nat.{ℕ, ◌+◌, ◌^◌, ◌≤◌, ◌<◌}
 use native.Mathlib.Omega.{arith}
 use lib.Dec.{eqb, leb}
 use lib.ListN.{length, get_or, replicate}
 use borrow.Author.Tests.{eq-eqb, eqb-true, leb-true}
+use Rattle.std.specs.Prelude.{Option, None, Some}
 use Rattle.fields.specs.Field.{Field, little_endian, one_byte, bytes_at, get, put}
 use Rattle.fields.specs.Overlay.{overlay}
 use Rattle.fields.proofs.Bools.{of_picked}
@@ -26,17 +26,13 @@ use Rattle.ring.specs.States.{state_number}
 use Rattle.wrapper.specs.declared.Head.{Head}
 use Rattle.wrapper.specs.declared.counters.Left.{Left}
 use Rattle.wrapper.specs.declared.counters.PutIn.{PutIn}
-use Rattle.wrapper.specs.declared.counters.Residue.{Residue}
-use Rattle.wrapper.specs.declared.status.CommandStatus.{CommandStatus}
 use Rattle.wrapper.specs.Status.{status_number}
 use Rattle.wrapper.specs.Wrapper.{direction_number}
 use Rattle.device.specs.declared.Fixed.{Fixed}
-use Rattle.device.specs.declared.Status.{Status}
-use Rattle.device.specs.declared.Status.TheVariants.{Absent, Present}
+use Rattle.device.specs.declared.Told.{Told}
 use Rattle.recordbytes.specs.Layout as field
 use Rattle.recordbytes.specs.Record.{marks_at, store, store_state, store_marks, store_left, store_put_in, store_status, store_wrapper, new_record}
 use Rattle.recordbytes.specs.Inner.Record.{wrapper_of_head}
-use Rattle.recordbytes.specs.Inner.Storable.{StorableFixed}
 
 -- ---- one field
 
@@ -121,11 +117,11 @@ module _ (r : List ℕ) where
   unfolding store_marks marks_at
   leaves_write_mark m ex hl = rw ex at hl ∙ ap (store field.write_mark m) (sym (store_same field.read_mark (get field.read_mark r) r refl))
 
-  pub leaves_absent : (s : Status) {l : List ℕ} → s ≡ Absent → l ≡ store field.present 0 r → l ≡ store_status s r
+  pub leaves_absent : (s : Option Told) {l : List ℕ} → s ≡ None → l ≡ store field.present 0 r → l ≡ store_status s r
   leaves_absent s e h = rw e h
 
-  pub leaves_present : (s : Status) (b : CommandStatus) (x : Residue) {n : ℕ} {l k j : List ℕ} → s ≡ Present b x → l ≡ store field.present 1 r → k ≡ store field.residue x.0 l → n ≡ status_number b → j ≡ store field.status n k → j ≡ store_status s r
-  leaves_present s b x e hl hk en hj = rw e (rw (en, hk, hl) at hj)
+  pub leaves_present : (s : Option Told) (t : Told) {n : ℕ} {l k j : List ℕ} → s ≡ Some t → l ≡ store field.present 1 r → k ≡ store field.residue t.residue.0 l → n ≡ status_number t.status → j ≡ store field.status n k → j ≡ store_status s r
+  leaves_present s t e hl hk en hj = rw e (rw (en, hk, hl) at hj)
 
   pub leaves_wrapper : (h : Head) (block : List ℕ) {n : ℕ} {a b c d e l : List ℕ} → n ≡ direction_number h.direction → a ≡ store field.direction n r → b ≡ store field.lun h.lun a
       → c ≡ store field.block_length h.blocklength b → d ≡ store field.tag h.tag c → e ≡ store field.declared h.length d → l ≡ overlay e 36 block → l ≡ store_wrapper (wrapper_of_head h block) r
@@ -133,9 +129,9 @@ module _ (r : List ℕ) where
   leaves_wrapper h block en ha hb hc hd he hl = rw (he, hd, hc, hb, ha, en) at hl
 
 -- Zeros cover all that was there.
-pub leaves_new : (r : List ℕ) (f : Fixed) → StorableFixed f → {a b c l : List ℕ} {k : ℕ} → length r ≡ field.record_size → a ≡ overlay r 0 (replicate field.record_size 0) → b ≡ store field.packet_size (f.packetsize % 256) a
+pub leaves_new : (r : List ℕ) (f : Fixed) {a b c l : List ℕ} {k : ℕ} → length r ≡ field.record_size → a ≡ overlay r 0 (replicate field.record_size 0) → b ≡ store field.packet_size f.packetsize a
     → c ≡ store field.max_lun f.maxlun b → k ≡ f.size → l ≡ store field.size k c → l ≡ new_record f
 unfolding new_record
-leaves_new r f fits h ha hb hc hk hl = rw (hk, hc, hb, mod-eq_of_lt fits.packetsize, ha ∙ overlay_whole r (replicate field.record_size 0) (sym h)) at hl
+leaves_new r f h ha hb hc hk hl = rw (hk, hc, hb, ha ∙ overlay_whole r (replicate field.record_size 0) (sym h)) at hl
 
 pub ruleset ways = (leaves_new, leaves_state, leaves_left, leaves_put_in, leaves_marks, leaves_read_mark, leaves_write_mark, leaves_absent, leaves_present, leaves_wrapper)

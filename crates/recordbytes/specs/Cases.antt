@@ -1,12 +1,12 @@
 -- One table of cases. proofs/Cases.antt states that each of them holds. Assumes nothing.
-use Rattle.std.specs.Prelude.{true, false, List, [], ◌∷◌, ℕ, take, replicate}
+use Rattle.std.specs.Prelude.{true, false, List, [], ◌∷◌, ℕ, take, replicate, None, Some}
 use Rattle.fields.specs.Field.{tile}
 use Rattle.fields.specs.Case.{Case, case}
 use Rattle.buffer.specs.Buffer.{at}
 use Rattle.ring.specs.declared.State.TheVariants.{DataTransferNoData}
 use Rattle.wrapper.specs.declared.DataDirection.TheVariants.{Out}
 use Rattle.wrapper.specs.declared.status.CommandStatus.TheVariants.{Failed}
-use Rattle.device.specs.declared.Status.TheVariants.{Absent, Present}
+use Rattle.device.specs.Device.{told}
 use Rattle.device.specs.Create.{fixed}
 use Rattle.recordbytes.specs.Layout as field
 use Rattle.recordbytes.specs.Record.{is_known, status_at, device_at, store, store_status, store_device, new_record}
@@ -40,7 +40,7 @@ table =
         blocklength = 27;
         block = 36 ∷ 37 ∷ 38 ∷ 39 ∷ 40 ∷ 41 ∷ 42 ∷ 43 ∷ 44 ∷ 45 ∷ 46 ∷ 47 ∷ 48 ∷ 49 ∷ 50 ∷ 51 ∷ [];
       };
-      status = Present Failed (record { 0 = 0x17161514 });
+      status = Some (told Failed (record { 0 = 0x17161514 }));
       left = record { 0 = 0x13121110 };
       putin = record { 0 = 0x37363534 };
     })
@@ -56,8 +56,8 @@ table =
     ∷ case (is_known (take 55 (numbered 8 1 2 2))) false
     ∷ case (is_known (take 52 (numbered 8 1 2 2))) false
     -- Without a status only the flag changes.
-    ∷ case (store_status Absent (numbered 2 1 1 2)) (numbered 2 0 1 2)
-    ∷ case (status_at (numbered 2 0 1 2)) Absent
+    ∷ case (store_status None (numbered 2 1 1 2)) (numbered 2 0 1 2)
+    ∷ case (status_at (numbered 2 0 1 2)) None
     -- A number that the field holds already changes nothing; another changes its four bytes.
     ∷ case (store field.tag 0x1F1E1D1C (numbered 2 1 1 2)) (numbered 2 1 1 2)
     ∷ case (store field.left 0x04030201 (new_record (fixed 64 3 512)))

@@ -1,6 +1,6 @@
 -- What bytes hold, and what storing a device leaves of them. In all of them `r` is the bytes, and crates/recordbytes/specs/Layout.antt
 -- has the fields. Assumes nothing: these are definitions.
-use Rattle.std.specs.Prelude.{ℕ, Bool, cond, ◌&&◌, List, eqb, leb, length, replicate}
+use Rattle.std.specs.Prelude.{ℕ, Bool, cond, ◌&&◌, List, eqb, leb, length, replicate, Option, None, Some}
 use Rattle.fields.specs.Field.{Field, bytes_at, get, put}
 use Rattle.fields.specs.Overlay.{overlay}
 use Rattle.buffer.specs.declared.Marks.{Marks}
@@ -12,10 +12,10 @@ use Rattle.wrapper.specs.declared.counters.Left.{Left}
 use Rattle.wrapper.specs.declared.counters.PutIn.{PutIn}
 use Rattle.wrapper.specs.Status.{status_number, status_of_number}
 use Rattle.wrapper.specs.Wrapper.{direction_number, direction_of_number}
+use Rattle.device.specs.Device.{told}
 use Rattle.device.specs.declared.Fixed.{Fixed}
 use Rattle.device.specs.declared.Device.{Device}
-use Rattle.device.specs.declared.Status.{Status}
-use Rattle.device.specs.declared.Status.TheVariants.{Absent, Present}
+use Rattle.device.specs.declared.Told.{Told}
 use Rattle.recordbytes.specs.Layout as field
 
 -- ---- reading
@@ -31,11 +31,11 @@ is_known r =
     && leb (get field.direction r) 2)))
 
 -- This status is stored as a `flag`, a status `byte` and a `residue`. If the flag is 0 there is none.
-unfoldable pub status_by : ℕ → ℕ → ℕ → Status
-status_by flag byte residue = cond (eqb flag 0) Absent (Present (status_of_number byte) (record { 0 = residue }))
+unfoldable pub status_by : ℕ → ℕ → ℕ → Option Told
+status_by flag byte residue = cond (eqb flag 0) None (Some (told (status_of_number byte) (record { 0 = residue })))
 
 -- This is the status that the bytes hold.
-unfoldable pub status_at : List ℕ → Status
+unfoldable pub status_at : List ℕ → Option Told
 status_at r = status_by (get field.present r) (get field.status r) (get field.residue r)
 
 -- These are the marks that the bytes hold.
@@ -92,9 +92,9 @@ unfoldable pub store_put_in : PutIn → List ℕ → List ℕ
 store_put_in c r = store field.put_in c.0 r
 
 -- A status is stored. If there is none, only the flag is written: residue and status byte keep what they had.
-abbrev pub store_status : Status → List ℕ → List ℕ
-store_status Absent r = store field.present 0 r
-store_status (Present byte residue) r = store field.status (status_number byte) (store field.residue residue.0 (store field.present 1 r))
+abbrev pub store_status : Option Told → List ℕ → List ℕ
+store_status None r = store field.present 0 r
+store_status (Some t) r = store field.status (status_number t.status) (store field.residue t.residue.0 (store field.present 1 r))
 
 -- The wrapper `w` is stored; its command block is written whether it changed or not.
 unfoldable pub store_wrapper : Wrapper → List ℕ → List ℕ

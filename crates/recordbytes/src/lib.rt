@@ -3,21 +3,21 @@
 //     known                    whether bytes are a record at all
 //     numbers_at, device_at    what they hold
 //     store                    a device's parts written back, one by one
-// In every function `r` is the bytes of the record.
+// In every function `r` is the bytes of the record. Their number is required and not their type: with `&[u8; 56]` each call that C makes must
+// turn its slice into an array, with one refusal more and the way back to prove (databytes was tried).
 #![tactic(auto)]
 
 pub mod in_record;
 pub mod store;
 
 ghost use Rattle.std.specs.Prelude.{◌≡◌, length};
-ghost use Rattle.fields.specs.Field.{bytes_at};
 ghost use Rattle.device.specs.Device.{numbers_of};
 ghost use Rattle.recordbytes.specs.Layout as field;
 ghost use Rattle.recordbytes.specs.Record.{is_known, status_by, status_at, marks_at, wrapper_at, fixed_at, device_at};
 
 use buffer::Marks;
-use device::{Device, Fixed, Numbers, Status, numbers_of};
-use fields::{byte, le32};
+use device::{Device, Fixed, Numbers, Told, numbers_of};
+use fields::{byte, bytes_at, le32};
 use ring::state_of_number;
 use wrapper::counters::{Left, PutIn, Residue};
 use wrapper::status::status_of_number;
@@ -30,31 +30,28 @@ pub fn known(r: &[u8]) -> bool
     if r.len() != in_record::SIZE {
         return false;
     }
-    if 8 < byte(r, in_record::STATE) {
-        return false;
-    }
-    if 1 < byte(r, in_record::STATUS_PRESENT) {
-        return false;
-    }
-    if 2 < byte(r, in_record::STATUS) {
-        return false;
-    }
-    byte(r, in_record::DIRECTION) <= 2
+    let state = byte(r, in_record::STATE);
+    let present = byte(r, in_record::STATUS_PRESENT);
+    let status = byte(r, in_record::STATUS);
+    let direction = byte(r, in_record::DIRECTION);
+    state <= 8 && present <= 1 && status <= 2 && direction <= 2
 }
 
 // A `flag` of 0 says that there is no status; `number` and `residue` do not count then.
-fn status_by(flag: u8, number: u8, residue: u32) -> Status
+fn status_by(flag: u8, number: u8, residue: u32) -> Option<Told>
     ensures { result ≡ status_by flag number residue }
 {
     if flag == 0 {
-        return Status::Absent;
+        return None;
     }
-    let status = status_of_number(number);
-    Status::Present(status, Residue(residue))
+    Some(Told {
+        status: status_of_number(number),
+        residue: Residue(residue),
+    })
 }
 
 // This is the status that the record holds.
-fn status_at(r: &[u8]) -> Status
+fn status_at(r: &[u8]) -> Option<Told>
     requires { length r.now ≡ field.record_size }
     ensures { result ≡ status_at r.now }
 {
@@ -76,45 +73,20 @@ fn marks_at(r: &[u8]) -> Marks
     }
 }
 
-// These are the 16 bytes of the command block.
-fn block_at(r: &[u8]) -> [u8; 16]
-    requires { length r.now ≡ field.record_size }
-    ensures { result ≡ bytes_at field.block r.now }
-{
-    [
-        r[in_record::BLOCK],
-        r[in_record::BLOCK + 1],
-        r[in_record::BLOCK + 2],
-        r[in_record::BLOCK + 3],
-        r[in_record::BLOCK + 4],
-        r[in_record::BLOCK + 5],
-        r[in_record::BLOCK + 6],
-        r[in_record::BLOCK + 7],
-        r[in_record::BLOCK + 8],
-        r[in_record::BLOCK + 9],
-        r[in_record::BLOCK + 10],
-        r[in_record::BLOCK + 11],
-        r[in_record::BLOCK + 12],
-        r[in_record::BLOCK + 13],
-        r[in_record::BLOCK + 14],
-        r[in_record::BLOCK + 15],
-    ]
-}
-
 // This is the wrapper that the record holds.
 fn wrapper_at(r: &[u8]) -> Wrapper
     requires { length r.now ≡ field.record_size }
     ensures { result ≡ wrapper_at r.now }
 {
     let direction = direction_of_number(byte(r, in_record::DIRECTION));
-    let block = block_at(r);
+    let block = bytes_at(r, in_record::BLOCK);
     Wrapper {
         tag: le32(r, in_record::TAG),
         length: le32(r, in_record::DECLARED),
-        direction: direction,
+        direction,
         lun: byte(r, in_record::LUN),
         blocklength: byte(r, in_record::BLOCK_LENGTH),
-        block: block,
+        block,
     }
 }
 
@@ -141,11 +113,11 @@ pub fn device_at(r: &[u8]) -> Device
     let wrapper = wrapper_at(r);
     let status = status_at(r);
     Device {
-        fixed: fixed,
-        state: state,
-        marks: marks,
-        wrapper: wrapper,
-        status: status,
+        fixed,
+        state,
+        marks,
+        wrapper,
+        status,
         left: Left(le32(r, in_record::LEFT)),
         putin: PutIn(le32(r, in_record::PUT_IN)),
     }

@@ -11,14 +11,15 @@ ghost use Rattle.recordbytes.specs.Inner.Storable.{StorableFixed};
 use crate::in_record;
 use buffer::Marks;
 use buffer::span::put;
-use device::{Fixed, Status};
+use device::{Fixed, Told};
 use fields::{put_byte, put_le32};
 use ring::{State, state_number};
 use wrapper::counters::{Left, PutIn};
 use wrapper::status::status_number;
 use wrapper::{Head, direction_number};
 
-// The byte `n` is stored at the place `at`.
+// The byte `n` is stored at the place `at`. This and `store32` stand beside `put_byte` and `put_le32` for their contract alone: that to write
+// is to store is proved here once, and not in each function below.
 fn store8(r: &mut [u8], at: usize, n: u8)
     requires { at < length r.old }
     ensures { r.new ≡ store (one_byte at) n r.old }
@@ -34,12 +35,12 @@ fn store32(r: &mut [u8], at: usize, n: u32)
     put_le32(r, at, n);
 }
 
-// `n` is below 2^32 and becomes a number of 32 bits; the remainder is `n` itself.
+// `n` is below 2^32 and becomes a number of 32 bits.
 pub fn narrow(n: usize) -> u32
     requires { n < 2 ^ 32 }
     ensures { result ≡ n }
 {
-    (n % 4294967296) as u32
+    n as u32
 }
 
 // This is the record of a new device. All bytes are written, whatever they were.
@@ -49,7 +50,7 @@ pub fn new(r: &mut [u8], fixed: Fixed)
 {
     let zeros = [0u8; in_record::SIZE];
     put(r, 0, &zeros);
-    store8(r, in_record::PACKET_SIZE, (fixed.packetsize % 256) as u8);
+    store8(r, in_record::PACKET_SIZE, fixed.packetsize as u8);
     store8(r, in_record::MAX_LUN, fixed.maxlun);
     store32(r, in_record::IO_LENGTH, narrow(fixed.size));
 }
@@ -104,16 +105,16 @@ pub fn put_in(r: &mut [u8], putin: PutIn)
 }
 
 // If there is no status, only the flag is written.
-pub fn status(r: &mut [u8], status: Status)
+pub fn status(r: &mut [u8], status: Option<Told>)
     requires { length r.old ≡ field.record_size }
     ensures { r.new ≡ store_status status r.old }
 {
     match status {
-        Status::Absent => store8(r, in_record::STATUS_PRESENT, 0),
-        Status::Present(byte, residue) => {
+        None => store8(r, in_record::STATUS_PRESENT, 0),
+        Some(t) => {
             store8(r, in_record::STATUS_PRESENT, 1);
-            store32(r, in_record::RESIDUE, residue.0);
-            store8(r, in_record::STATUS, status_number(byte));
+            store32(r, in_record::RESIDUE, t.residue.0);
+            store8(r, in_record::STATUS, status_number(t.status));
         }
     }
 }
@@ -123,8 +124,7 @@ pub fn wrapper(r: &mut [u8], head: Head, block: &[u8])
     requires { (length r.old ≡ field.record_size) × (length block.now ≡ 16) }
     ensures { r.new ≡ store_wrapper (wrapper_of_head head block.now) r.old }
 {
-    let direction = head.direction;
-    store8(r, in_record::DIRECTION, direction_number(direction));
+    store8(r, in_record::DIRECTION, direction_number(head.direction));
     store8(r, in_record::LUN, head.lun);
     store8(r, in_record::BLOCK_LENGTH, head.blocklength);
     store32(r, in_record::TAG, head.tag);

@@ -1,13 +1,11 @@
 -- A state and its number.
 --     state_back, state_number_lem    there and back, both ways
 --     state_small                 a state's number is at most 8
---     the_last_state              what has to be shown for the last arm of `state_of_number`
 -- Assumes nothing.
 use mathlib.Core.Path.{◌≡◌, refl}
 use mathlib.Core.Bool.{true}
 use Prim.Native.Nat.{ℕ, ◌≤◌}
 use lib.Dec.{leb}
-use borrow.Author.Tests.{ne_eqb}
 use Rattle.fields.proofs.UpTo.{up_to}
 use Rattle.ring.specs.declared.State.{State}
 use Rattle.ring.specs.declared.State.TheVariants.{CommandTransfer, CommandTransferInvalid, DataTransferNoData, StatusTransfer, DataTransferToHost, DataTransferToHostStatusAwait, DataTransferToHostEnding, DataTransferFromHost, DataTransferFromHostEnding}
@@ -39,9 +37,3 @@ state_small DataTransferToHostStatusAwait = refl
 state_small DataTransferToHostEnding = refl
 state_small DataTransferFromHost = refl
 state_small DataTransferFromHostEnding = refl
-
--- `n` is none of the numbers before the last.
-pub the_last_state : (n : ℕ) → ((((((((Unit {0} × (n ≡ 0 → ⊥)) × (n ≡ 1 → ⊥)) × (n ≡ 2 → ⊥)) × (n ≡ 3 → ⊥)) × (n ≡ 4 → ⊥)) × (n ≡ 5 → ⊥)) × (n ≡ 6 → ⊥)) × (n ≡ 7 → ⊥)) → DataTransferFromHostEnding ≡ state_of_number n
-unfolding state_of_number
-the_last_state n m =
-    rw (ne_eqb _ 0 m.0.0.0.0.0.0.0.1, ne_eqb _ 1 m.0.0.0.0.0.0.1, ne_eqb _ 2 m.0.0.0.0.0.1, ne_eqb _ 3 m.0.0.0.0.1, ne_eqb _ 4 m.0.0.0.1, ne_eqb _ 5 m.0.0.1, ne_eqb _ 6 m.0.1, ne_eqb _ 7 m.1)

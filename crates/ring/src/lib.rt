@@ -1,17 +1,17 @@
 // The handlers of a poll, as in bbb.rs: "the handlers call each other in a ring". From numbers and small enums they decide to which act a
-// poll comes; the act itself is done in one place elsewhere (`act` in crates/bbb/src/act.rt). Every call from handler to handler lowers
-// `n`, the number of handlers that may still be called, so the chain ends.
-#![tactic(auto)]
+// poll comes; the act itself is done in one place elsewhere (`act` in crates/bbb/src/act.rt). A handler's parameters bound the number of
+// handlers that may still be called (proofs/+handlers/Invariants.antt). Every call lowers it, so the chain ends.
+#![tactic(auto, unfolding(crate::specs::States::state_of_number, crate::specs::Inner::Ring::read_cbw_act, crate::specs::Inner::Ring::start_act, crate::specs::Inner::Ring::no_data_act, crate::specs::Inner::Ring::status_transfer_act, crate::specs::Inner::Ring::to_host_act, crate::specs::Inner::Ring::status_await_act, crate::specs::Inner::Ring::to_host_ending_act, crate::specs::Inner::Ring::from_host_act, crate::specs::Inner::Ring::from_host_ending_act))]
 
-ghost use Rattle.std.specs.Prelude.{◌≡◌, ◌+◌, ◌≤◌};
+ghost use Rattle.std.specs.Prelude.{◌≡◌};
 ghost use Rattle.ring.specs.declared.Act.TheVariants.{Enter};
 ghost use Rattle.ring.specs.States.{state_number, state_of_number};
-ghost use Rattle.ring.specs.Inner.Ring.{row_of, extra, whole_ring, read_cbw_act, start_act, no_data_act, status_transfer_act, to_host_act, status_await_act, to_host_ending_act, from_host_act, from_host_ending_act, settled};
+ghost use Rattle.ring.specs.Inner.Ring.{row_of, read_cbw_act, start_act, no_data_act, status_transfer_act, to_host_act, status_await_act, to_host_ending_act, from_host_act, from_host_ending_act, settled};
 
 use wrapper::DataDirection;
 
 // These are document 01's states, in its order.
-#[derive(Clone, Copy)]
+#[derive(Clone, Copy, PartialEq, Eq)]
 pub enum State {
     CommandTransfer,
     CommandTransferInvalid,
@@ -24,12 +24,12 @@ pub enum State {
     DataTransferFromHostEnding,
 }
 
-// A poll that waits for a wrapper finds no whole one, an invalid one, or a valid one.
+// A poll that waits for a wrapper finds no whole one, an invalid one, or a valid one with this direction.
 #[derive(Clone, Copy)]
 pub enum Found {
     Nothing,
     Invalid,
-    Valid,
+    Valid(DataDirection),
 }
 
 // A poll comes to one of these acts: it stays in 0, stalls both in 1, sends the next packet of the status in 3, enters 3, sends data in
@@ -72,24 +72,11 @@ pub enum Before {
 #[derive(Clone, Copy)]
 pub struct Row(pub State, pub Kind, pub Before, pub bool);
 
-// In the longest chain, 3, 0, the start, 2 and 5, the first handler is followed by four more.
-const CHAIN: u8 = 4;
-
 // This is document 01's number of the state `s`.
 pub fn state_number(s: State) -> u8
     ensures { result ≡ state_number s }
 {
-    match s {
-        State::CommandTransfer => 0,
-        State::CommandTransferInvalid => 1,
-        State::DataTransferNoData => 2,
-        State::StatusTransfer => 3,
-        State::DataTransferToHost => 4,
-        State::DataTransferToHostStatusAwait => 5,
-        State::DataTransferToHostEnding => 6,
-        State::DataTransferFromHost => 7,
-        State::DataTransferFromHostEnding => 8,
-    }
+    s as u8
 }
 
 // This is the state with this `number`. No state has a number above 8; the last state is given then.
@@ -151,57 +138,46 @@ pub fn row_of(a: Act) -> Row
     }
 }
 
-// This is state 0. No status is present in it, so only `found` decides, and for a valid wrapper its `direction` and `length`.
+// This is state 0. No status is present in it, so only `found` decides, and for a valid wrapper its direction and length: it is `left`.
 #[cycle(handlers)]
-fn read_cbw(n: u8, found: Found, direction: DataDirection, length: u32) -> Act
-    requires { 3 ≤ n }
-    ensures { result ≡ read_cbw_act found direction length }
+fn read_cbw(found: Found, left: u32) -> Act
+    ensures { result ≡ read_cbw_act found left }
 {
     match found {
         Found::Nothing => Act::Stay,
         Found::Invalid => Act::Stall,
-        Found::Valid => start(n - 1, direction, length),
+        Found::Valid(direction) => start(direction, left),
     }
 }
 
-// A valid wrapper goes on by its `direction`, with its `length` left.
+// A valid wrapper goes on by its `direction`, with its length `left`.
 #[cycle(handlers)]
-fn start(n: u8, direction: DataDirection, length: u32) -> Act
-    requires { 2 ≤ n }
-    ensures { result ≡ start_act direction length }
+fn start(direction: DataDirection, left: u32) -> Act
+    ensures { result ≡ start_act direction left }
 {
     match direction {
-        DataDirection::Out => from_host(n - 1, length, false),
-        DataDirection::In => to_host(n - 1, length, false),
-        DataDirection::NotExpected => no_data(n - 1, false),
+        DataDirection::Out => from_host(left, false),
+        DataDirection::In => to_host(left, false),
+        DataDirection::NotExpected => no_data(false),
     }
 }
 
 // State 2 always goes on to 5.
 #[cycle(handlers)]
-fn no_data(n: u8, present: bool) -> Act
-    requires { 1 + extra present ≤ n }
+fn no_data(present: bool) -> Act
     ensures { result ≡ no_data_act present }
 {
-    status_await(n - 1, present)
+    status_await(present)
 }
 
 // This is state 3. `empty` says that nothing is unread, and `entered` that this poll has just entered 3 and still has to write the
 // status.
 #[cycle(handlers)]
-fn status_transfer(
-    n: u8,
-    empty: bool,
-    entered: bool,
-    found: Found,
-    direction: DataDirection,
-    length: u32,
-) -> Act
-    requires { whole_ring empty ≤ n }
-    ensures { result ≡ status_transfer_act empty entered found direction length }
+fn status_transfer(empty: bool, entered: bool, found: Found, left: u32) -> Act
+    ensures { result ≡ status_transfer_act empty entered found left }
 {
     if empty {
-        return read_cbw(n - 1, found, direction, length);
+        return read_cbw(found, left);
     }
     if entered {
         return Act::Enter;
@@ -209,110 +185,90 @@ fn status_transfer(
     Act::Next
 }
 
-// 5, 6 and 8 enter 3 here, in the same poll. The status is unread then, so `found`, `direction` and `length` do not count.
+// 5, 6 and 8 enter 3 here, in the same poll. The status is unread then, so what was found and what is left do not count.
 #[cycle(handlers)]
-fn enter(n: u8) -> Act
-    requires { 1 ≤ n }
+fn enter() -> Act
     ensures { result ≡ Enter }
 {
-    status_transfer(
-        n - 1,
-        false,
-        true,
-        Found::Nothing,
-        DataDirection::NotExpected,
-        0,
-    )
+    status_transfer(false, true, Found::Nothing, 0)
 }
 
 // State 4 sends data until none is left or a status is present.
+// 4 and 7, and 6 and 8, differ only in an act and the next handler. Each has its own, so that this page lies beside bbb.rs and 01's table.
 #[cycle(handlers)]
-fn to_host(n: u8, left: u32, present: bool) -> Act
-    requires { 1 + extra present ≤ n }
+fn to_host(left: u32, present: bool) -> Act
     ensures { result ≡ to_host_act left present }
 {
     if left == 0 {
-        return status_await(n - 1, present);
+        return status_await(present);
     }
     if present {
-        return to_host_ending(n - 1, left);
+        return to_host_ending(left);
     }
     Act::Send
 }
 
 // State 5 waits for a status, and a status that is present is sent at once.
 #[cycle(handlers)]
-fn status_await(n: u8, present: bool) -> Act
-    requires { extra present ≤ n }
+fn status_await(present: bool) -> Act
     ensures { result ≡ status_await_act present }
 {
     if present {
-        return enter(n - 1);
+        return enter();
     }
     Act::Wait
 }
 
 // State 6 sends what is unread and then filler until nothing is left, because the host still expects data.
 #[cycle(handlers)]
-fn to_host_ending(n: u8, left: u32) -> Act
-    requires { 2 ≤ n }
+fn to_host_ending(left: u32) -> Act
     ensures { result ≡ to_host_ending_act left }
 {
     if left == 0 {
-        return enter(n - 1);
+        return enter();
     }
     Act::Fill
 }
 
 // State 7 reads data until none is left or a status is present.
 #[cycle(handlers)]
-fn from_host(n: u8, left: u32, present: bool) -> Act
-    requires { 1 + extra present ≤ n }
+fn from_host(left: u32, present: bool) -> Act
     ensures { result ≡ from_host_act left present }
 {
     if left == 0 {
-        return status_await(n - 1, present);
+        return status_await(present);
     }
     if present {
-        return from_host_ending(n - 1, left);
+        return from_host_ending(left);
     }
     Act::Take
 }
 
 // State 8 reads data and drops it until nothing is left, because the host still sends it.
 #[cycle(handlers)]
-fn from_host_ending(n: u8, left: u32) -> Act
-    requires { 2 ≤ n }
+fn from_host_ending(left: u32) -> Act
     ensures { result ≡ from_host_ending_act left }
 {
     if left == 0 {
-        return enter(n - 1);
+        return enter();
     }
     Act::Drop
 }
 
-// A poll that starts in the state `s` comes to this act. `left` is the count left, `present` says whether a status is present, and
-// `empty` whether nothing is unread. `found`, `direction` and `length` count only if the chain reaches the wrapper.
-pub fn settle(
-    s: State,
-    left: u32,
-    present: bool,
-    empty: bool,
-    found: Found,
-    direction: DataDirection,
-    length: u32,
-) -> Act
-    ensures { result ≡ settled s left present empty found direction length }
+// A poll that starts in the state `s` comes to this act. `present` says whether a status is present, and `empty` whether nothing is unread.
+// `found` counts only if the chain reaches the wrapper. `left` is the count left, which a valid wrapper that was found has set.
+pub fn settle(s: State, left: u32, present: bool, empty: bool, found: Found) -> Act
+    ensures { result ≡ settled s left present empty found }
 {
     match s {
-        State::CommandTransfer => read_cbw(CHAIN, found, direction, length),
+        State::CommandTransfer => read_cbw(found, left),
         State::CommandTransferInvalid => Act::Stall,
-        State::DataTransferNoData => no_data(CHAIN, present),
-        State::StatusTransfer => status_transfer(CHAIN, empty, false, found, direction, length),
-        State::DataTransferToHost => to_host(CHAIN, left, present),
-        State::DataTransferToHostStatusAwait => status_await(CHAIN, present),
-        State::DataTransferToHostEnding => to_host_ending(CHAIN, left),
-        State::DataTransferFromHost => from_host(CHAIN, left, present),
-        State::DataTransferFromHostEnding => from_host_ending(CHAIN, left),
+        State::DataTransferNoData => no_data(present),
+        State::StatusTransfer => status_transfer(empty, false, found, left),
+        State::DataTransferToHost => to_host(left, present),
+        State::DataTransferToHostStatusAwait => status_await(present),
+        State::DataTransferToHostEnding => to_host_ending(left),
+        State::DataTransferFromHost => from_host(left, present),
+        State::DataTransferFromHostEnding => from_host_ending(left),
     }
 }

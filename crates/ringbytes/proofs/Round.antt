@@ -8,6 +8,7 @@ use native.Mathlib.Omega.{arith}
 use lib.Dec.{eqb, lit<}
 use lib.ListN.{length, take, drop}
 use borrow.Author.Tests.{le-leb}
+use Rattle.std.specs.Prelude.{None}
 use Rattle.fields.specs.Field.{bytes_at}
 use Rattle.fields.proofs.Bools.{not_true, not_false}
 use Rattle.fields.proofs.Seq.{length_part}
@@ -24,7 +25,6 @@ use Rattle.wrapper.specs.Wrapper.{wrapper_of}
 use Rattle.wrapper.specs.Inner.Wrapper.{head_of}
 use Rattle.device.specs.declared.Device.{Device}
 use Rattle.device.specs.declared.Numbers.{Numbers}
-use Rattle.device.specs.declared.Status.TheVariants.{Absent}
 use Rattle.device.specs.Device.{numbers_of, rebuilt, with_put_in}
 use Rattle.device.specs.Broken.{Whole, is_whole, unless_broken}
 use Rattle.device.proofs.Wholly.{tested, whole_is, size_most, packet_known, packet_bounds}
@@ -53,13 +53,13 @@ pub tells : (o : Answer) (stalls : Stalls) (taken sent : ℕ) {a n s k u x : ℕ
 tells o stalls taken sent ea en es ek eu ex = rw (← ea, ← en, ← es, ← ek, ← eu, ex)
 
 module _ (r : List ℕ) (b : Bool) where
-  pub clears : b ≡ true → {l : List ℕ} → l ≡ store_status Absent r → l ≡ cond b (store_status Absent r) r
+  pub clears : b ≡ true → {l : List ℕ} → l ≡ store_status None r → l ≡ cond b (store_status None r) r
   clears q e = rw q e
 
-  pub clears_not : b ≡ false → r ≡ cond b (store_status Absent r) r
+  pub clears_not : b ≡ false → r ≡ cond b (store_status None r) r
   clears_not q = rw q
 
-pub keeps : (c : Change) (r : List ℕ) {a b d l : List ℕ} → a ≡ cond c.cleared (store_status Absent r) r → b ≡ store_state c.state a → d ≡ store_marks c.marks b → l ≡ store_left c.left d → l ≡ store_change c r
+pub keeps : (c : Change) (r : List ℕ) {a b d l : List ℕ} → a ≡ cond c.cleared (store_status None r) r → b ≡ store_state c.state a → d ≡ store_marks c.marks b → l ≡ store_left c.left d → l ≡ store_change c r
 unfolding store_change
 keeps c r ea eb ed el = rw (← ea, ← eb, ← ed, el)
 
@@ -90,23 +90,23 @@ module _ (r : List ℕ) (o : Opened) (io : List ℕ) {v : Bool} (ev : v ≡ is_v
 -- Where its parts are stored one by one, the device is stored: the wrapper, if `v` is true, and a cleared status, if `b` is.
 module _ (x : Wrapper) (s : State) (m : Marks) (l : Left) where
   parts_stored : (r : List ℕ) → Known r → (v b : Bool) → (v ≡ true → length x.block ≡ 16)
-      → store_left l (store_marks m (store_state s (cond b (store_status Absent (cond v (store_wrapper x r) r)) (cond v (store_wrapper x r) r))))
-      ≡ store_device (rebuilt (device_at r) s m (cond v x (device_at r).wrapper) (cond b Absent (device_at r).status) l) r
+      → store_left l (store_marks m (store_state s (cond b (store_status None (cond v (store_wrapper x r) r)) (cond v (store_wrapper x r) r))))
+      ≡ store_device (rebuilt (device_at r) s m (cond v x (device_at r).wrapper) (cond b None (device_at r).status) l) r
   parts_stored r k false false h = sym (moved_to r k s m l)
-  parts_stored r k false true h = sym (polled r k Absent s m l)
+  parts_stored r k false true h = sym (polled r k None s m l)
   parts_stored r k true false h = sym (parsed r k x (h refl) s m l)
-  parts_stored r k true true h = sym (renewed r k x Absent s m l)
+  parts_stored r k true true h = sym (renewed r k x None s m l)
 
   -- Before them the count of what was put in was stored as 0, if `a` is true.
   all_stored : (r : List ℕ) → Known r → (a v b : Bool) → (v ≡ true → length x.block ≡ 16) → {q : List ℕ} → q ≡ cond a (store_put_in (record { 0 = 0 }) r) r
-      → store_left l (store_marks m (store_state s (cond b (store_status Absent (cond v (store_wrapper x q) q)) (cond v (store_wrapper x q) q))))
-      ≡ store_device (with_put_in (cond a (record { 0 = 0 }) (device_at r).putin) (rebuilt (device_at r) s m (cond v x (device_at r).wrapper) (cond b Absent (device_at r).status) l)) r
+      → store_left l (store_marks m (store_state s (cond b (store_status None (cond v (store_wrapper x q) q)) (cond v (store_wrapper x q) q))))
+      ≡ store_device (with_put_in (cond a (record { 0 = 0 }) (device_at r).putin) (rebuilt (device_at r) s m (cond v x (device_at r).wrapper) (cond b None (device_at r).status) l)) r
   all_stored r k false v b h e = rw e (parts_stored r k v b h)
   all_stored r k true v b h e =
       let none : PutIn = record { 0 = 0 } in
       let stored = parts_stored (store_put_in none r) (counted_known r k none (λ _. lit< tt)) v b h in
       rw e (rw (counted_holds r k none (λ _. lit< tt)) at stored
-      ∙ sym (count_first r k none (λ _. lit< tt) (rebuilt (device_at r) s m (cond v x (device_at r).wrapper) (cond b Absent (device_at r).status) l)))
+      ∙ sym (count_first r k none (λ _. lit< tt) (rebuilt (device_at r) s m (cond v x (device_at r).wrapper) (cond b None (device_at r).status) l)))
 
 module _ (r io : List ℕ) (g : Given) (known : is_known r ≡ true) {n : Numbers} (en : n ≡ numbers_of (device_at r)) (w : Whole n (length io)) (f : Fits n.fixed.packetsize g.packet g.one g.two) where
   abbrev d : Device

@@ -1,11 +1,10 @@
 // One poll of a record of bytes: first the checks, and then the whole ring.
 #![tactic(auto)]
 
-ghost use Rattle.std.specs.Prelude.{◌≡◌, true, cond, ◌<◌, ◌^◌, length};
+ghost use Rattle.std.specs.Prelude.{◌≡◌, true, cond, ◌<◌, ◌^◌, length, None};
 ghost use Rattle.answers.specs.Answers as answers;
 ghost use Rattle.buffer.specs.Buffer.{buffer};
 ghost use Rattle.buffer.specs.Inner.Buffer.{Sound};
-ghost use Rattle.device.specs.declared.Status.TheVariants.{Absent};
 ghost use Rattle.device.specs.Device.{numbers_of};
 ghost use Rattle.device.specs.Broken.{Whole};
 ghost use Rattle.bbb.specs.Poll.{given, Fits};
@@ -21,7 +20,7 @@ use answers::{answer_number, carried};
 use bbb::open::{Opened, open};
 use bbb::{Change, Report, Turn, counted_anew, fits, go_on, is_valid};
 use border::word::{stalls_number, upper_half, word};
-use device::{Numbers, Status, whole};
+use device::{Numbers, whole};
 use recordbytes::{known, numbers_at, store};
 use wrapper::counters::PutIn;
 use wrapper::{head_of, in_wrapper};
@@ -42,23 +41,24 @@ fn keep_wrapper(record: &mut [u8], o: Opened, io: &[u8])
     requires { (length «record».old ≡ record_size) × Sound (buffer io.now o.marks) × InFront o }
     ensures { «record».new ≡ cond (is_valid_found o.found) (store_wrapper (wrapper_of (just_read io.now o.marks)) «record».old) «record».old }
 {
-    let found = o.found;
-    let marks = o.marks;
-    if is_valid(found) {
-        let end = marks.read;
+    if is_valid(o.found) {
+        let end = o.marks.read;
         let message = &io[end - in_wrapper::SIZE..end];
-        let head = head_of(message);
-        store::wrapper(record, head, &message[in_wrapper::BLOCK..in_wrapper::SIZE]);
+        store::wrapper(
+            record,
+            head_of(message),
+            &message[in_wrapper::BLOCK..in_wrapper::SIZE],
+        );
     }
 }
 
 // Clears the status where 0 was entered.
 fn clear(record: &mut [u8], cleared: bool)
     requires { length «record».old ≡ record_size }
-    ensures { «record».new ≡ cond cleared (store_status Absent «record».old) «record».old }
+    ensures { «record».new ≡ cond cleared (store_status None «record».old) «record».old }
 {
     if cleared {
-        store::status(record, Status::Absent);
+        store::status(record, None);
     }
 }
 

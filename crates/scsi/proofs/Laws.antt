@@ -1,6 +1,5 @@
--- These are laws of the decoder, and what each way through a function owes (`ways`).
+-- These are laws of the decoder.
 --     here, past              the table's rule at one row: the row has the opcode and decides, or the rows after it do
---     missing                 an opcode that is in no row
 --     long_enough             a listed block is as long as the row of its opcode says
 --     listed_known            a block of a listed opcode and length never decodes to Unknown
 --     unlisted_unknown        any other always does, with its opcode
@@ -8,21 +7,17 @@
 use mathlib.Core.Path.{◌≡◌, refl, sym, ◌∙◌}
 use mathlib.Core.Bool.{Bool, true, false, cond, not, ◌&&◌}
 use mathlib.Core.List.{List, [], ◌∷◌, map}
-use Prim.Native.Nat.{ℕ, zero, suc, ◌+◌, ◌≤◌, ◌<◌, zero-le}
+use Prim.Native.Nat.{ℕ, ◌+◌, ◌≤◌, ◌<◌, zero-le}
 use native.Mathlib.Numerals.{add-one}
 use lib.Dec.{eqb, leb}
 use lib.ListN.{length, get_or, drop, get_or-map}
 use lib.Seq.{drop-cons}
 use borrow.Author.Tests.{eq-eqb, ne_eqb, not-true, leb-true}
-use Rattle.fields.specs.Field.{Bits, bits, get_bits}
 use Rattle.fields.proofs.Bools.{and_left, and_right}
-use Rattle.scsi.specs.declared.PageControl.{PageControl}
-use Rattle.scsi.specs.declared.PageControl.TheVariants.{CurrentValues}
 use Rattle.scsi.specs.declared.ScsiCommand.{ScsiCommand}
 use Rattle.scsi.specs.declared.ScsiCommand.TheVariants.{Unknown, Inquiry, TestUnitReady, RequestSense, ModeSense6, ModeSense10, ReadCapacity10, ReadCapacity16, Read, Write, ReadFormatCapacities}
 use Rattle.scsi.specs.declared.table.Row.{Row}
-use Rattle.scsi.specs.Commands.{flag, page_control_of_number}
-use Rattle.scsi.specs.Decoding.{Layout, rows, opcode_of, lists, opcode_counts, is_listed, fields_by, Decoding, decoded, decode_call}
+use Rattle.scsi.specs.Decoding.{Layout, rows, opcode_of, lists, opcode_counts, is_listed, fields_by, decoded}
 use Rattle.scsi.specs.Inner.Decoding.{shortest_of}
 
 -- ---- the table, in the code's form
@@ -51,22 +46,6 @@ here rs op n i h e = sym (at_row rs op n i h ∙ simp (eq-eqb _ _ e))
 
 pub past : (rs : List Layout) (op n i : ℕ) → i < length rs → ((row_at rs i).0 ≡ op → ⊥) → lists (drop (i + 1) rs) op n ≡ lists (drop i rs) op n
 past rs op n i h k = sym (at_row rs op n i h ∙ simp (ne_eqb _ _ k))
-
--- No row has the opcode, in the form in which a `match` states it after its last arm: A, and then one such fact for each row in turn.
-abbrev pub Missing : Type 0 → List Layout → ℕ → Type 0
-Missing A [] op = A
-Missing A (r ∷ rs) op = Missing (A × (op ≡ r.opcode → ⊥)) rs op
-
-before : (A : Type 0) (rs : List Layout) (op : ℕ) → Missing A rs op → A
-before A [] op m = m
-before A (r ∷ rs) op m = (before (A × (op ≡ r.opcode → ⊥)) rs op m).0
-
-pub missing : (A : Type 0) (rs : List Layout) (op : ℕ) (b : List ℕ) → Missing A rs op → Unknown op ≡ fields_by rs op b
-unfolding fields_by
-missing A [] op b m = refl
-missing A (r ∷ rs) op b m =
-    let B = A × (op ≡ r.opcode → ⊥) in
-    rw (ne_eqb r.opcode op (λ e. (before B rs op m).1 (sym e))) (missing B rs op b m)
 
 -- ---- a listed block is long enough for its fields
 
@@ -129,50 +108,3 @@ listed_known e b h = rw h (known_by rows (opcode_of b) (length b) b (rows_known 
 pub unlisted_unknown : (e : Bool) (b : List ℕ) → is_listed e (opcode_of b) (length b) ≡ false → decoded e b ≡ Unknown (opcode_of b)
 unfolding decoded
 unlisted_unknown e b h = rw h
-
--- ---- ways
-
-pub set_by : (b : List ℕ) (at bit : ℕ) {x : ℕ} → x ≡ get_bits (bits at bit 1) b → eqb x 1 ≡ flag at bit b
-unfolding flag
-set_by b at bit e = rw e
-
-pub control_by : (b : List ℕ) (f : Bits) {x : ℕ} {p : PageControl} → x ≡ get_bits f b → p ≡ page_control_of_number x → p ≡ page_control_of_number (get_bits f b)
-control_by b f ex ep = rw (← ex) ep
-
-pub control_other : (n : ℕ) → (n ≡ 1 → ⊥) → (n ≡ 2 → ⊥) → (n ≡ 3 → ⊥) → CurrentValues ≡ page_control_of_number n
-unfolding page_control_of_number
-control_other zero a b c = refl
-control_other (suc zero) a b c = absurd (a refl)
-control_other (suc (suc zero)) a b c = absurd (b refl)
-control_other (suc (suc (suc zero))) a b c = absurd (c refl)
-control_other (suc (suc (suc (suc n)))) a b c = refl
-
-pub counts_told : (e : Bool) (op : ℕ) → e ≡ true → true ≡ opcode_counts e op
-unfolding opcode_counts
-counts_told e op h = rw h
-
-pub listed_by : (e : Bool) (op n : ℕ) {c r : Bool} → c ≡ opcode_counts e op → c ≡ true → r ≡ lists rows op n → r ≡ is_listed e op n
-unfolding is_listed
-listed_by e op n ec h er = rw (sym ec ∙ h) er
-
-pub listed_not : (e : Bool) (op n : ℕ) {c : Bool} → c ≡ opcode_counts e op → c ≡ false → false ≡ is_listed e op n
-unfolding is_listed
-listed_not e op n ec h = rw (sym ec ∙ h)
-
-pub decodes : (e : Bool) (b : List ℕ) {op : ℕ} {r : Bool} {c : ScsiCommand} → op ≡ opcode_of b → r ≡ is_listed e op (length b) → r ≡ true → c ≡ fields_by rows op b → c ≡ decoded e b
-unfolding decoded
-decodes e b eo er h ec = rw (← eo, sym er ∙ h) ec
-
-pub decodes_not : (e : Bool) (b : List ℕ) {op : ℕ} {r : Bool} → op ≡ opcode_of b → r ≡ is_listed e op (length b) → r ≡ false → Unknown op ≡ decoded e b
-unfolding decoded
-decodes_not e b eo er h = rw (← eo, sym er ∙ h)
-
-pub empty : (e : Bool) (b : List ℕ) → length b ≡ 0 → ◌≡◌ {A = Decoding} (record { answer = 13; commands = [] }) (decode_call e b)
-unfolding decode_call
-empty e b h = rw (eq-eqb _ _ h)
-
-pub filled : (e : Bool) (b : List ℕ) {c : ScsiCommand} → (length b ≡ 0 → ⊥) → c ≡ decoded e b → ◌≡◌ {A = Decoding} (record { answer = 0; commands = c ∷ [] }) (decode_call e b)
-unfolding decode_call
-filled e b n ec = rw (ne_eqb _ _ n, ec)
-
-pub ruleset ways = (set_by, control_by, counts_told, listed_lists, listed_by, listed_not, decodes, decodes_not, empty, filled)

@@ -1,7 +1,7 @@
 -- These laws belong to no single function.
---     Laws         the table's rule, once for any table; and what each way through a function owes
+--     Laws         the table's rule, once for any table; and which blocks are known
 --     Telling      what is told matters exactly for READ (16) and WRITE (16)
---     Six          a command as six numbers
+--     Six          a command as six numbers: the plain entry is the one that is told 1
 --     Unique       no contract has a second answer
 --     Computing    what cases compute with
 --     Cases        the cases of specs/Cases.antt hold

@@ -1,8 +1,6 @@
 -- Document 01, section Decoding: the table, and what a block decodes to. Assumes nothing: these are definitions.
-use Rattle.std.specs.Prelude.{ℕ, Bool, true, false, cond, not, ◌&&◌, ◌||◌, List, [], ◌∷◌, eqb, leb, length}
+use Rattle.std.specs.Prelude.{ℕ, Bool, true, false, cond, not, ◌&&◌, ◌||◌, Option, Some, None, List, [], ◌∷◌, eqb, leb, length}
 use Rattle.fields.specs.Field.{one_byte, get}
-use Rattle.scsi.specs.declared.Decoded.{Decoded}
-use Rattle.scsi.specs.declared.Decoded.TheVariants.{Command, Empty}
 use Rattle.scsi.specs.declared.ScsiCommand.{ScsiCommand}
 use Rattle.scsi.specs.declared.ScsiCommand.TheVariants.{Unknown}
 use Rattle.scsi.specs.Commands.{test_unit_ready, request_sense, inquiry, mode_sense6, mode_sense10, read_capacity10, read_capacity16, read10, write10, read16, write16, read_format_capacities}
@@ -74,10 +72,10 @@ pub record Decoding : Type 0 where
 abbrev pub decoding : ℕ → List ScsiCommand → Decoding
 decoding n c = record { answer = n; commands = c }
 
--- This is the outcome that each answer of the code stands for; `c` is the command that it carries.
-abbrev pub answer_of : Decoded → Decoding
-answer_of (Command c) = decoding 0 (c ∷ [])
-answer_of Empty = decoding 13 []
+-- This is the outcome that each answer of the code stands for; `c` is the command that it carries, and an empty block has none.
+abbrev pub answer_of : Option ScsiCommand → Decoding
+answer_of (Some c) = decoding 0 (c ∷ [])
+answer_of None = decoding 13 []
 
 -- Decoding the block `b` has this outcome: 13 for "decoding an empty block", otherwise 0 with the command.
 -- `extended` says whether extended addressing is on.

@@ -15,13 +15,13 @@ use crate::commands::read_fields;
 use crate::table::listed;
 use fields::byte;
 
-// A MODE SENSE asks for one of these kinds of values.
+// A MODE SENSE asks for one of these kinds of values. They have SPC's numbers.
 #[derive(Clone, Copy)]
 pub enum PageControl {
-    CurrentValues,
-    ChangeableValues,
-    DefaultValues,
-    SavedValues,
+    CurrentValues = 0,
+    ChangeableValues = 1,
+    DefaultValues = 2,
+    SavedValues = 3,
 }
 
 // A block decodes to one of these commands. They are named and ordered as in the Rust.
@@ -71,42 +71,38 @@ pub enum ScsiCommand {
     },
 }
 
-// A block with at least one byte decodes to a command.
-#[derive(Clone, Copy)]
-pub enum Decoded {
-    Command(ScsiCommand),
-    // The block has no byte, and so no opcode.
-    Empty,
-}
-
 // Decodes a `block` that has at least one byte, and so an opcode. `extended` says whether extended addressing is on.
+#[tactic(auto, using(crate::proofs::Laws::listed_lists), unfolding(crate::specs::Decoding::decoded))]
 fn command(block: &[u8], extended: bool) -> ScsiCommand
     requires { 1 ≤ length block.now }
     ensures { result ≡ decoded extended block.now }
 {
     let opcode = byte(block, 0);
     if listed(opcode, block.len(), extended) {
-        return read_fields(block, opcode);
+        read_fields(block, opcode)
+    } else {
+        ScsiCommand::Unknown { cmd: opcode }
     }
-    ScsiCommand::Unknown { cmd: opcode }
 }
 
-// Decodes `block` for a caller who tells whether extended addressing is on: 88 and 8A count only if `extended` is true.
-pub fn decode_told(block: &[u8], extended: bool) -> Decoded
+// Decodes `block` for a caller who tells whether extended addressing is on: 88 and 8A count only if `extended` is true. A block with at least
+// one byte decodes to a command; one that has no byte has no opcode.
+#[tactic(auto, unfolding(crate::specs::Decoding::decode_call))]
+pub fn decode_told(block: &[u8], extended: bool) -> Option<ScsiCommand>
     ensures { answer_of result ≡ decode_call extended block.now }
 {
     if block.len() == 0 {
-        return Decoded::Empty;
+        return None;
     }
-    let c = command(block, extended);
-    Decoded::Command(c)
+    Some(command(block, extended))
 }
 
 // Plain entries, here and in the crates above, have extended addressing on.
 pub const PLAIN_IS_EXTENDED: bool = true;
 
 // Decodes `block` with extended addressing on: this is the plain entry.
-pub fn decode(block: &[u8]) -> Decoded
+#[tactic(auto, unfolding(crate::specs::Decoding::plain_call))]
+pub fn decode(block: &[u8]) -> Option<ScsiCommand>
     ensures { answer_of result ≡ plain_call block.now }
 {
     decode_told(block, PLAIN_IS_EXTENDED)

@@ -2,30 +2,39 @@
 // two entries stand here with the command in such numbers.
 ghost use Rattle.std.specs.Prelude.{◌≡◌, length};
 ghost use Rattle.scsi.specs.Decoding.{decode_call};
-ghost use Rattle.scsi.specs.Numbers.{flag_number, page_control_number, six, command_numbers, decode_outcome, decode_outcome_of, shown_decode, shown_told};
+ghost use Rattle.scsi.specs.Numbers.{six, command_numbers, decode_outcome, decode_outcome_of, shown_decode, shown_told};
+ghost use Rattle.scsi.specs.Inner.Numbers.{refusal_number, outcome_number};
 
-use crate::{PLAIN_IS_EXTENDED, PageControl, ScsiCommand, command};
+use crate::{PLAIN_IS_EXTENDED, ScsiCommand, command};
 
-// Gives 1 for a flag that is set, and 0 for one that is not.
-fn flag_number(flag: bool) -> u64
-    ensures { result ≡ flag_number flag }
-{
-    if flag { 1 } else { 0 }
+// Nothing is decoded: what was lent is not six numbers, or what was told is no flag, or the block is empty. The refusals have 01's numbers.
+#[derive(Clone, Copy)]
+pub enum Refusal {
+    BrokenRecord = 10,
+    EmptyBlock = 13,
 }
 
-// Gives SPC's number of a page control.
-fn control_number(control: PageControl) -> u64
-    ensures { result ≡ page_control_number control }
-{
-    match control {
-        PageControl::CurrentValues => 0,
-        PageControl::ChangeableValues => 1,
-        PageControl::DefaultValues => 2,
-        PageControl::SavedValues => 3,
+impl Refusal {
+    // Gives 01's number of the refusal.
+    pub fn number(self) -> u32
+        ensures { result ≡ refusal_number self }
+    {
+        self as u32
     }
 }
 
-// Stores a command's six numbers, `kind` and the fields `a` to `e`, in `lent`.
+// Gives the answer of the C interface: 0, or the number of the refusal.
+fn outcome_number(outcome: Result<(), Refusal>) -> u32
+    ensures { result ≡ outcome_number outcome }
+{
+    match outcome {
+        Ok(()) => 0,
+        Err(refusal) => refusal.number(),
+    }
+}
+
+// Stores a command's six numbers, `kind` and the fields `a` to `e`, in `lent`. This and the next function take a slice and not an array: std's
+// `as_mut_array` gives back a pointer, which no function may do in the module for 32-bit processors (tools/pointers.awk).
 fn put_six(lent: &mut [u64], kind: u64, a: u64, b: u64, c: u64, d: u64, e: u64)
     requires { length lent.old ≡ 6 }
     ensures { lent.new ≡ six kind a b c d e }
@@ -53,7 +62,7 @@ pub fn put_command(lent: &mut [u64], command: ScsiCommand)
             put_six(
                 lent,
                 1,
-                flag_number(evpd),
+                evpd as u64,
                 page_code as u64,
                 alloc_len as u64,
                 0,
@@ -62,7 +71,7 @@ pub fn put_command(lent: &mut [u64], command: ScsiCommand)
         }
         ScsiCommand::TestUnitReady => put_six(lent, 2, 0, 0, 0, 0, 0),
         ScsiCommand::RequestSense { desc, alloc_len } => {
-            put_six(lent, 3, flag_number(desc), alloc_len as u64, 0, 0, 0)
+            put_six(lent, 3, desc as u64, alloc_len as u64, 0, 0, 0)
         }
         ScsiCommand::ModeSense6 {
             dbd,
@@ -71,12 +80,11 @@ pub fn put_command(lent: &mut [u64], command: ScsiCommand)
             subpage_code,
             alloc_len,
         } => {
-            let control = control_number(page_control);
             put_six(
                 lent,
                 4,
-                flag_number(dbd),
-                control,
+                dbd as u64,
+                page_control as u64,
                 page_code as u64,
                 subpage_code as u64,
                 alloc_len as u64,
@@ -89,12 +97,11 @@ pub fn put_command(lent: &mut [u64], command: ScsiCommand)
             subpage_code,
             alloc_len,
         } => {
-            let control = control_number(page_control);
             put_six(
                 lent,
                 5,
-                flag_number(dbd),
-                control,
+                dbd as u64,
+                page_control as u64,
                 page_code as u64,
                 subpage_code as u64,
                 alloc_len as u64,
@@ -117,36 +124,38 @@ pub fn put_command(lent: &mut [u64], command: ScsiCommand)
 }
 
 // Decodes `block`, and stores its command in the six numbers `lent`. Nothing but the command itself stands between the two: each further
-// copy of a command is 24 bytes of stack. The answer is 0 if the command stands there, 13 if the block is empty, and 10 if `lent` does
-// not have six numbers.
-pub fn put_decoded(block: &[u8], extended: bool, lent: &mut [u64]) -> u32
-    ensures { decode_outcome result lent.new ≡ decode_outcome_of lent.old (decode_call extended block.now) }
+// copy of a command is 24 bytes of stack. It refuses lent numbers that are not six first, and then an empty block.
+#[tactic(auto, unfolding(crate::specs::Decoding::decode_call, crate::specs::Numbers::decode_outcome_of))]
+pub fn put_decoded(block: &[u8], extended: bool, lent: &mut [u64]) -> Result<(), Refusal>
+    ensures { decode_outcome (outcome_number result) lent.new ≡ decode_outcome_of lent.old (decode_call extended block.now) }
 {
     if lent.len() != 6 {
-        return 10;
+        return Err(Refusal::BrokenRecord);
     }
     if block.len() == 0 {
-        return 13;
+        return Err(Refusal::EmptyBlock);
     }
-    let c = command(block, extended);
-    put_command(lent, c);
-    0
+    put_command(lent, command(block, extended));
+    Ok(())
 }
 
-// Decodes `block` with extended addressing on: this is the plain entry. It answers as `put_decoded` does.
+// Decodes `block` with extended addressing on: this is the plain entry. The answer is 0 if the command stands in `lent`, 13 if the block is
+// empty, and 10 if `lent` does not have six numbers.
+#[tactic(auto, unfolding(crate::specs::Numbers::shown_decode, crate::specs::Decoding::plain_call))]
 pub fn decode_into(block: &[u8], lent: &mut [u64]) -> u32
     ensures { decode_outcome result lent.new ≡ shown_decode block.now lent.old }
 {
-    put_decoded(block, PLAIN_IS_EXTENDED, lent)
+    outcome_number(put_decoded(block, PLAIN_IS_EXTENDED, lent))
 }
 
 // Decodes `block` with extended addressing off (`extended` is 0) or on (1). For any other `extended` it answers 10;
-// its other answers are those of `put_decoded`.
+// its other answers are those of `decode_into`. The flag is a number, as the C interface has it.
+#[tactic(auto, unfolding(crate::specs::Numbers::shown_told))]
 pub fn decode_told_into(block: &[u8], extended: u32, lent: &mut [u64]) -> u32
     ensures { decode_outcome result lent.new ≡ shown_told extended block.now lent.old }
 {
     if 1 < extended {
-        return 10;
+        return Refusal::BrokenRecord.number();
     }
-    put_decoded(block, extended == 1, lent)
+    outcome_number(put_decoded(block, extended == 1, lent))
 }

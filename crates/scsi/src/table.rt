@@ -26,36 +26,26 @@ const ROWS: [Row; 12] = [
 fn in_table(opcode: u8, n: usize) -> bool
     ensures { result ≡ lists rows opcode n }
 {
-    let mut i: usize = 0;
-    while i < 12 {
-        let row = ROWS[i];
+    for row in ROWS {
         if row.0 == opcode {
             return row.1 as usize <= n;
         }
-        i += 1;
     }
     false
 }
 
 // Tests whether `opcode` counts: 88 and 8A do so only if `extended` is true.
+#[tactic(auto, unfolding(crate::specs::Decoding::opcode_counts))]
 fn opcode_counts(opcode: u8, extended: bool) -> bool
     ensures { result ≡ opcode_counts extended opcode }
 {
-    if extended {
-        return true;
-    }
-    if opcode == 0x88 {
-        return false;
-    }
-    opcode != 0x8A
+    extended || (opcode != 0x88 && opcode != 0x8A)
 }
 
 // Tests whether a block of `n` bytes with this `opcode` is one of the listed commands, where `extended` says whether 88 and 8A count.
+#[tactic(auto, unfolding(crate::specs::Decoding::is_listed))]
 pub(crate) fn listed(opcode: u8, n: usize, extended: bool) -> bool
     ensures { result ≡ is_listed extended opcode n }
 {
-    if opcode_counts(opcode, extended) {
-        return in_table(opcode, n);
-    }
-    false
+    opcode_counts(opcode, extended) && in_table(opcode, n)
 }

@@ -3,6 +3,7 @@ use mathlib.Core.Path.{◌≡◌, sym, ◌∙◌}
 use mathlib.Core.Bool.{Bool, true, false}
 use mathlib.Core.List.{List, ◌∷◌, ◌++◌}
 use lib.ListN.{drop}
+use Rattle.std.specs.Prelude.{is_some}
 use Rattle.fields.specs.Case.{Case, case, AllHold}
 use Rattle.fields.proofs.Bools.{clash}
 use Rattle.fields.proofs.Wrong.{bites, holds_there}
@@ -18,7 +19,7 @@ use Rattle.starred.proofs.Hold.{hold}
 
 -- "Block length 0 .. invalid*" is the first row of `wrapper`: whether such a message is valid; and the rows after it.
 abbrev computed : Bool
-computed = (parsed (message 0x80 0 0)).valid
+computed = is_some (parsed (message 0x80 0 0))
 
 abbrev rest : List Case
 rest = drop 1 wrapper.starred ++ (bbb.starred ++ (readout.starred ++ scsi.starred))

@@ -8,47 +8,40 @@
 use mathlib.Core.Path.{◌≡◌, refl, sym, ap, ◌∙◌}
 use mathlib.Core.Bool.{Bool, true, false, cond}
 use mathlib.Core.List.{List, [], ◌∷◌, ◌++◌}
-use Prim.Native.Nat.{ℕ, suc, ◌+◌, ◌^◌, ◌/◌, ◌%◌, ◌≤◌, ◌<◌}
+use Rattle.std.specs.Prelude.{Some, None}
+use Rattle.std.specs.Int.{to_le_bytes, w32}
+use Prim.Native.Nat.{ℕ, suc, ◌+◌, ◌^◌, ◌≤◌, ◌<◌}
 use native.Mathlib.Numerals.{unary_clauses}
 use native.Mathlib.Omega.{arith}
 use lib.Dec.{leb, lit<, lit≤}
-use lib.ListN.{length, take, set, replicate}
-use lib.Seq.{sets, set_out, take_all}
-use borrow.Author.Tests.{leb-true, leb-false, le-leb, lt-leb}
+use lib.ListN.{length, take, get_or, set, replicate}
+use lib.Seq.{sets, take_all}
+use borrow.Author.Tests.{leb-true, leb-false}
 use Rattle.fields.specs.Field.{digits, get, put}
 use Rattle.fields.specs.Overlay.{overlay}
-use Rattle.fields.proofs.Field.{length_put, put_stored, byte_stored, get_put, get_before}
+use Rattle.fields.proofs.Field.{length_put, put_stored, byte_stored, get_put, get_before, le_digits}
 use Rattle.fields.proofs.Overlay.{overlay_nothing, overlay_whole}
 use Rattle.fields.proofs.Seq.{all_stored}
 use Rattle.wrapper.specs.declared.status.CommandStatus.{CommandStatus}
-use Rattle.wrapper.specs.declared.status.StatusByte.TheVariants.{Known, Refused}
 use Rattle.wrapper.specs.declared.counters.Residue.{Residue}
 use Rattle.wrapper.specs.Status.{status_signature, d_csw_signature, d_csw_tag, d_csw_data_residue, b_csw_status, status_number, status_bytes, StatusAnswering, answer_of, status_call}
 
 -- ---- the status byte
 
-pub status_known : (b k : ℕ) → k ≤ 2 → b ≡ k → ◌≡◌ {A = StatusAnswering} (record { answer = 0; status = k }) (status_call b)
-unfolding status_call
-status_known b k h e = rw (e, le-leb k 2 h)
-
-pub status_refused : (b : ℕ) → 2 < b → ◌≡◌ {A = StatusAnswering} (record { answer = 12; status = 0 }) (status_call b)
-unfolding status_call
-status_refused b h = rw (lt-leb b 2 h)
-
 -- A byte that was known is at most 2 and is the number of its status; one that was refused is above 2.
-pub status_accepted : (b : ℕ) (s : CommandStatus) → answer_of (Known s) ≡ status_call b → (b ≤ 2) × (status_number s ≡ b)
+pub status_accepted : (b : ℕ) (s : CommandStatus) → answer_of (Some s) ≡ status_call b → (b ≤ 2) × (status_number s ≡ b)
 unfolding status_call
 status_accepted b s e = picked (leb b 2) refl e
   where
-    picked : (t : Bool) → leb b 2 ≡ t → answer_of (Known s) ≡ cond t (record { answer = 0; status = b }) (record { answer = 12; status = 0 }) → (b ≤ 2) × (status_number s ≡ b)
+    picked : (t : Bool) → leb b 2 ≡ t → answer_of (Some s) ≡ cond t (record { answer = 0; status = b }) (record { answer = 12; status = 0 }) → (b ≤ 2) × (status_number s ≡ b)
     picked true h e = (leb-true b 2 h, ap (λ (x : StatusAnswering). x.status) e)
     picked false h e = let n : ◌≡◌ {A = ℕ} 0 12 = ap (λ (x : StatusAnswering). x.answer) e in omega arith
 
-pub status_above : (b : ℕ) → answer_of Refused ≡ status_call b → 2 < b
+pub status_above : (b : ℕ) → answer_of None ≡ status_call b → 2 < b
 unfolding status_call
 status_above b e = picked (leb b 2) refl e
   where
-    picked : (t : Bool) → leb b 2 ≡ t → answer_of Refused ≡ cond t (record { answer = 0; status = b }) (record { answer = 12; status = 0 }) → 2 < b
+    picked : (t : Bool) → leb b 2 ≡ t → answer_of None ≡ cond t (record { answer = 0; status = b }) (record { answer = 12; status = 0 }) → 2 < b
     picked true h e = let n : ◌≡◌ {A = ℕ} 12 0 = ap (λ (x : StatusAnswering). x.answer) e in omega arith
     picked false h e = leb-false b 2 h
 
@@ -84,15 +77,13 @@ length_status tag r n = length_put b_csw_status n (counted tag r) (omega (arith,
 
 -- ---- bytes stored one after the other, as far as there is room
 
--- A store at an index that the list does not have changes nothing.
-pub store_none : (d : List ℕ) (i b : ℕ) → length d ≤ i → d ≡ set d i b
-store_none d i b h = sym (set_out d i b h)
-
-pub number_stored : (d : List ℕ) (at n : ℕ) {a b c e : List ℕ}
-    → a ≡ set d at (n % 256) → b ≡ set a (at + 1) (n / 256 % 256) → c ≡ set b (at + 2) (n / 256 / 256 % 256) → e ≡ set c (at + 3) (n / 256 / 256 / 256 % 256)
+pub number_stored : (d : List ℕ) (at n : ℕ) {bs a b c e : List ℕ} → bs ≡ to_le_bytes w32 n
+    → a ≡ set d at (get_or bs 0 0) → b ≡ set a (at + 1) (get_or bs 1 0) → c ≡ set b (at + 2) (get_or bs 2 0) → e ≡ set c (at + 3) (get_or bs 3 0)
     → e ≡ sets d at (digits 4 n)
 unfolding digits
-number_stored d at n ea eb ec ee = rw (ee, ec, eb, ea) (simp unary_clauses)
+number_stored d at n {bs} h ea eb ec ee =
+    let told : bs ≡ digits 4 n = h ∙ le_digits n in
+    rw (ee, ec, eb, ea, told) (simp unary_clauses)
 
 sets_nowhere : (i : ℕ) (ys : List ℕ) → sets [] i ys ≡ []
 sets_nowhere i [] = refl
@@ -174,4 +165,4 @@ module _ (tag : ℕ) (r : Residue) (status : ℕ) where
   unfolding status_bytes blank signed tagged counted
   status_read h = get_put b_csw_status status (counted tag r) (omega (arith, length_counted tag r)) h
 
-pub ruleset ways = (status_known, status_refused, store_none, number_stored, status_whole)
+pub ruleset ways = (number_stored, status_whole)

@@ -1,20 +1,19 @@
 -- These are laws of the verdict.
 --     meaningful_cbw, cbw_meaningful    a message is meaningful exactly if BOT calls it so
---     ways                              what each way through a function owes
 -- Assumes nothing.
 use mathlib.Core.Path.{◌≡◌, refl, sym, ap, ◌∙◌}
 use mathlib.Core.Bool.{Bool, true, false, cond, ◌&&◌}
 use mathlib.Core.List.{List}
-use Prim.Native.Nat.{ℕ, ◌≤◌, ◌<◌}
+use Prim.Native.Nat.{ℕ}
 use lib.Dec.{eqb, leb}
-use borrow.Author.Tests.{eq-eqb, ne_eqb, eqb-true, leb-true, le-leb, lt-leb}
+use borrow.Author.Tests.{eq-eqb, eqb-true, leb-true, le-leb}
 use Rattle.fields.specs.Field.{get, get_bits}
 use Rattle.fields.proofs.Bools.{and_left, and_right}
 use Rattle.fields.proofs.Bits.{bits_split, clear_parts}
 use Rattle.wrapper.specs.declared.verdict.Verdict.{Verdict}
 use Rattle.wrapper.specs.declared.verdict.Verdict.TheVariants.{Invalid, ValidOnly, Meaningful}
 use Rattle.wrapper.specs.Wrapper.{obsolete_flag, reserved_flags, b_cbw_lun, reserved_beside_lun, b_cbw_cb_length, is_signed, is_block_length, is_valid}
-use Rattle.wrapper.specs.Verdict.{bits0_to6_of_byte12, bits4_to7_of_byte13, is_clear, is_meaningful, verdict_of, verdict_number, MeaningfulCBW}
+use Rattle.wrapper.specs.Verdict.{bits0_to6_of_byte12, bits4_to7_of_byte13, is_clear, is_meaningful, verdict_of, MeaningfulCBW}
 use Rattle.wrapper.proofs.Cbw.{is_valid_lem, valid_is}
 
 -- ---- BOT's rule
@@ -69,42 +68,3 @@ meaningful_cbw max m e =
       obsolete = parts.0;
       beside = clear.1;
     }
-
--- ---- ways
-
-pub clears : (m : List ℕ) {x y : ℕ} → x ≡ get_bits bits0_to6_of_byte12 m → x ≡ 0 → y ≡ get_bits bits4_to7_of_byte13 m → eqb y 0 ≡ is_clear m
-unfolding is_clear
-clears m ex e ey = rw (← ex, e, ← ey)
-
-pub clears_not : (m : List ℕ) {x : ℕ} → x ≡ get_bits bits0_to6_of_byte12 m → (x ≡ 0 → ⊥) → false ≡ is_clear m
-unfolding is_clear
-clears_not m ex n = rw (← ex, ne_eqb _ _ n)
-
-pub means : (m : List ℕ) (max : ℕ) {c r : Bool} {x b : ℕ} → c ≡ is_clear m → c ≡ true → x ≡ get_bits b_cbw_lun m → x ≤ max → b ≡ get b_cbw_cb_length m → r ≡ is_block_length b → r ≡ is_meaningful max m
-unfolding is_meaningful
-means m max ec c ex le eb er = rw (← ec, c, ← ex, le-leb _ _ le, ← eb) er
-
-pub means_not : (m : List ℕ) (max : ℕ) {c : Bool} {x : ℕ} → c ≡ is_clear m → c ≡ true → x ≡ get_bits b_cbw_lun m → max < x → false ≡ is_meaningful max m
-unfolding is_meaningful
-means_not m max ec c ex lt = rw (← ec, c, ← ex, lt-leb _ _ lt)
-
-pub unclear_means_not : (m : List ℕ) (max : ℕ) {c : Bool} → c ≡ is_clear m → c ≡ false → false ≡ is_meaningful max m
-unfolding is_meaningful
-unclear_means_not m max ec c = rw (← ec, c)
-
-pub meaningful_verdict : (m : List ℕ) (max : ℕ) {s r : Bool} → s ≡ is_signed m → s ≡ true → r ≡ is_meaningful max m → r ≡ true → Meaningful ≡ verdict_of max m
-unfolding verdict_of
-meaningful_verdict m max es e er t = rw (sym es ∙ e, sym er ∙ t)
-
-pub valid_verdict : (m : List ℕ) (max : ℕ) {s r : Bool} → s ≡ is_signed m → s ≡ true → r ≡ is_meaningful max m → r ≡ false → ValidOnly ≡ verdict_of max m
-unfolding verdict_of
-valid_verdict m max es e er t = rw (sym es ∙ e, sym er ∙ t)
-
-pub invalid_verdict : (m : List ℕ) (max : ℕ) {s : Bool} → s ≡ is_signed m → s ≡ false → Invalid ≡ verdict_of max m
-unfolding verdict_of
-invalid_verdict m max es e = rw (sym es ∙ e)
-
-pub numbered : (k : Verdict) (max : ℕ) (m : List ℕ) {v : Verdict} → v ≡ verdict_of max m → v ≡ k → verdict_number k ≡ verdict_number (verdict_of max m)
-numbered k max m e ek = ap verdict_number (sym ek ∙ e)
-
-pub ruleset ways = (clears, clears_not, means, means_not, unclear_means_not, meaningful_verdict, valid_verdict, invalid_verdict)

@@ -34,9 +34,9 @@ direction_small In = refl
 direction_small NotExpected = refl
 
 -- A number that is neither 0 nor 1 gives the last direction.
-pub the_last_direction : (n : ℕ) → ((Unit {0} × (n ≡ 0 → ⊥)) × (n ≡ 1 → ⊥)) → Out ≡ direction_of_number n
+pub the_last_direction : (n : ℕ) → (n ≡ 0 → ⊥) → (n ≡ 1 → ⊥) → Out ≡ direction_of_number n
 unfolding direction_of_number
-the_last_direction n m = rw (ne_eqb _ 0 m.0.1, ne_eqb _ 1 m.1)
+the_last_direction n m k = rw (ne_eqb _ 0 m, ne_eqb _ 1 k)
 
 -- ---- the status
 
@@ -56,6 +56,6 @@ status_small Failed = refl
 status_small PhaseError = refl
 
 -- A number that is neither 0 nor 1 gives the last status.
-pub the_last_status : (n : ℕ) → ((Unit {0} × (n ≡ 0 → ⊥)) × (n ≡ 1 → ⊥)) → PhaseError ≡ status_of_number n
+pub the_last_status : (n : ℕ) → (n ≡ 0 → ⊥) → (n ≡ 1 → ⊥) → PhaseError ≡ status_of_number n
 unfolding status_of_number
-the_last_status n m = rw (ne_eqb _ 0 m.0.1, ne_eqb _ 1 m.1)
+the_last_status n m k = rw (ne_eqb _ 0 m, ne_eqb _ 1 k)

@@ -4,7 +4,7 @@
 --     parsed_cleared                            the parser does not see them
 --     cleared_meaningful, meaningful_cleared    without them a message is meaningful exactly if it is valid and the device has its LUN
 -- Assumes nothing.
-use mathlib.Core.Path.{◌≡◌, refl, sym, ap, ◌∙◌}
+use mathlib.Core.Path.{◌≡◌, sym, ap, ◌∙◌}
 use mathlib.Core.Bool.{true, false, ◌&&◌, ◌||◌}
 use mathlib.Core.List.{List}
 use Prim.Native.Nat.{ℕ, ◌+◌, ◌*◌, ◌/◌, ◌%◌, ◌≤◌, ◌<◌}
@@ -19,16 +19,16 @@ use Rattle.fields.proofs.Field.{byte_held}
 use Rattle.fields.proofs.Bits.{clear_parts, bit_clear, length_put_bits, get_put_bits, bits_below, bits_above, bits_elsewhere, bytes_before_bits, bytes_behind_bits}
 use Rattle.wrapper.specs.declared.verdict.Verdict.TheVariants.{ValidOnly, Meaningful}
 use Rattle.wrapper.specs.Wrapper.{d_cbw_signature, d_cbw_tag, d_cbw_data_transfer_length, bm_cbw_flags, direction_bit, b_cbw_lun, b_cbw_cb_length, cbwcb, Valid, is_signed, is_valid, wrapper_of, parsed}
-use Rattle.wrapper.specs.Verdict.{bits0_to6_of_byte12, bits4_to7_of_byte13, is_clear, verdict_of, cleared}
+use Rattle.wrapper.specs.Verdict.{bits0_to6_of_byte12, bits4_to7_of_byte13, is_clear, is_meaningful, verdict_of, cleared}
 use Rattle.wrapper.proofs.Cbw.{is_valid_lem, valid_is}
-use Rattle.wrapper.proofs.Judged.{clear_bits, meaningful_cbw, cbw_meaningful, unclear_means_not, valid_verdict}
+use Rattle.wrapper.proofs.Judged.{clear_bits, meaningful_cbw, cbw_meaningful}
 
 -- ---- one reserved bit
 
 -- The bit b is 1. If a clear message has 0 there, this message is not clear.
 valid_only : (max : ℕ) (m : List ℕ) {b : ℕ} → is_signed m ≡ true → b ≡ 1 → (is_clear m ≡ true → b ≡ 0) → verdict_of max m ≡ ValidOnly
-valid_only max m signed set never =
-    cases (is_clear m) (λ c. absurd (omega (arith, set, never c))) (λ c. sym (valid_verdict m max refl signed (unclear_means_not m max refl c) refl))
+unfolding verdict_of is_meaningful
+valid_only max m signed set never = cases (is_clear m) (λ c. absurd (omega (arith, set, never c))) (λ c. rw (signed, c))
 
 pub flag_set : (max : ℕ) (m : List ℕ) (i : ℕ) → is_signed m ≡ true → i ≤ 6 → get_bits (bits 12 i 1) m ≡ 1 → verdict_of max m ≡ ValidOnly
 flag_set max m i signed most set = valid_only max m signed set (λ c. bit_clear m bits0_to6_of_byte12 i (clear_bits m c).0 (omega arith) (omega arith))

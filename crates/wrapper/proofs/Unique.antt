@@ -3,10 +3,10 @@
 use mathlib.Core.Path.{◌≡◌, refl, sym, ap, ◌∙◌}
 use mathlib.Core.Bool.{cond}
 use lib.Dec.{eqb}
+use Rattle.std.specs.Prelude.{Option, Some, None}
 use Rattle.fields.proofs.Only.{Only}
 use Rattle.wrapper.specs.declared.status.CommandStatus.TheVariants.{Passed, Failed, PhaseError}
-use Rattle.wrapper.specs.declared.status.StatusByte.{StatusByte}
-use Rattle.wrapper.specs.declared.status.StatusByte.TheVariants.{Known, Refused}
+use Rattle.wrapper.specs.declared.status.CommandStatus.{CommandStatus}
 use Rattle.wrapper.specs.Status.{status_of_number, StatusAnswering, answer_of}
 use Rattle.wrapper.proofs.counters.left_after.Kinds as left-after-kinds
 use Rattle.wrapper.proofs.counters.left_after.Reads as left_After
@@ -44,15 +44,15 @@ use Rattle.wrapper.proofs.verdict.verdict_number.Kinds as verdict-number-kinds
 use Rattle.wrapper.proofs.verdict.verdict_number.Reads as verdict-number
 
 -- Document 01's number and the number of the status determine the answer.
-named : StatusAnswering → StatusByte
-named t = cond (eqb t.answer 12) Refused (Known (status_of_number t.status))
+named : StatusAnswering → Option CommandStatus
+named t = cond (eqb t.answer 12) None (Some (status_of_number t.status))
 
-named_answer : (x : StatusByte) → named (answer_of x) ≡ x
+named_answer : (x : Option CommandStatus) → named (answer_of x) ≡ x
 unfolding named status_of_number
-named_answer (Known Passed) = refl
-named_answer (Known Failed) = refl
-named_answer (Known PhaseError) = refl
-named_answer Refused = refl
+named_answer (Some Passed) = refl
+named_answer (Some Failed) = refl
+named_answer (Some PhaseError) = refl
+named_answer None = refl
 
 pub left_after_only : Only 0 left-after-kinds.ps left-after-kinds.r left_After.Post (λ κs s. tt {0})
 left_after_only κs a x y s t p q = (p ∙ sym q, refl)

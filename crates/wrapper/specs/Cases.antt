@@ -1,14 +1,15 @@
 -- One table has the cases of the wrapper, the status, the residue and the verdict. proofs/Cases.antt states that each case holds.
 -- Assumes nothing.
-use Rattle.std.specs.Prelude.{true, false, List, [], ◌∷◌, ◌++◌, ℕ, replicate}
+use Rattle.std.specs.Prelude.{true, false, List, [], ◌∷◌, ◌++◌, ℕ, replicate, Some, None, is_some, option_map}
 use Rattle.fields.specs.Field.{tile, digits}
 use Rattle.fields.specs.Case.{Case, case}
 use Rattle.wrapper.specs.declared.DataDirection.TheVariants.{Out, In, NotExpected}
+use Rattle.wrapper.specs.declared.Wrapper.{Wrapper}
 use Rattle.wrapper.specs.declared.status.CommandStatus.TheVariants.{Failed}
 use Rattle.wrapper.specs.declared.verdict.Verdict.TheVariants.{Invalid, ValidOnly, Meaningful}
 use Rattle.wrapper.specs.Counters.{fallen, residue_of, risen}
 use Rattle.wrapper.specs.Status.{status_table, status_signature, status_number, status_bytes, status_call}
-use Rattle.wrapper.specs.Wrapper.{wrapper_table, wrapper_signature, direction_of_flags, wrapper_of, no_wrapper, parsed}
+use Rattle.wrapper.specs.Wrapper.{wrapper_table, wrapper_signature, direction_of_flags, wrapper_of, parsed}
 use Rattle.wrapper.specs.Verdict.{verdict_of, cleared}
 
 -- This is a wrapper with tag 01020304 and L = 512, in which `flags`, `lun` and `blocklength` are the bytes 12, 13 and 14.
@@ -20,10 +21,10 @@ message flags lun blocklength =
 unfoldable pub starred : List Case
 starred =
     -- "Block length 0 and 17 invalid*"
-    case (parsed (message 0x80 0 0)).valid false
-    ∷ case (parsed (message 0x80 0 17)).valid false
+    case (is_some (parsed (message 0x80 0 0))) false
+    ∷ case (is_some (parsed (message 0x80 0 17))) false
     -- "LUN F3 is 3*"
-    ∷ case (parsed (message 0x80 0xF3 10)).wrapper.lun 3
+    ∷ case (option_map (λ (w : Wrapper). w.lun) (parsed (message 0x80 0xF3 10))) (Some 3)
     -- "L 512, figure 500: residue 12; 600: 0*"
     ∷ case (residue_of 512 500).0 12
     ∷ case (residue_of 512 600).0 0
@@ -33,13 +34,13 @@ starred =
 unfoldable pub ours : List Case
 ours =
     -- "1 and 16 valid"
-    case (parsed (message 0x80 0 1)).valid true
-    ∷ case (parsed (message 0x80 0 16)).valid true
+    case (is_some (parsed (message 0x80 0 1))) true
+    ∷ case (is_some (parsed (message 0x80 0 16))) true
     -- A whole wrapper to the host; the direction from the host, and without data; a message of 30 bytes, which is invalid.
-    ∷ case (parsed (message 0x80 0 10)) (record { valid = true; wrapper = record { tag = 0x01020304; length = 512; direction = In; lun = 0; blocklength = 10; block = 0x28 ∷ replicate 15 0 } })
+    ∷ case (parsed (message 0x80 0 10)) (Some (record { tag = 0x01020304; length = 512; direction = In; lun = 0; blocklength = 10; block = 0x28 ∷ replicate 15 0 }))
     ∷ case (wrapper_of (message 0x7F 0 10)).direction Out
     ∷ case (direction_of_flags 0 1) NotExpected
-    ∷ case (parsed (0x55 ∷ 0x53 ∷ 0x42 ∷ 0x43 ∷ replicate 26 1)) (record { valid = false; wrapper = no_wrapper })
+    ∷ case (parsed (0x55 ∷ 0x53 ∷ 0x42 ∷ 0x43 ∷ replicate 26 1)) None
     -- The bytes of a status with tag 01020304 and residue 12, failed.
     ∷ case (status_bytes 0x01020304 (residue_of 512 500) (status_number Failed)) (0x55 ∷ 0x53 ∷ 0x42 ∷ 0x53 ∷ 4 ∷ 3 ∷ 2 ∷ 1 ∷ 12 ∷ 0 ∷ 0 ∷ 0 ∷ 1 ∷ [])
     -- Status byte 2 is taken, and 3 is refused.

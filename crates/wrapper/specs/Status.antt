@@ -1,10 +1,8 @@
 -- Document 01, 'status (13 bytes)': BOT 1.0, table 5.2, Command Status Wrapper. Assumes nothing: these are definitions.
-use Rattle.std.specs.Prelude.{ℕ, cond, List, [], ◌∷◌, eqb, leb, replicate}
+use Rattle.std.specs.Prelude.{ℕ, cond, List, [], ◌∷◌, eqb, leb, replicate, Option, Some, None}
 use Rattle.fields.specs.Field.{Field, little_endian, one_byte, put}
 use Rattle.wrapper.specs.declared.status.CommandStatus.{CommandStatus}
 use Rattle.wrapper.specs.declared.status.CommandStatus.TheVariants.{Passed, Failed, PhaseError}
-use Rattle.wrapper.specs.declared.status.StatusByte.{StatusByte}
-use Rattle.wrapper.specs.declared.status.StatusByte.TheVariants.{Known, Refused}
 use Rattle.wrapper.specs.declared.counters.Residue.{Residue}
 
 -- These are the fields of BOT's table by their names there, in snake case, each with its first byte and its number
@@ -58,10 +56,10 @@ pub record StatusAnswering : Type 0 where
 abbrev status_answering : ℕ → ℕ → StatusAnswering
 status_answering n s = record { answer = n; status = s }
 
--- These are the two numbers for each answer of the code; `s` is the status that it carries.
-abbrev pub answer_of : StatusByte → StatusAnswering
-answer_of (Known s) = status_answering 0 (status_number s)
-answer_of Refused = status_answering 12 0
+-- These are the two numbers for each answer of the code: the status `s`, or none, where the byte is refused.
+abbrev pub answer_of : Option CommandStatus → StatusAnswering
+answer_of (Some s) = status_answering 0 (status_number s)
+answer_of None = status_answering 12 0
 
 -- This is the result for the status byte `byte`: 0 to 2 stand for themselves, and for "a status byte above 2" the answer is 12.
 unfoldable pub status_call : ℕ → StatusAnswering

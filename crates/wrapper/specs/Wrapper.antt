@@ -1,10 +1,9 @@
 -- Document 01, 'Wrapper (31 bytes)': BOT 1.0, table 5.1, Command Block Wrapper. Assumes nothing: these are definitions.
-use Rattle.std.specs.Prelude.{◌≡◌, ℕ, ◌≤◌, Bool, true, false, cond, ◌&&◌, List, [], ◌∷◌, eqb, leb, length, replicate}
+use Rattle.std.specs.Prelude.{◌≡◌, ℕ, ◌≤◌, Bool, cond, ◌&&◌, List, [], ◌∷◌, eqb, leb, length, replicate, Option, Some, None}
 use Rattle.fields.specs.Field.{Field, Bits, little_endian, one_byte, bits, bytes_at, get, get_bits}
 use Rattle.wrapper.specs.declared.DataDirection.{DataDirection}
 use Rattle.wrapper.specs.declared.DataDirection.TheVariants.{Out, In, NotExpected}
 use Rattle.wrapper.specs.declared.Wrapper.{Wrapper}
-use Rattle.wrapper.specs.declared.Parsed.{Parsed}
 
 -- These are the fields of BOT's table by their names there, in snake case, each with its first byte and its number
 -- of bytes. All numbers in BOT are little-endian.
@@ -106,10 +105,6 @@ wrapper_of m = record {
 unfoldable pub no_wrapper : Wrapper
 no_wrapper = record { tag = 0; length = 0; direction = NotExpected; lun = 0; blocklength = 0; block = replicate 16 0 }
 
--- Parsing a valid message with the wrapper `w` gives this.
-abbrev pub parsed_as : Wrapper → Parsed
-parsed_as w = record { valid = true; wrapper = w }
-
--- Parsing any message `m` gives this: if it is valid, all its fields; otherwise only that it is invalid, with the blank wrapper.
-unfoldable pub parsed : List ℕ → Parsed
-parsed m = cond (is_valid m) (parsed_as (wrapper_of m)) (record { valid = false; wrapper = no_wrapper })
+-- Parsing any message `m` gives this: if it is valid, all its fields; otherwise none.
+unfoldable pub parsed : List ℕ → Option Wrapper
+parsed m = cond (is_valid m) (Some (wrapper_of m)) None

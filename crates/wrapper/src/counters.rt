@@ -19,34 +19,20 @@ pub struct PutIn(pub u32);
 pub fn left_after(left: Left, moved: usize) -> Left
     ensures { result ≡ fallen left moved }
 {
-    let n = left.0;
-    if moved < n as usize {
-        Left(n - moved as u32)
-    } else {
-        Left(0)
-    }
+    Left((left.0 as usize).saturating_sub(moved) as u32)
 }
 
 // Gives the residue: L, which is `length`, less the firmware's `figure`, and never below 0.
 pub fn residue_of(length: u32, figure: u32) -> Residue
     ensures { result ≡ residue_of length figure }
 {
-    if figure < length {
-        Residue(length - figure)
-    } else {
-        Residue(0)
-    }
+    Residue(length.saturating_sub(figure))
 }
 
 // Gives `putin` after `accepted` more bytes. It stops at the largest number.
 pub fn put_in_after(putin: PutIn, accepted: usize) -> PutIn
     ensures { result ≡ risen putin accepted }
 {
-    let n = putin.0;
-    let rest = 4294967295 - n;
-    if accepted < rest as usize {
-        PutIn(n + accepted as u32)
-    } else {
-        PutIn(4294967295)
-    }
+    let accepted = u32::try_from(accepted).unwrap_or(u32::MAX);
+    PutIn(putin.0.saturating_add(accepted))
 }

@@ -14,27 +14,20 @@ pub const SIGNED: u32 = 0x53425355;
 // A command ends in one of these three ways.
 #[derive(Clone, Copy)]
 pub enum CommandStatus {
-    Passed,
-    Failed,
-    PhaseError,
-}
-
-// A status byte stands for a status, or is refused.
-#[derive(Clone, Copy)]
-pub enum StatusByte {
-    Known(CommandStatus),
-    Refused,
+    Passed = 0,
+    Failed = 1,
+    PhaseError = 2,
 }
 
 // Gives the status that `byte` stands for. A byte above 2 is refused.
-pub fn status_of(byte: u8) -> StatusByte
+pub fn status_of(byte: u8) -> Option<CommandStatus>
     ensures { answer_of result ≡ status_call byte }
 {
     match byte {
-        0 => StatusByte::Known(CommandStatus::Passed),
-        1 => StatusByte::Known(CommandStatus::Failed),
-        2 => StatusByte::Known(CommandStatus::PhaseError),
-        _ => StatusByte::Refused,
+        0 => Some(CommandStatus::Passed),
+        1 => Some(CommandStatus::Failed),
+        2 => Some(CommandStatus::PhaseError),
+        _ => None,
     }
 }
 
@@ -42,11 +35,7 @@ pub fn status_of(byte: u8) -> StatusByte
 pub fn status_number(status: CommandStatus) -> u8
     ensures { result ≡ status_number status }
 {
-    match status {
-        CommandStatus::Passed => 0,
-        CommandStatus::Failed => 1,
-        CommandStatus::PhaseError => 2,
-    }
+    status as u8
 }
 
 // Gives the status with this `number`. Numbers above 2 belong to no status, and are taken for a phase error.
@@ -74,13 +63,11 @@ fn store_le32(m: &mut [u8], at: usize, n: u32)
     requires { at + 4 ≤ 13 }
     ensures { m.new ≡ sets m.old at (digits 4 n) }
 {
-    let second = n / 256;
-    let third = second / 256;
-    let fourth = third / 256;
-    store(m, at, (n % 256) as u8);
-    store(m, at + 1, (second % 256) as u8);
-    store(m, at + 2, (third % 256) as u8);
-    store(m, at + 3, (fourth % 256) as u8);
+    let [first, second, third, fourth] = n.to_le_bytes();
+    store(m, at, first);
+    store(m, at + 1, second);
+    store(m, at + 2, third);
+    store(m, at + 3, fourth);
 }
 
 // Writes a status with this `tag`, `residue` and `status` to the front of `m`, as it goes over the wire. If `m` is shorter than a status,

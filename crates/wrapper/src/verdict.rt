@@ -2,15 +2,15 @@
 ghost use Rattle.std.specs.Prelude.{◌≡◌, length};
 ghost use Rattle.wrapper.specs.Verdict.{is_clear, is_meaningful, verdict_of, verdict_number};
 
-use crate::in_wrapper;
+use crate::{block_fits, in_wrapper, signed};
 use fields::{bits_of, byte};
 
 // A message gets one of these three verdicts.
 #[derive(Clone, Copy)]
 pub enum Verdict {
-    Invalid,
-    ValidOnly,
-    Meaningful,
+    Invalid = 0,
+    ValidOnly = 1,
+    Meaningful = 2,
 }
 
 // Tests whether `message`, which has 31 bytes, has no reserved bit set: in the flags all but the direction are, and all beside the LUN.
@@ -18,10 +18,7 @@ fn clear(message: &[u8]) -> bool
     requires { length message.now ≡ 31 }
     ensures { result ≡ is_clear message.now }
 {
-    if bits_of(message, in_wrapper::FLAGS, 0, 7) == 0 {
-        return bits_of(message, in_wrapper::LUN, 4, 4) == 0;
-    }
-    false
+    bits_of(message, in_wrapper::FLAGS, 0, 7) == 0 && bits_of(message, in_wrapper::LUN, 4, 4) == 0
 }
 
 // Tests whether `message`, which has 31 bytes, has no reserved bit set, a LUN of at most `maxlun` and a block length of 1 to 16.
@@ -29,35 +26,27 @@ fn meaningful(message: &[u8], maxlun: u8) -> bool
     requires { length message.now ≡ 31 }
     ensures { result ≡ is_meaningful maxlun message.now }
 {
-    if clear(message) {
-        if bits_of(message, in_wrapper::LUN, 0, 4) <= maxlun {
-            return crate::block_fits(byte(message, in_wrapper::BLOCK_LENGTH));
-        }
-    }
-    false
+    clear(message)
+        && bits_of(message, in_wrapper::LUN, 0, 4) <= maxlun
+        && block_fits(byte(message, in_wrapper::BLOCK_LENGTH))
 }
 
 // Gives BOT's verdict on `message`, for a device with the LUNs 0 to `maxlun`.
 pub fn verdict_on(message: &[u8], maxlun: u8) -> Verdict
     ensures { result ≡ verdict_of maxlun message.now }
 {
-    if crate::signed(message) {
-        if meaningful(message, maxlun) {
-            return Verdict::Meaningful;
-        }
-        return Verdict::ValidOnly;
+    if !signed(message) {
+        Verdict::Invalid
+    } else if meaningful(message, maxlun) {
+        Verdict::Meaningful
+    } else {
+        Verdict::ValidOnly
     }
-    Verdict::Invalid
 }
 
 // Gives the verdict as a number, for callers in C and Rust: 0 invalid, 1 valid only, 2 meaningful.
 pub fn verdict_number(message: &[u8], maxlun: u8) -> u32
     ensures { result ≡ verdict_number (verdict_of maxlun message.now) }
 {
-    let v = verdict_on(message, maxlun);
-    match v {
-        Verdict::Invalid => 0,
-        Verdict::ValidOnly => 1,
-        Verdict::Meaningful => 2,
-    }
+    verdict_on(message, maxlun) as u32
 }

@@ -1,6 +1,6 @@
 -- A poll as the code does it: open, decide, act. Only the contracts of inner functions cite these definitions; proofs/Same.antt shows
 -- that together they are document 01's rules. Assumes nothing: these are definitions.
-use Rattle.std.specs.Prelude.{◌≡◌, Bool, true, false, cond, ◌&&◌, List, ℕ, ◌+◌, ◌-◌, ◌≤◌, eqb, leb, take, drop}
+use Rattle.std.specs.Prelude.{◌≡◌, Bool, true, false, cond, ◌&&◌, List, ℕ, ◌+◌, ◌-◌, ◌≤◌, eqb, leb, take, drop, None}
 use Rattle.buffer.specs.declared.Marks.{Marks}
 use Rattle.buffer.specs.Buffer.{Buffer, buffer, at, unread}
 use Rattle.buffer.specs.Inner.Buffer.{Sound}
@@ -19,15 +19,12 @@ use Rattle.ring.specs.declared.Before.TheVariants as before
 use Rattle.ring.specs.declared.Row.{Row}
 use Rattle.ring.specs.States.{state_number}
 use Rattle.ring.specs.Inner.Ring.{row_of, settled}
-use Rattle.wrapper.specs.declared.DataDirection.{DataDirection}
-use Rattle.wrapper.specs.declared.DataDirection.TheVariants.{NotExpected}
 use Rattle.wrapper.specs.declared.Wrapper.{Wrapper}
 use Rattle.wrapper.specs.declared.counters.Left.{Left}
 use Rattle.wrapper.specs.declared.counters.PutIn.{PutIn}
 use Rattle.wrapper.specs.Counters.{fallen}
 use Rattle.wrapper.specs.Wrapper.{is_valid, wrapper_of}
 use Rattle.packets.specs.Packets.{read_answer, takes_one, brought, received, send_answer, sent_count, sent_off, sent_into, filled_up}
-use Rattle.device.specs.declared.Status.TheVariants.{Absent}
 use Rattle.device.specs.declared.Device.{Device}
 use Rattle.device.specs.declared.Numbers.{Numbers}
 use Rattle.device.specs.Device.{is_present, rebuilt, with_put_in}
@@ -46,29 +43,28 @@ refused_by d a = record { device = d; report = record { answer = a; taken = 0; s
 
 -- ---- open
 
--- Opening leaves these: what it `found`, the marks, left, the direction of a valid wrapper, the answer by its number, the number of
--- packets `taken`, and whether it `cleared` the status because 0 was entered.
+-- Opening leaves these: what it `found`, the marks, left, the answer by its number, the number of packets `taken`, and whether it `cleared`
+-- the status because 0 was entered.
 pub record Opening : Type 0 where
   pub found : Found
   pub marks : Marks
   pub left : Left
-  pub direction : DataDirection
   pub answer : Answering
   pub taken : ℕ
   pub cleared : Bool
 
-abbrev pub opening : Found → Marks → Left → DataDirection → Answering → ℕ → Bool → Opening
-opening f m l d t taken cleared = record { found = f; marks = m; left = l; direction = d; answer = t; taken = taken; cleared = cleared }
+abbrev pub opening : Found → Marks → Left → Answering → ℕ → Bool → Opening
+opening f m l t taken cleared = record { found = f; marks = m; left = l; answer = t; taken = taken; cleared = cleared }
 
 -- This reads what the code returned, `o`, as such a record.
 abbrev pub opening_of : Opened → Opening
-opening_of o = opening o.found o.marks o.left o.direction (answer_of o.answer) o.taken o.cleared
+opening_of o = opening o.found o.marks o.left (answer_of o.answer) o.taken o.cleared
 
 -- This is true if a valid wrapper was found.
 abbrev pub is_valid_found : Found → Bool
 is_valid_found found.Nothing = false
 is_valid_found found.Invalid = false
-is_valid_found found.Valid = true
+is_valid_found (found.Valid direction) = true
 
 -- If a valid wrapper was found, the read mark of `r` is at least 31: the bytes of the wrapper stand just before it.
 abbrev pub InFront : Opened → Type 0
@@ -92,8 +88,8 @@ marks_past31 m = at (m.read + 31) m.write
 unfoldable pub parsed_open : Buffer → Left → Bool → Opening
 parsed_open s left cleared =
     cond (is_valid (message_at s))
-    (opening found.Valid (marks_past31 s.marks) (record { 0 = (wrapper_of (message_at s)).length }) (wrapper_of (message_at s)).direction (answer 0) 1 cleared)
-    (opening found.Invalid (marks_past31 s.marks) left NotExpected (answer 0) 1 cleared)
+    (opening (found.Valid (wrapper_of (message_at s)).direction) (marks_past31 s.marks) (record { 0 = (wrapper_of (message_at s)).length }) (answer 0) 1 cleared)
+    (opening found.Invalid (marks_past31 s.marks) left (answer 0) 1 cleared)
 
 -- One packet was taken if `took` is true, and none otherwise.
 abbrev pub count_of : Bool → ℕ
@@ -102,7 +98,7 @@ count_of took = cond took 1 0
 -- A read gave the buffer `t`: `took` says whether it took a packet, and `said` is its answer. If it took one and 31 or more bytes are
 -- unread, they are parsed; otherwise no wrapper was found.
 unfoldable pub open_after : Buffer → Bool → Answering → Left → Bool → Opening
-open_after t took said left cleared = cond (took && leb 31 (unread t)) (parsed_open t left cleared) (opening found.Nothing t.marks left NotExpected said (count_of took) cleared)
+open_after t took said left cleared = cond (took && leb 31 (unread t)) (parsed_open t left cleared) (opening found.Nothing t.marks left said (count_of took) cleared)
 
 -- The offer `one` is read into the buffer `s`: `p` is the packet size, and `e` is what the OUT endpoint does. What follows is
 -- `open_after`.
@@ -136,7 +132,7 @@ unfoldable pub opened : Numbers → List ℕ → List ℕ → Endpoint → Openi
 opened n io one e =
     cond (is_opening n)
     (read_open n.fixed.packetsize e one (left_when (clears n) n.left) (clears n) (buffer io n.marks))
-    (opening found.Nothing n.marks n.left NotExpected (answer 0) 0 false)
+    (opening found.Nothing n.marks n.left (answer 0) 0 false)
 
 -- These are the bytes of the IO buffer after opening.
 unfoldable pub opened_io : Numbers → List ℕ → List ℕ → Endpoint → List ℕ
@@ -159,7 +155,7 @@ wrapper_then o io w = cond (is_valid_found o.found) (wrapper_of (just_read io o.
 abbrev pub is_counted_anew : Found → Bool → Bool
 is_counted_anew found.Nothing cleared = cleared
 is_counted_anew found.Invalid cleared = true
-is_counted_anew found.Valid cleared = true
+is_counted_anew (found.Valid direction) cleared = true
 
 -- The record then has this count, where it had `c` and opening gave `o`.
 abbrev pub put_in_then : Opening → PutIn → PutIn
@@ -308,8 +304,8 @@ ends_with row n o io g = ended_by row.0 o (acted row n o io g) (acted_packet row
 
 -- After opening gave `o`, the handlers decide on the act, and the poll ends with it.
 unfoldable pub gone_on : Numbers → Opening → List ℕ → Given → Ended
-gone_on n o io g = ends_with (row_of (settled n.state n.left.0 (is_present n.status) (eqb (n.marks.write - n.marks.read) 0) o.found o.direction o.left.0)) n o io g
+gone_on n o io g = ends_with (row_of (settled n.state o.left.0 (is_present n.status) (eqb (n.marks.write - n.marks.read) 0) o.found)) n o io g
 
 -- This is the record `d` with the changes `c`, the wrapper `w` and the count `putin` of what was put in.
 abbrev pub changed_by : Device → Change → Wrapper → PutIn → Device
-changed_by d c w putin = with_put_in putin (rebuilt d c.state c.marks w (cond c.cleared Absent d.status) c.left)
+changed_by d c w putin = with_put_in putin (rebuilt d c.state c.marks w (cond c.cleared None d.status) c.left)

@@ -1,22 +1,8 @@
 -- `benchact::poll` meets its contract: both packets lie in the body, the second one after the first. Assumes nothing.
-use Rattle.std.proofs.Common.{rules}
-use Rattle.benchact.proofs.Laws.{ways}
+use mathlib.Core.Path.{◌∙◌}
+use Rattle.benchact.proofs.Laws.{polls}
 use Rattle.benchact.proofs.poll.Goals as goal
 
-pub turn_of-turn-requires : goal.turn_of-turn-requires
-turn_of-turn-requires c = search (ways, rules)
-
-pub byte-requires : goal.byte-requires
-byte-requires c = search (ways, rules)
-
-pub slice_bounds-poll-end : goal.slice_bounds-poll-end
-slice_bounds-poll-end c = search (ways, rules)
-
-pub slice_bounds-poll-count-2 : goal.slice_bounds-poll-count-2
-slice_bounds-poll-count-2 c = search (ways, rules)
-
-pub slice_bounds-poll-start-2 : goal.slice_bounds-poll-start-2
-slice_bounds-poll-start-2 c = search (ways, rules)
-
 pub returns : goal.returns
-returns c = search (ways, rules)
+returns c =
+    polls _ _ _ _ c.poll.result c.turn_of-turn.ensures (c.from-end.ensures ∙ c.byte.ensures) c.poll.ensures c.from.ensures

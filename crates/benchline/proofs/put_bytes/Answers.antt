@@ -1,16 +1,15 @@
 -- `benchline::put_bytes` meets its contract: it puts `-`, or what `put_hex` puts. Assumes nothing.
-use Rattle.std.proofs.Common.{rules}
-use Rattle.benchline.proofs.Ways.{ways}
+use Rattle.benchline.proofs.Ways.{bytes_first, bytes_fit, none_shown, bytes_shown}
 use Rattle.benchline.proofs.put_bytes.Goals as goal
 
-pub bounds-text-at : goal.bounds-text-at
-bounds-text-at c = search (ways, rules)
-
-pub returns-then-bytes-eq0 : goal.returns-then-bytes-eq0
-returns-then-bytes-eq0 c = search (ways, rules)
+pub put_text-requires : goal.put_text-requires
+put_text-requires c = bytes_first _ _ c.args.bytes.now c.if-is_empty.ensures c.requires
 
 pub put_hex-requires : goal.put_hex-requires
-put_hex-requires c = search (ways, rules)
+put_hex-requires c = bytes_fit _ _ c.args.bytes.now c.if-is_empty.ensures c.requires
 
-pub returns : goal.returns
-returns c = search (ways, rules)
+pub returns-then-is_empty : goal.returns-then-is_empty
+returns-then-is_empty c = none_shown _ _ c.args.bytes.now c.if-is_empty.ensures c.put_text.ensures
+
+pub returns-else-is_empty : goal.returns-else-is_empty
+returns-else-is_empty c = bytes_shown _ _ c.args.bytes.now c.if-is_empty.ensures c.put_hex.ensures

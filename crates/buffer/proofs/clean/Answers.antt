@@ -2,13 +2,13 @@
 use mathlib.Core.Path.{refl, ap}
 use Rattle.buffer.specs.Buffer.{emptied, buffer}
 use Rattle.buffer.specs.Calls.{clean_call}
-use Rattle.buffer.proofs.Ways.{broken, passes, counts}
+use Rattle.buffer.proofs.Ways.{refused, counts}
 use Rattle.buffer.proofs.clean.Goals as goal
 
-pub returns-then-sound : goal.returns-then-sound
-unfolding clean_call emptied
-returns-then-sound c = passes _ c.sound.ensures _ c.if-sound.true (counts refl (ap (buffer _) c.clean.ensures))
+pub returns-in_err-tested : goal.returns-in_err-tested
+unfolding clean_call
+returns-in_err-tested c = refused _ c.in_err-tested.ensures.broken _ _ c.from_residual.ensures
 
 pub returns : goal.returns
-unfolding clean_call
-returns c = broken _ c.sound.ensures _ _ c.if-sound.false
+unfolding clean_call emptied
+returns c = counts _ c.in_ok-tested.ensures.sound refl (ap (buffer _) c.clean.ensures)

@@ -1,16 +1,12 @@
 -- `buffer::fill_up_to` meets its contract: marks that pass the test are sound, and `marked::fill_up_to` does the rest. Assumes nothing.
 use Rattle.buffer.specs.Calls.{fill_call}
-use Rattle.buffer.proofs.Ways.{tested, broken, passes, counts}
+use Rattle.buffer.proofs.Ways.{refused, counts}
 use Rattle.buffer.proofs.fill_up_to.Goals as goal
 
-pub fill_up_to-f-requires : goal.fill_up_to-f-requires
-fill_up_to-f-requires c = tested _ c.sound.ensures c.if-sound.true
-
-pub returns-then-sound : goal.returns-then-sound
+pub returns-in_err-tested : goal.returns-in_err-tested
 unfolding fill_call
-returns-then-sound c =
-    passes _ c.sound.ensures _ c.if-sound.true (counts c.fill_up_to-f.ensures.0 c.fill_up_to-f.ensures.1.same)
+returns-in_err-tested c = refused _ c.in_err-tested.ensures.broken _ _ c.from_residual.ensures
 
 pub returns : goal.returns
 unfolding fill_call
-returns c = broken _ c.sound.ensures _ _ c.if-sound.false
+returns c = counts _ c.in_ok-tested.ensures.sound c.fill_up_to.ensures.0 c.fill_up_to.ensures.1.same

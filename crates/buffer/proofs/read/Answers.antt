@@ -1,21 +1,17 @@
 -- `buffer::read` meets its contract: marks that pass the test are sound, and `marked::read` does the rest. Assumes nothing.
-use Rattle.std.proofs.Common.{rules}
 use Rattle.buffer.specs.Calls.{read_call, read_into}
-use Rattle.buffer.proofs.Ways.{tested, broken, passes, counts}
+use Rattle.buffer.proofs.Ways.{refused, refused_into, passes, counts}
 use Rattle.buffer.proofs.read.Goals as goal
 
-pub read-g-requires : goal.read-g-requires
-read-g-requires c = (tested _ c.sound.ensures c.if-sound.true, search rules)
-
-pub returns-then-sound : goal.returns-then-sound
+pub returns-in_err-tested : goal.returns-in_err-tested
 unfolding read_call read_into
-returns-then-sound c =
-    let e = c.sound.ensures in
-    let k = c.read-g.ensures in
-    (passes _ e _ c.if-sound.true (counts k.0 k.1.same), passes _ e _ c.if-sound.true k.2)
+returns-in_err-tested c =
+    let h = c.in_err-tested.ensures.broken in
+    (refused _ h _ _ c.from_residual.ensures, refused_into _ h _)
 
 pub returns : goal.returns
 unfolding read_call read_into
 returns c =
-    let e = c.sound.ensures in
-    (broken _ e _ _ c.if-sound.false, broken _ e _ _ c.if-sound.false)
+    let g = c.in_ok-tested.ensures.sound in
+    let k = c.read.ensures in
+    (counts _ g k.0 k.1.same, passes _ g _ k.2)

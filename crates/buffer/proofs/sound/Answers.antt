@@ -7,6 +7,6 @@ pub returns-then-m : goal.returns-then-m
 unfolding is_sound
 returns-then-m c = rw (le-leb _ _ c.if-m.true)
 
-pub returns : goal.returns
+pub returns-else-m : goal.returns-else-m
 unfolding is_sound
-returns c = rw (lt-leb _ _ c.if-m.false)
+returns-else-m c = rw (lt-leb _ _ c.if-m.false)

@@ -1,16 +1,11 @@
 -- `calls::read_data` meets its contract: a record that is not broken has sound marks, so the buffer may be read. Assumes nothing.
-use Rattle.std.proofs.Common.{rules}
-use Rattle.calls.proofs.Laws.{ways}
+use Rattle.calls.proofs.Laws.{data_refused, data_done, reads}
 use Rattle.calls.proofs.read_data.Goals as goal
 
-pub returns-then-broken : goal.returns-then-broken
-returns-then-broken c = search (ways, rules)
-
-pub read-got-requires : goal.read-got-requires
-read-got-requires c = search (ways, rules)
-
-pub returns-then-is_in : goal.returns-then-is_in
-returns-then-is_in c = search (ways, rules)
+pub returns-in-Err : goal.returns-in-Err
+returns-in-Err c = data_refused _ _ _ c.checked.ensures _ _ c.in-Err.is c.refused.ensures
 
 pub returns : goal.returns
-returns c = search (ways, rules)
+returns c =
+    data_done _ _ _ c.checked.ensures _ _ c.in_default.is
+    (reads _ _ _ c.read-got.ensures.0 c.read-got.ensures.1 c.read-got.ensures.2 c.left_at.ensures)

@@ -15,14 +15,14 @@ device_at-requires c = search (ways, rules)
 pub returns-then-not-offers : goal.returns-then-not-offers
 returns-then-not-offers c = search (ways, rules)
 
-pub decode_block-answer-requires : goal.decode_block-answer-requires
-decode_block-answer-requires c = search (ways, rules)
-
-pub returns-then-answer-ne0 : goal.returns-then-answer-ne0
-returns-then-answer-ne0 c = search (ways, rules)
+pub decode_block-requires : goal.decode_block-requires
+decode_block-requires c = search (ways, rules)
 
 pub offered_word-requires : goal.offered_word-requires
 offered_word-requires c = search (ways, rules)
 
-pub returns : goal.returns
-returns c = search (ways, rules)
+pub returns-in-Ok : goal.returns-in-Ok
+returns-in-Ok c = search (ways, rules)
+
+pub returns-in-Err : goal.returns-in-Err
+returns-in-Err c = search (ways, rules)

@@ -1,9 +1,12 @@
--- `device::command_fits` meets its contract: the block length is tested, then the LUN. Assumes nothing.
-use Rattle.device.proofs.Laws.{ways}
+-- `device::command_fits` meets its contract. Assumes nothing.
+use Rattle.std.proofs.Common.{rules}
+use Rattle.device.specs.Broken.{command_fits}
 use Rattle.device.proofs.command_fits.Goals as goal
 
-pub returns-then-blocklength-le16 : goal.returns-then-blocklength-le16
-returns-then-blocklength-le16 c = search ways
+pub returns-then-lun-le15 : goal.returns-then-lun-le15
+unfolding command_fits
+returns-then-lun-le15 c = search rules
 
-pub returns : goal.returns
-returns c = search ways
+pub returns-else-lun-le15 : goal.returns-else-lun-le15
+unfolding command_fits
+returns-else-lun-le15 c = search rules

@@ -1,7 +1,7 @@
--- `fields::be64` meets its contract: it reads two fields of 4 bytes side by side. Assumes nothing.
+-- `fields::be64` meets its contract. Assumes nothing.
 use Rattle.std.proofs.Common.{rules}
-use Rattle.fields.proofs.Field.{big_doubled}
+use Rattle.fields.proofs.Field.{reads}
 use Rattle.fields.proofs.be64.Goals as goal
 
 pub returns : goal.returns
-returns c = big_doubled _ _ 4 (search rules) (search rules) (search rules)
+returns c = search (reads, rules)

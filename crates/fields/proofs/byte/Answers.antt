@@ -4,4 +4,4 @@ use Rattle.fields.proofs.Field.{byte_read}
 use Rattle.fields.proofs.byte.Goals as goal
 
 pub returns : goal.returns
-returns c = byte_read _ _ (search rules) (c.shared_slice_known-1.given _).fits
+returns c = byte_read _ _ (search rules) (c.type_inv.m _).fits

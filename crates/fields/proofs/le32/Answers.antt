@@ -1,7 +1,7 @@
--- `fields::le32` meets its contract: it reads two fields of 2 bytes side by side. Assumes nothing.
+-- `fields::le32` meets its contract. Assumes nothing.
 use Rattle.std.proofs.Common.{rules}
-use Rattle.fields.proofs.Field.{little_doubled}
+use Rattle.fields.proofs.Field.{reads}
 use Rattle.fields.proofs.le32.Goals as goal
 
 pub returns : goal.returns
-returns c = little_doubled _ _ 2 (search rules) (search rules) (search rules)
+returns c = search (reads, rules)

@@ -18,12 +18,12 @@ fits_text : (l : Line) (bytes : List ℕ) {before after : List ℕ} {end : ℕ} 
 fits_text l bytes p h e = omega (arith, p.ends, line_fits l bytes, h, e)
 
 pub put_line-end-requires : goal.put_line-end-requires
-put_line-end-requires c = fits_room c.args.packet.now c.args.sent c.least.result c.least-n.result c.least.ensures c.least-n.ensures
+put_line-end-requires c = fits_room c.args.packet.now c.args.sent c.min.result c.min-n.result c.min.ensures c.min-n.ensures
 
 pub slice_bounds-text-end : goal.slice_bounds-text-end
 slice_bounds-text-end c =
-    fits_text _ _ c.put_line-end.ensures (fits_room c.args.packet.now c.args.sent c.least.result c.least-n.result c.least.ensures c.least-n.ensures) c.put_line-end.auto.text
+    fits_text _ _ c.put_line-end.ensures (fits_room c.args.packet.now c.args.sent c.min.result c.min-n.result c.min.ensures c.min-n.ensures) c.put_line-end.auto.text
 
 pub slice_bounds-write_all-end : goal.slice_bounds-write_all-end
 slice_bounds-write_all-end c =
-    sym (length-take-le _ _ (fits_text _ _ c.put_line-end.ensures (fits_room c.args.packet.now c.args.sent c.least.result c.least-n.result c.least.ensures c.least-n.ensures) c.put_line-end.auto.text))
+    sym (length-take-le _ _ (fits_text _ _ c.put_line-end.ensures (fits_room c.args.packet.now c.args.sent c.min.result c.min-n.result c.min.ensures c.min-n.ensures) c.put_line-end.auto.text))

@@ -1,7 +1,7 @@
 -- The polls of which a read-out is made: the next packet of data crosses the wire, or the status goes out, and nothing else happens. Only
 -- inner contracts cite these definitions. proofs/Going.antt and proofs/Entering.antt prove that such polls follow 01's rules of states 4 to
 -- 8. Assumes nothing: these are definitions.
-use Rattle.std.specs.Prelude.{◌≡◌, Bool, true, false, cond, ◌&&◌, ◌||◌, List, ℕ, ◌+◌, ◌-◌, ◌≤◌, eqb, length}
+use Rattle.std.specs.Prelude.{◌≡◌, Option, Some, None, Bool, true, false, cond, ◌&&◌, ◌||◌, List, ℕ, ◌+◌, ◌-◌, ◌≤◌, eqb, length}
 use Rattle.fields.specs.Field.{get}
 use Rattle.fields.specs.Overlay.{overlay}
 use Rattle.buffer.specs.Buffer.{Buffer, buffer, at, ready, ready_bytes, read_off}
@@ -18,6 +18,7 @@ use Rattle.bbb.specs.Poll.{is_fitting}
 use Rattle.recordbytes.specs.Layout as field
 use Rattle.recordbytes.specs.Record.{is_known, fixed_at, device_at, store_state, store_marks, store_left}
 use Rattle.border.specs.Word.{word}
+use Rattle.onward.specs.declared.Lengths.{Lengths}
 
 -- ---- which polls are of this kind: what the tests of the code tell where they hold; where they fail, the whole ring is asked
 
@@ -33,12 +34,12 @@ pub record Steady (r : List ℕ) (len : ℕ) : Type 0 where
   pub lun : get field.lun r ≤ 15
   pub block : get field.block_length r ≤ 16
 
--- A poll is refused neither with 10 nor with 11: the bytes `r` hold a whole record, and what was offered fits. `len`, `packet`, `one` and
--- `two` are the lengths of the IO buffer, of the packet buffer and of the two packets offered.
-pub record Ready (r : List ℕ) (len packet one two : ℕ) : Type 0 where
+-- A poll is refused neither with 10 nor with 11: the bytes `r` hold a whole record, and what was offered fits. `l` has the lengths
+-- of what the poll is lent.
+pub record Ready (r : List ℕ) (l : Lengths) : Type 0 where
   pub known : is_known r ≡ true
-  pub whole : Whole (numbers_of (device_at r)) len
-  pub fits : is_fitting (numbers_of (device_at r)).fixed.packetsize packet one two ≡ true
+  pub whole : Whole (numbers_of (device_at r)) l.io
+  pub fits : is_fitting (numbers_of (device_at r)).fixed.packetsize l.packet l.one l.two ≡ true
 
 -- Whether a poll in the state with the number `state` sends data; `present` says whether a status is present. It does in 4: without a
 -- status it stays there, and with one it goes to 6. It does in 6; a record in 6 without a status is broken.
@@ -61,12 +62,12 @@ pub record CanSend (n : Numbers) (len packet : ℕ) : Type 0 where
   pub unread : n.marks.read + n.fixed.packetsize ≤ n.marks.write
   pub into : n.fixed.packetsize ≤ packet
 
--- A poll of the record `r` sends a whole packet of data, and it is not refused if P is a packet size. `write` is IN's answer; the lengths
--- are those of `Ready`.
-pub record MaySend (r : List ℕ) (len packet one two write : ℕ) : Type 0 where
-  pub ready : is_packet_size (get field.packet_size r) ≡ true → Ready r len packet one two
+-- A poll of the record `r` sends a whole packet of data, and it is not refused if P is a packet size. `write` is IN's answer; `l` has the
+-- lengths of what the poll is lent.
+pub record MaySend (r : List ℕ) (l : Lengths) (write : ℕ) : Type 0 where
+  pub ready : is_packet_size (get field.packet_size r) ≡ true → Ready r l
   pub sends : Sending (numbers_of (device_at r)) write
-  pub can : CanSend (numbers_of (device_at r)) len packet
+  pub can : CanSend (numbers_of (device_at r)) l.io l.packet
 
 -- A poll of a record with the numbers `n` takes a whole packet of data: the state is 7, no status is present, the first OUT read answers 0
 -- (`first`), at least P bytes are left, `one`, the length of the packet, is P, and after the write mark the IO buffer of `len` bytes has
@@ -87,11 +88,11 @@ pub record CanTake (n : Numbers) (len one : ℕ) : Type 0 where
   pub whole : one ≡ n.fixed.packetsize
 
 -- A poll of the record `r` takes a whole packet of data, and it is not refused if P is a packet size. `first` is the answer of the first
--- OUT read; the lengths are those of `Ready`.
-pub record MayTake (r : List ℕ) (len packet one two first : ℕ) : Type 0 where
-  pub ready : is_packet_size (get field.packet_size r) ≡ true → Ready r len packet one two
-  pub takes : Taking (numbers_of (device_at r)) len one first
-  pub can : CanTake (numbers_of (device_at r)) len one
+-- OUT read; `l` has the lengths of what the poll is lent.
+pub record MayTake (r : List ℕ) (l : Lengths) (first : ℕ) : Type 0 where
+  pub ready : is_packet_size (get field.packet_size r) ≡ true → Ready r l
+  pub takes : Taking (numbers_of (device_at r)) l.io l.one first
+  pub can : CanTake (numbers_of (device_at r)) l.io l.one
 
 -- A poll of a record with the numbers `n` enters 3: the state is 4 to 8, a status is present, nothing is left, and IN answers 0 (`write`).
 pub record Ending (n : Numbers) (write : ℕ) : Type 0 where
@@ -100,11 +101,11 @@ pub record Ending (n : Numbers) (write : ℕ) : Type 0 where
   pub left : n.left.0 ≡ 0
   pub served : write ≡ 0
 
--- A poll of the record `r` is not refused, and enters 3. `write` is IN's answer; the lengths are those of `Ready`.
-pub record MayEnd (r : List ℕ) (len packet one two write : ℕ) : Type 0 where
-  pub ready : Ready r len packet one two
+-- A poll of the record `r` is not refused, and enters 3. `write` is IN's answer; `l` has the lengths of what the poll is lent.
+pub record MayEnd (r : List ℕ) (l : Lengths) (write : ℕ) : Type 0 where
+  pub ready : Ready r l
   pub ends : Ending (numbers_of (device_at r)) write
-  pub small : len ≤ 65536
+  pub small : l.io ≤ 65536
 
 -- ---- what they leave
 
@@ -114,31 +115,31 @@ buffer_of_numbers n io = buffer io n.marks
 
 -- What a poll that sends a packet leaves. `n` are the numbers in the record `r`, `io` is the IO buffer, `p` is the packet buffer. The
 -- poll returns `result`, and leaves the record `r'` and the packet buffer `p'`. With a status present it reaches 6.
-pub record SendsOn (n : Numbers) (io r p : List ℕ) (result : ℕ) (r' p' : List ℕ) : Type 0 where
-  pub answer : result ≡ word 0 0 0 0 (ready n.fixed.packetsize (buffer_of_numbers n io))
+pub record SendsOn (n : Numbers) (io r p : List ℕ) (result : Option ℕ) (r' p' : List ℕ) : Type 0 where
+  pub answer : result ≡ Some (word 0 0 0 0 (ready n.fixed.packetsize (buffer_of_numbers n io)))
   pub bytes : r' ≡ store_left (fallen n.left (ready n.fixed.packetsize (buffer_of_numbers n io))) (store_marks (read_off n.fixed.packetsize (buffer_of_numbers n io)).marks (cond (is_present n.status) (store_state DataTransferToHostEnding r) r))
   pub packet : p' ≡ overlay p 0 (ready_bytes n.fixed.packetsize (buffer_of_numbers n io))
 
 -- What a poll that takes the packet `one` leaves. `n` are the numbers in the record `r`, `b` is the IO buffer. The poll returns `result`,
 -- and leaves the record `r'` and the IO buffer `b'`.
-pub record TakesOn (n : Numbers) (b r one : List ℕ) (result : ℕ) (r' b' : List ℕ) : Type 0 where
-  pub answer : result ≡ word 0 0 0 1 0
+pub record TakesOn (n : Numbers) (b r one : List ℕ) (result : Option ℕ) (r' b' : List ℕ) : Type 0 where
+  pub answer : result ≡ Some (word 0 0 0 1 0)
   pub bytes : r' ≡ store_left (fallen n.left (length one)) (store_marks (at n.marks.read (n.marks.write + length one)) r)
   pub io : b' ≡ overlay b n.marks.write one
 
--- Nothing was done: the result is 0, which is no poll's, and the record `r` and the buffer `b` are as they were.
-pub record Stays (result : ℕ) (r r' b b' : List ℕ) : Type 0 where
-  pub answer : result ≡ 0
+-- Nothing was done: there is no result, and the record `r` and the buffer `b` are as they were.
+pub record Stays (result : Option ℕ) (r r' b b' : List ℕ) : Type 0 where
+  pub answer : result ≡ None
   pub bytes : r' ≡ r
   pub buffer : b' ≡ b
 
 -- A packet is sent if P is a packet size, and nothing is done otherwise.
-pub record SendsOrStays (n : Numbers) (io r p : List ℕ) (result : ℕ) (r' p' : List ℕ) : Type 0 where
+pub record SendsOrStays (n : Numbers) (io r p : List ℕ) (result : Option ℕ) (r' p' : List ℕ) : Type 0 where
   pub sends : is_packet_size n.fixed.packetsize ≡ true → SendsOn n io r p result r' p'
   pub stays : is_packet_size n.fixed.packetsize ≡ false → Stays result r r' p p'
 
 -- A packet is taken if P is a packet size, and nothing is done otherwise.
-pub record TakesOrStays (n : Numbers) (b r one : List ℕ) (result : ℕ) (r' b' : List ℕ) : Type 0 where
+pub record TakesOrStays (n : Numbers) (b r one : List ℕ) (result : Option ℕ) (r' b' : List ℕ) : Type 0 where
   pub takes : is_packet_size n.fixed.packetsize ≡ true → TakesOn n b r one result r' b'
   pub stays : is_packet_size n.fixed.packetsize ≡ false → Stays result r r' b b'
 

@@ -5,38 +5,36 @@ use Rattle.device.specs.Create.{is_packet_size}
 use Rattle.packetcopy.proofs.Sizes.{sized, other}
 use Rattle.packetcopy.proofs.put_packet.Goals as goal
 
-pub returns-then-p-eq8 : goal.returns-then-p-eq8
+pub returns-in-8 : goal.returns-in-8
 unfolding is_packet_size
-returns-then-p-eq8 c =
+returns-in-8 c =
     let a = c.args in
-    sized a.dst.now a.at a.src.now a.from a.p 8 refl c.if-p-eq8.true c.copy8.ensures
+    sized a.dst.now a.at a.src.now a.from a.p 8 refl c.in-8.is c.copy.ensures
 
-pub returns-then-p-eq16 : goal.returns-then-p-eq16
+pub returns-in-16 : goal.returns-in-16
 unfolding is_packet_size
-returns-then-p-eq16 c =
+returns-in-16 c =
     let a = c.args in
-    sized a.dst.now a.at a.src.now a.from a.p 16 refl c.if-p-eq16.true c.copy16.ensures
+    sized a.dst.now a.at a.src.now a.from a.p 16 refl c.in-16.is c.copy-in-16.ensures
 
-pub returns-then-p-lt32 : goal.returns-then-p-lt32
-returns-then-p-lt32 c =
-    let a = c.args in
-    let low = c.if-p-lt32.true in
-    other a.dst.now a.at a.src.now a.from a.p c.if-p-eq8.false c.if-p-eq16.false (λ e. absurd (omega (arith, low, e))) (λ e. absurd (omega (arith, low, e)))
-
-pub returns-then-p-eq64 : goal.returns-then-p-eq64
+pub returns-in-32 : goal.returns-in-32
 unfolding is_packet_size
-returns-then-p-eq64 c =
+returns-in-32 c =
     let a = c.args in
-    sized a.dst.now a.at a.src.now a.from a.p 64 refl c.if-p-eq64.true c.copy64.ensures
+    sized a.dst.now a.at a.src.now a.from a.p 32 refl c.in-32.is c.copy-in-32.ensures
 
-pub returns-then-p-eq32 : goal.returns-then-p-eq32
+pub returns-in-64 : goal.returns-in-64
 unfolding is_packet_size
-returns-then-p-eq32 c =
+returns-in-64 c =
     let a = c.args in
-    sized a.dst.now a.at a.src.now a.from a.p 32 refl c.if-p-eq32.true c.copy32.ensures
+    sized a.dst.now a.at a.src.now a.from a.p 64 refl c.in-64.is c.copy-in-64.ensures
 
-pub returns : goal.returns
-returns c =
+pub returns-in_default : goal.returns-in_default
+returns-in_default c =
     let a = c.args in
-    let high = c.if-p-lt32.false in
-    other a.dst.now a.at a.src.now a.from a.p (λ e. absurd (omega (arith, high, e))) (λ e. absurd (omega (arith, high, e))) c.if-p-eq32.false c.if-p-eq64.false
+    other a.dst.now a.at a.src.now a.from a.p (λ e. absurd (omega (arith, e))) (λ e. absurd (omega (arith, e))) (λ e. absurd (omega (arith, e))) (λ e. absurd (omega (arith, e)))
+
+pub returns-in_default-p : goal.returns-in_default-p
+returns-in_default-p c =
+    let a = c.args in
+    other a.dst.now a.at a.src.now a.from a.p (λ e. absurd (omega (arith, e))) (λ e. absurd (omega (arith, e))) (λ e. absurd (omega (arith, e))) (λ e. absurd (omega (arith, e)))

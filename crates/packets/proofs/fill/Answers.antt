@@ -5,6 +5,3 @@ use Rattle.packets.proofs.fill.Goals as goal
 
 pub returns-then-have-want : goal.returns-then-have-want
 returns-then-have-want c = search (ways, rules)
-
-pub returns : goal.returns
-returns c = search (ways, rules)

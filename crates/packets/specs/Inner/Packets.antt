@@ -1,28 +1,18 @@
 -- What the functions for one packet promise; the marks that they leave are sound again. Assumes nothing: these are definitions.
-use Rattle.std.specs.Prelude.{◌≡◌, false, cond, List, ℕ, eqb}
-use Rattle.buffer.specs.declared.marked.Put.{Put}
+use Rattle.std.specs.Prelude.{◌≡◌, cond, List, ℕ, Some, None}
 use Rattle.buffer.specs.Buffer.{Buffer, buffer, unread}
 use Rattle.buffer.specs.Inner.Buffer.{Leaves}
 use Rattle.answers.specs.declared.Endpoint.{Endpoint}
-use Rattle.answers.specs.Answers.{lacking, answer_of, serves, answered_by}
+use Rattle.answers.specs.Answers.{answer_of}
 use Rattle.packets.specs.declared.Received.{Received}
 use Rattle.packets.specs.declared.Sent.{Sent}
 use Rattle.packets.specs.Packets.{read_answer, takes_one, brought, received, send_answer, sent_count, sent_off, sent_into}
-
--- A read reports `r`: room was asked for, and `t` is what came of that; `e` is what the OUT endpoint does, and `n` bytes were put in if
--- there was room.
-pub record Reports (t : Put) (e : Endpoint) (n : ℕ) (r : Received) : Type 0 where
-  pub answer : answer_of r.answer ≡ cond (eqb t.missing 0) (answered_by e) (lacking t.missing)
-  pub taken : r.taken ≡ cond (eqb t.missing 0) (serves e) false
-  pub count : r.count ≡ cond (eqb t.missing 0) n 0
-  pub marks : r.marks ≡ t.marks
 
 -- A read promises this. It asks OUT, which does `e` and offers `packet`, for one packet of at most `p` bytes; before it the buffer is
 -- `s`, and after it the IO buffer is `io`. It returns `r`.
 pub record Reads (p : ℕ) (e : Endpoint) (packet : List ℕ) (s : Buffer) (r : Received) (io : List ℕ) : Type 0 where
   pub answer : answer_of r.answer ≡ read_answer p e s
-  pub taken : r.taken ≡ takes_one p e s
-  pub count : r.count ≡ brought p e packet s
+  pub brought : r.brought ≡ cond (takes_one p e s) (Some (brought p e packet s)) None
   pub leaves : Leaves (buffer io r.marks) (received p e packet s)
 
 -- A send promises this. It offers IN, which does `e`, at most `p` bytes of the buffer `s`; the packet buffer is `packet` before it and

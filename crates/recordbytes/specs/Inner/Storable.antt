@@ -1,10 +1,8 @@
 -- Which devices fit into a record, and which records belong to a device. Assumes nothing: these are definitions.
-use Rattle.std.specs.Prelude.{◌≡◌, List, ℕ, ◌<◌, ◌^◌, length}
-use Rattle.wrapper.specs.declared.counters.Residue.{Residue}
-use Rattle.wrapper.specs.declared.status.CommandStatus.{CommandStatus}
+use Rattle.std.specs.Prelude.{◌≡◌, List, ℕ, ◌<◌, ◌^◌, length, Some}
 use Rattle.device.specs.declared.Fixed.{Fixed}
 use Rattle.device.specs.declared.Device.{Device}
-use Rattle.device.specs.declared.Status.TheVariants.{Present}
+use Rattle.device.specs.declared.Told.{Told}
 use Rattle.recordbytes.specs.Layout as field
 use Rattle.recordbytes.specs.Record.{fixed_at}
 
@@ -14,7 +12,7 @@ pub record Storable (d : Device) : Type 0 where
   pub write : d.marks.write < 2 ^ 32
   pub left : d.left.0 < 2 ^ 32
   pub putin : d.putin.0 < 2 ^ 32
-  pub residue : (s : CommandStatus) (x : Residue) → d.status ≡ Present s x → x.0 < 2 ^ 32
+  pub residue : (t : Told) → d.status ≡ Some t → t.residue.0 < 2 ^ 32
   pub tag : d.wrapper.tag < 2 ^ 32
   pub declared : d.wrapper.length < 2 ^ 32
   pub lun : d.wrapper.lun < 256

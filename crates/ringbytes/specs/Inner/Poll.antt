@@ -1,6 +1,5 @@
 -- What a poll through the ring stores in the record. Assumes nothing: these are definitions.
-use Rattle.std.specs.Prelude.{ℕ, ◌^◌, ◌<◌, cond, List}
-use Rattle.device.specs.declared.Status.TheVariants.{Absent}
+use Rattle.std.specs.Prelude.{ℕ, ◌^◌, ◌<◌, cond, List, None}
 use Rattle.bbb.specs.declared.Change.{Change}
 use Rattle.recordbytes.specs.Record.{store_state, store_marks, store_left, store_status}
 
@@ -14,4 +13,4 @@ pub record StorableChange (c : Change) : Type 0 where
 -- The record's bytes `r` with the change `c` stored in them: the status where it was cleared, the state, the marks and left. The wrapper
 -- is not stored here.
 unfoldable pub store_change : Change → List ℕ → List ℕ
-store_change c r = store_left c.left (store_marks c.marks (store_state c.state (cond c.cleared (store_status Absent r) r)))
+store_change c r = store_left c.left (store_marks c.marks (store_state c.state (cond c.cleared (store_status None r) r)))

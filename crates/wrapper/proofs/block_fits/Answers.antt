@@ -1,10 +1,9 @@
--- `wrapper::block_fits` meets its contract: it tests the two bounds in turn. Assumes nothing.
-use Rattle.std.proofs.Common.{rules}
-use Rattle.wrapper.proofs.Cbw.{ways}
+-- `wrapper::block_fits` meets its contract: it tests the two bounds. Assumes nothing.
+use Rattle.std.proofs.Common.{arith}
+use Rattle.std.proofs.lemmas.Grind.{common_steps}
+use Rattle.wrapper.specs.Wrapper.{is_block_length}
 use Rattle.wrapper.proofs.block_fits.Goals as goal
 
-pub returns-then-blocklength-ge1 : goal.returns-then-blocklength-ge1
-returns-then-blocklength-ge1 c = search (ways, rules)
-
 pub returns : goal.returns
-returns c = search (ways, rules)
+unfolding is_block_length
+returns c = grind (arith, common_steps)

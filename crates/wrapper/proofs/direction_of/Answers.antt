@@ -1,13 +1,16 @@
--- `wrapper::direction_of` meets its contract: there is one law for each direction. Assumes nothing.
+-- `wrapper::direction_of` meets its contract: it makes the two tests in turn. Assumes nothing.
 use Rattle.std.proofs.Common.{rules}
-use Rattle.wrapper.proofs.Cbw.{ways}
+use Rattle.wrapper.specs.Wrapper.{direction_of_flags}
 use Rattle.wrapper.proofs.direction_of.Goals as goal
 
-pub returns-then-length-eq0 : goal.returns-then-length-eq0
-returns-then-length-eq0 c = search (ways, rules)
+pub returns-in-0-default : goal.returns-in-0-default
+unfolding direction_of_flags
+returns-in-0-default c = search rules
 
-pub returns-then-tohost-eq1 : goal.returns-then-tohost-eq1
-returns-then-tohost-eq1 c = search (ways, rules)
+pub returns-in_default-eq1 : goal.returns-in_default-eq1
+unfolding direction_of_flags
+returns-in_default-eq1 c = search rules
 
-pub returns : goal.returns
-returns c = search (ways, rules)
+pub returns-in_default : goal.returns-in_default
+unfolding direction_of_flags
+returns-in_default c = search rules

@@ -3,8 +3,8 @@ use Rattle.std.proofs.Common.{rules}
 use Rattle.bbb.proofs.Acting.{ways}
 use Rattle.bbb.proofs.act.put_status.Goals as goal
 
-pub returns-in-Absent : goal.returns-in-Absent
-returns-in-Absent c = search (ways, rules)
+pub returns-in-None : goal.returns-in-None
+returns-in-None c = search (ways, rules)
 
-pub returns-in-Present : goal.returns-in-Present
-returns-in-Present c = search (ways, rules)
+pub returns-in-Some : goal.returns-in-Some
+returns-in-Some c = search (ways, rules)

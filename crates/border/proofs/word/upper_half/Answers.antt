@@ -4,7 +4,7 @@ use Rattle.border.proofs.word.upper_half.Goals as goal
 
 pub returns-then-answer_number-eq1 : goal.returns-then-answer_number-eq1
 returns-then-answer_number-eq1 c =
-    upper_missing _ _ c.answer_number.ensures c.if-answer_number-eq1.true c.missing.ensures c.least.ensures c.narrow.ensures
+    upper_missing _ _ c.answer_number.ensures c.if-answer_number-eq1.true c.missing.ensures c.min.ensures c.narrow.ensures
 
 pub returns : goal.returns
 returns c = upper_count _ _ c.answer_number.ensures c.if-answer_number-eq1.false

@@ -4,4 +4,4 @@ use Rattle.buffer.proofs.marked.fill_up_to.Goals as goal
 
 pub returns : goal.returns
 returns c =
-    (fits _ _ _ _ c.make_room-t.ensures c.least-k.ensures, fills _ _ _ _ _ c.requires c.make_room-t.ensures c.least-k.ensures _ c.fill.ensures)
+    (fits _ _ _ _ c.make_room-t.ensures c.min-k.ensures, fills _ _ _ _ _ c.requires c.make_room-t.ensures c.min-k.ensures _ c.fill.ensures)

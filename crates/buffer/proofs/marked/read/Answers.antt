@@ -4,4 +4,4 @@ use Rattle.buffer.proofs.marked.read.Goals as goal
 
 pub returns : goal.returns
 returns c =
-    reads _ _ _ _ c.requires.0 c.least-n.ensures _ c.put.ensures
+    reads _ _ _ _ c.requires.0 (rw c.unread.ensures at c.min-n.ensures) _ c.put.ensures

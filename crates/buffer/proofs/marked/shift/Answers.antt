@@ -4,4 +4,4 @@ use Rattle.buffer.proofs.marked.shift.Goals as goal
 
 pub returns : goal.returns
 returns c =
-    moves _ _ c.requires c.move_front.ensures
+    moves _ _ _ c.requires c.unread-n.ensures c.move_front.ensures

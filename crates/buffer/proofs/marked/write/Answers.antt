@@ -4,4 +4,4 @@ use Rattle.buffer.proofs.marked.write.Goals as goal
 
 pub returns : goal.returns
 returns c =
-    (fits _ _ _ _ c.make_room-t.ensures c.least-n.ensures, writes _ _ _ _ c.requires c.make_room-t.ensures c.least-n.ensures _ c.put.ensures)
+    (fits _ _ _ _ c.make_room-t.ensures c.min-n.ensures, writes _ _ _ _ c.requires c.make_room-t.ensures c.min-n.ensures _ c.put.ensures)

@@ -1,20 +1,20 @@
--- `buffer::span::move_front` meets its contract: at the head of the loop the first i of the n bytes are laid over the front, and the rest is
--- moved then. Assumes nothing.
-use Prim.Native.Nat.{zero-le}
+-- `buffer::span::move_front` meets its contract: at the head of each loop the first of the n bytes are laid over the front. Assumes nothing.
 use native.Mathlib.Omega.{arith}
 use Rattle.fields.proofs.Overlay.{laid_start}
-use Rattle.buffer.proofs.Chunks.{next_moved, last_moved}
+use Rattle.buffer.proofs.Chunks.{through, chunk_moved, at_rest, next_byte_moved, all_moved}
 use Rattle.buffer.proofs.span.move_front.Goals as goal
 
 pub loop-i-init : goal.loop-i-init
-loop-i-init c = (zero-le, laid_start _ _ _)
+loop-i-init c = laid_start _ _ _
 
 pub loop-i-preserved : goal.loop-i-preserved
-loop-i-preserved c =
-    let inv = c.loop-i.invariant in
-    (omega arith, next_moved _ _ _ _ 16 _ c.move16.ensures inv.1 inv.0 c.loop-i-test.true c.requires)
+loop-i-preserved c = chunk_moved _ _ _ _ 16 _ (through _ _ _ 16 _ c.put_bytes.ensures c.bytes_at-chunk.ensures) c.loop-i.invariant (omega arith) c.requires
+
+pub loop-k-init : goal.loop-k-init
+loop-k-init c = at_rest c.loop-i.invariant (omega arith)
+
+pub loop-k-preserved : goal.loop-k-preserved
+loop-k-preserved c = next_byte_moved _ _ _ _ _ c.loop-k.invariant c.loop-k-test.true c.requires
 
 pub returns : goal.returns
-returns c =
-    let inv = c.loop-i.invariant in
-    last_moved _ _ _ _ _ c.move_bytes.ensures inv.1 inv.0 c.requires
+returns c = all_moved _ _ _ _ _ c.loop-k.invariant c.loop-k-test.false c.requires

@@ -1,10 +1,11 @@
-use Prim.Native.Nat.{◌-◌, ◌≤◌}
+-- `buffer::span::move_front`: at the heads of its loops the first i chunks or k bytes are laid over the front.
+use Prim.Native.Nat.{◌*◌}
 use lib.ListN.{take, drop}
 use Rattle.fields.proofs.Overlay.{Laid}
 use Rattle.buffer.proofs.span.move_front.Given as goal
 
 abbrev pub invariant-loop-i : goal.invariant-loop-i
-invariant-loop-i l = (l.i ≤ l.n) × Laid l.initial.io 0 (take l.n (drop l.from l.initial.io)) l.i l.io
+invariant-loop-i l = Laid l.initial.io 0 (take l.n (drop l.from l.initial.io)) (16 * l.i) l.io
 
-abbrev pub decreases-loop-i : goal.decreases-loop-i
-decreases-loop-i l = l.n - l.i
+abbrev pub invariant-loop-k : goal.invariant-loop-k
+invariant-loop-k l = Laid l.fn.io 0 (take l.n (drop l.from l.fn.io)) l.k l.io

@@ -1,16 +1,10 @@
--- `buffer::span::put` meets its contract: from 8 bytes on its chunks cover src. Assumes nothing.
-use native.Mathlib.Omega.{arith}
-use Rattle.buffer.proofs.Chunks.{both_ends}
+-- `buffer::span::put` meets its contract: below 8 bytes, after i turns the first i bytes of src are laid over dst. Assumes nothing.
+use mathlib.Core.Path.{refl}
+use Rattle.fields.proofs.Overlay.{laid_start, laid_turn}
 use Rattle.buffer.proofs.span.put.Goals as goal
 
-pub returns-then-n-ge32 : goal.returns-then-n-ge32
-returns-then-n-ge32 c =
-    both_ends _ _ _ 32 c.copy32-then-n-ge32.ensures c.copy32.ensures (omega arith) (omega arith) (omega arith)
+pub loop-i-init : goal.loop-i-init
+loop-i-init c = laid_start _ _ _
 
-pub returns-then-n-ge16 : goal.returns-then-n-ge16
-returns-then-n-ge16 c =
-    both_ends _ _ _ 16 c.copy16-then-n-ge16.ensures c.copy16.ensures (omega arith) (omega arith) (omega arith)
-
-pub returns-then-n-ge8 : goal.returns-then-n-ge8
-returns-then-n-ge8 c =
-    both_ends _ _ _ 8 c.copy8-then-n-ge8.ensures c.copy8.ensures (omega arith) (omega arith) (omega arith)
+pub loop-i-preserved : goal.loop-i-preserved
+loop-i-preserved c = laid_turn _ _ _ _ _ _ c.requires c.loop-i.invariant c.loop-i-test.true refl

@@ -1,10 +1,7 @@
-use Prim.Native.Nat.{◌-◌}
-use lib.ListN.{length}
+-- `buffer::span::put_long`: at the head of the loop the first i chunks are laid over dst.
+use Prim.Native.Nat.{◌*◌}
 use Rattle.fields.proofs.Overlay.{Laid}
 use Rattle.buffer.proofs.span.put_long.Given as goal
 
 abbrev pub invariant-loop-i : goal.invariant-loop-i
-invariant-loop-i l = Laid l.initial.dst l.at l.src l.i l.dst
-
-abbrev pub decreases-loop-i : goal.decreases-loop-i
-decreases-loop-i l = length l.src - l.i
+invariant-loop-i l = Laid l.initial.dst l.at l.src (64 * l.i) l.dst

@@ -1,16 +1,12 @@
--- `device::create::is_packet_size` meets its contract, for each of the four sizes. Assumes nothing.
+-- `device::create::is_packet_size` meets its contract. Assumes nothing.
 use Rattle.std.proofs.Common.{rules}
-use Rattle.device.proofs.Laws.{ways}
+use Rattle.device.specs.Create.{is_packet_size}
 use Rattle.device.proofs.create.is_packet_size.Goals as goal
 
-pub returns-then-p-eq8 : goal.returns-then-p-eq8
-returns-then-p-eq8 c = search (ways, rules)
+pub returns-in-8 : goal.returns-in-8
+unfolding is_packet_size
+returns-in-8 c = search rules
 
-pub returns-then-p-eq16 : goal.returns-then-p-eq16
-returns-then-p-eq16 c = search (ways, rules)
-
-pub returns-then-p-eq32 : goal.returns-then-p-eq32
-returns-then-p-eq32 c = search (ways, rules)
-
-pub returns : goal.returns
-returns c = search (ways, rules)
+pub returns-in_default : goal.returns-in_default
+unfolding is_packet_size
+returns-in_default c = search rules

@@ -1,17 +1,18 @@
--- `leafhost::codecs::wrapper_parse` meets its contract: what is lent is refused, or the message is valid, or it is invalid.
+-- `leafhost::codecs::wrapper_parse` meets its contract: what is lent is refused, or the message is invalid, or it is valid.
 -- Assumes nothing.
 use Rattle.std.proofs.Common.{rules}
-use Rattle.leafhost.proofs.CodecWays.{ways}
+use Rattle.wrapper.specs.Wrapper.{parsed}
+use Rattle.leafhost.specs.Codecs.{parse_fits, shown_parse}
 use Rattle.leafhost.proofs.codecs.wrapper_parse.Goals as goal
 
 pub returns-then-fields-ne5 : goal.returns-then-fields-ne5
-returns-then-fields-ne5 c = search (ways, rules)
+unfolding shown_parse parse_fits
+returns-then-fields-ne5 c = search rules
 
-pub returns-then-block-ne16 : goal.returns-then-block-ne16
-returns-then-block-ne16 c = search (ways, rules)
-
-pub returns-then-p : goal.returns-then-p
-returns-then-p c = search (ways, rules)
+pub returns-in_default : goal.returns-in_default
+unfolding shown_parse parse_fits parsed
+returns-in_default c = search rules
 
 pub returns : goal.returns
-returns c = search (ways, rules)
+unfolding shown_parse parse_fits parsed
+returns c = search rules

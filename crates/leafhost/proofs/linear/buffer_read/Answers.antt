@@ -1,10 +1,8 @@
 -- `leafhost::linear::buffer_read` meets its contract: it reports what `buffer::read` does on the caller's marks. Assumes nothing.
-use Rattle.std.proofs.Common.{rules}
-use Rattle.leafhost.proofs.BufferWays.{ways}
+use Rattle.leafhost.proofs.BufferWays.{reports, reads}
 use Rattle.leafhost.proofs.linear.buffer_read.Goals as goal
 
-pub returns-then-marks-eq3 : goal.returns-then-marks-eq3
-returns-then-marks-eq3 c = (search (ways, rules), search (ways, rules))
-
 pub returns : goal.returns
-returns c = (search (ways, rules), search (ways, rules))
+returns c =
+    let h = c.in-Some.ensures.three in
+    (reports _ _ _ h _ _ _ c.read.ensures.0 c.report.ensures, reads _ _ _ h _ c.read.ensures.1)

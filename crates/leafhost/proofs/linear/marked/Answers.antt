@@ -1,8 +1,8 @@
 -- `leafhost::linear::marked` meets its contract. Assumes nothing.
-use mathlib.Core.Path.{refl}
+use Rattle.std.proofs.Common.{rules}
 use Rattle.leafhost.specs.Buffer.{marked_by}
 use Rattle.leafhost.proofs.linear.marked.Goals as goal
 
-pub returns : goal.returns
+pub returns-in-len3-clause-three : goal.returns-in-len3-clause-three
 unfolding marked_by
-returns c = refl
+returns-in-len3-clause-three c = search rules

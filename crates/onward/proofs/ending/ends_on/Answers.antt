@@ -6,5 +6,5 @@ use Rattle.onward.proofs.ending.ends_on.Goals as goal
 
 pub returns : goal.returns
 returns c =
-    may_end c.args.«record».now c.args.len c.args.packet c.args.one c.args.two c.args.write c.if-record-ne-SIZE.false c.byte-state.ensures c.if-state-lt4.false c.if-state-gt8.false c.byte.ensures c.if-byte-ne1.false c.if-write-ne0.false c.le32.ensures c.if-le32-ne0.false
-    c.steady.ensures (ap not c.if-not-steady.false) c.byte-p.ensures c.fits.ensures (ap not c.if-not-fits.false) c.le32-to.ensures c.if-len-to.false c.le32-2.ensures c.if-to-le32.false c.is_packet_size.ensures
+    may_end c.args.«record».now c.args.lent c.args.write c.if-record-ne-SIZE.false c.byte-state.ensures c.if-state-lt4.false c.if-state-gt8.false c.byte.ensures c.if-byte-ne1.false c.if-write-ne0.false c.le32.ensures c.if-le32-ne0.false
+    c.steady.ensures (ap not c.if-not-steady.false) c.byte-p.ensures c.fits.ensures (ap not c.if-not-fits.false) c.le32-to.ensures c.if-lent-to.false c.le32-from.ensures c.if-to-from.false c.is_packet_size.ensures

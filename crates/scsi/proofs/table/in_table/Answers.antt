@@ -1,4 +1,4 @@
--- `scsi::table::in_table` meets its contract: before each turn, the rows from i on list what the whole table lists. Assumes nothing.
+-- `scsi::table::in_table` meets its contract: before each turn, the rows from its index on list what the whole table lists. Assumes nothing.
 use Rattle.std.proofs.Common.{rules}
 use mathlib.Core.Path.{◌≡◌, ◌∙◌}
 use native.Mathlib.Omega.{arith}
@@ -7,13 +7,11 @@ use Rattle.scsi.proofs.Laws.{here, past}
 use Rattle.scsi.proofs.table.in_table.Goals as goal
 
 pub returns-then-row-opcode : goal.returns-then-row-opcode
-returns-then-row-opcode c =
-    here rows _ _ c.loop-i.i (search rules) c.if-row-opcode.true ∙ c.loop-i.invariant.1
+returns-then-row-opcode c = here rows _ _ c.loop-row.row-index (search rules) c.if-row-opcode.true ∙ c.loop-row.invariant
 
-pub loop-i-preserved : goal.loop-i-preserved
-loop-i-preserved c =
-    (search rules, past rows _ _ c.loop-i.i (search rules) c.if-row-opcode.false ∙ c.loop-i.invariant.1)
+pub loop-row-preserved : goal.loop-row-preserved
+loop-row-preserved c = past rows _ _ c.loop-row.row-index (search rules) c.if-row-opcode.false ∙ c.loop-row.invariant
 
 pub returns : goal.returns
 unfolding lists
-returns c = let e : c.loop-i.i ≡ 12 = omega arith in rw e at c.loop-i.invariant.1
+returns c = let e : c.loop-row.row-index ≡ 12 = omega arith in rw e at c.loop-row.invariant

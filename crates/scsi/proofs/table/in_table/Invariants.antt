@@ -1,11 +1,7 @@
 use mathlib.Core.Path.{◌≡◌}
-use Prim.Native.Nat.{◌≤◌, ◌-◌}
 use lib.ListN.{drop}
 use Rattle.scsi.specs.Decoding.{rows, lists}
 use Rattle.scsi.proofs.table.in_table.Given as goal
 
-abbrev pub invariant-loop-i : goal.invariant-loop-i
-invariant-loop-i l = (l.i ≤ 12) × (lists (drop l.i rows) l.opcode l.n ≡ lists rows l.opcode l.n)
-
-abbrev pub decreases-loop-i : goal.decreases-loop-i
-decreases-loop-i l = 12 - l.i
+abbrev pub invariant-loop-row : goal.invariant-loop-row
+invariant-loop-row l = lists (drop l.row-index rows) l.opcode l.n ≡ lists rows l.opcode l.n

@@ -1,17 +1,20 @@
--- `wrapper::verdict::verdict_on` meets its contract: there is one law for each verdict. Assumes nothing.
+-- `wrapper::verdict::verdict_on` meets its contract: it makes the two tests in turn. Assumes nothing.
 use Rattle.std.proofs.Common.{rules}
-use Rattle.wrapper.proofs.Cbw as cbw
-use Rattle.wrapper.proofs.Judged.{ways}
+use Rattle.wrapper.specs.Verdict.{verdict_of}
+use Rattle.wrapper.proofs.Cbw.{ways}
 use Rattle.wrapper.proofs.verdict.verdict_on.Goals as goal
 
 pub meaningful-requires : goal.meaningful-requires
-meaningful-requires c = search (cbw.ways, ways, rules)
+meaningful-requires c = search (ways, rules)
+
+pub returns-then-not-signed : goal.returns-then-not-signed
+unfolding verdict_of
+returns-then-not-signed c = search rules
 
 pub returns-then-meaningful : goal.returns-then-meaningful
-returns-then-meaningful c = search (cbw.ways, ways, rules)
+unfolding verdict_of
+returns-then-meaningful c = search rules
 
-pub returns-then-signed : goal.returns-then-signed
-returns-then-signed c = search (cbw.ways, ways, rules)
-
-pub returns : goal.returns
-returns c = search (cbw.ways, ways, rules)
+pub returns-else-meaningful : goal.returns-else-meaningful
+unfolding verdict_of
+returns-else-meaningful c = search rules
