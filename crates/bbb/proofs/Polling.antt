@@ -86,7 +86,7 @@ is_fitting_lem p packet one two h e =
 -- ---- decide and act
 
 pub goes_on : (n : Numbers) (o : Opened) (io : List ℕ) (g : Given) {p : Bool} {a : Act} {row : Row} {r : Did} {io' packet' : List ℕ} {s : Stalls}
-    → p ≡ is_present n.status → a ≡ settled n.state o.left.0 p (eqb (n.marks.write - n.marks.read) 0) o.found → row ≡ row_of a
+    → p ≡ is_present n.status → a ≡ settled n.state n.left.0 p (eqb (n.marks.write - n.marks.read) 0) o.found o.left.0 → row ≡ row_of a
     → Acts (acted row n (opening_of o) io g) (acted_packet row n (opening_of o) io g) r io' packet' → s ≡ stalls_of o.cleared r.stalled
     → ended_of (record { state = row.0; marks = r.marks; left = r.left; cleared = o.cleared; report = record { answer = r.answer; taken = r.taken; sent = r.sent; stalls = s } }) io' packet' ≡ gone_on n (opening_of o) io g
 unfolding gone_on ends_with

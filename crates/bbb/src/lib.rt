@@ -89,10 +89,11 @@ pub fn go_on(
 {
     let row = row_of(settle(
         n.state,
-        o.left.0,
+        n.left.0,
         present(n.status),
         n.marks.write - n.marks.read == 0,
         o.found,
+        o.left.0,
     ));
     let did = act(row, n, o, io, packet, one, two, turn);
     Change {

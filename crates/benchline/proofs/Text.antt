@@ -2,6 +2,7 @@
 --     then_put, then_store, store    a text or one byte right after a text; one byte alone
 --     fits_behind                    what has room after a text keeps it
 --     length_more .. length_line     the length of each text, from those of its parts
+--     some_stalls                    the text of stalls is never empty
 --     line_fits                      no line is longer than the room that `room_for` asks for
 -- Assumes nothing.
 use mathlib.Core.Path.{◌≡◌, refl, sym, ap, ◌∙◌}
@@ -86,6 +87,12 @@ length_line l bs = simp length-append
 
 short_number : (n : ℕ) → length (number_text n) ≤ 21
 short_number n = omega (arith, length_number n, few_digits n)
+
+pub some_stalls : (s : Stalls) → 0 < length (stalls_text s)
+some_stalls Kept = omega arith
+some_stalls Stalled = omega arith
+some_stalls Unstalled = omega arith
+some_stalls UnstalledStalled = omega arith
 
 short_stalls : (s : Stalls) → length (stalls_text s) ≤ 2
 short_stalls Kept = omega arith

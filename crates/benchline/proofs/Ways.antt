@@ -97,10 +97,10 @@ hex_ends d at bs i l k g =
     }
 
 module _ (d : List ℕ) (at : ℕ) where
-  pub bytes_first : (bs : List ℕ) → true ≡ eqb (length bs) 0 → at + length (bytes_text bs) ≤ length d → at + 1 ≤ length d
+  pub bytes_first : (bs : List ℕ) → at + length (bytes_text bs) ≤ length d → at < length d
   unfolding bytes_text
-  bytes_first [] e h = h
-  bytes_first (b ∷ bs) e h = absurd (omega (arith, eqb-true (length (b ∷ bs)) 0 (sym e)))
+  bytes_first [] h = omega arith
+  bytes_first (b ∷ bs) h = omega (arith, length_hex (b ∷ bs))
 
   pub bytes_fit : (bs : List ℕ) → false ≡ eqb (length bs) 0 → at + length (bytes_text bs) ≤ length d → at + length (hex bs) ≤ length d
   unfolding bytes_text

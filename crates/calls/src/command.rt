@@ -7,7 +7,7 @@ ghost use Rattle.calls.specs.Inner.Returned.{hides, offers_none};
 use crate::{broken, is_in};
 use answers::Answer;
 use device::{Device, present};
-use ring::State;
+use ring::{State, state_number};
 use scsi::{PLAIN_IS_EXTENDED, ScsiCommand};
 use wrapper::Wrapper;
 
@@ -57,7 +57,7 @@ pub fn command(device: Device, io: &[u8]) -> Looked
     if broken(device, io.len()) {
         return hidden(Answer::BrokenRecord);
     }
-    if is_in(device, State::CommandTransfer) {
+    if is_in(device, state_number(State::CommandTransfer)) {
         return hidden(Answer::Done);
     }
     let w = device.wrapper;
@@ -105,7 +105,7 @@ fn decoded(wrapper: Wrapper, extended: bool) -> Step
 pub fn offers(device: Device) -> bool
     ensures { result ≡ is_offered device }
 {
-    if is_in(device, State::CommandTransfer) {
+    if is_in(device, state_number(State::CommandTransfer)) {
         return false;
     }
     !present(device.status)

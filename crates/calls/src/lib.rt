@@ -19,7 +19,7 @@ use answers::{Answer, Stalls};
 use buffer::marked::Overflow;
 use buffer::{Marks, marked};
 use device::{Device, Told, numbers_of, whole};
-use ring::State;
+use ring::{State, state_number};
 use wrapper::counters::{Left, PutIn, put_in_after, residue_of};
 use wrapper::status::status_of;
 
@@ -82,11 +82,11 @@ pub(crate) fn broken(device: Device, len: usize) -> bool
     !whole(numbers_of(device), len)
 }
 
-// This says whether the device is in this `state`.
-pub fn is_in(device: Device, state: State) -> bool
-    ensures { result ≡ is_in (state_number state) device }
+// This says whether the device is in the state with this `number`.
+pub fn is_in(device: Device, number: u8) -> bool
+    ensures { result ≡ is_in number device }
 {
-    device.state == state
+    state_number(device.state) == number
 }
 
 // ---- the status
@@ -150,7 +150,7 @@ fn checked(device: Device, len: usize, state: State) -> Result<(), Answer>
     if broken(device, len) {
         return Err(Answer::BrokenRecord);
     }
-    if !is_in(device, state) {
+    if !is_in(device, state_number(state)) {
         return Err(Answer::InvalidState);
     }
     Ok(())

@@ -27,6 +27,8 @@ use Rattle.scsi.specs.declared.numbers.Refusal.{Refusal}
 use Rattle.scsi.specs.declared.numbers.Refusal.TheVariants.{BrokenRecord, EmptyBlock}
 use Rattle.scsi.specs.Inner.Numbers.{refusal_number, outcome_number}
 use Rattle.scsi.specs.Numbers.{DecodeOutcome, decode_outcome, decode_outcome_of}
+use Rattle.ring.specs.declared.State.TheVariants.{CommandTransfer}
+use Rattle.ring.specs.States.{state_number}
 use Rattle.calls.specs.Checks.{is_in}
 use Rattle.calls.specs.Command.{Showing, hiding, showing, is_shown, command_call, Stepping, stepping, is_offered, stepping_of_decoding, block_of, command_step_told_call}
 use Rattle.recordbytes.specs.Layout as field
@@ -190,14 +192,17 @@ module _ (r io was : List ℕ) where
       unfolding command_step_by command_step_told_call called stepped left
       on_6 extended e = rw (eq-eqb _ _ e) (made r io (left was) (stepping (answer 10) []) (stepped extended) (holds r io eu q))
 
-      module _ {t : Bool} (et : t ≡ is_in 0 d) where
+      module _ {n : ℕ} (en : n ≡ state_number CommandTransfer) {t : Bool} (et : t ≡ is_in n d) where
+        in_0 : t ≡ is_in 0 d
+        in_0 = rw en at et
+
         pub command_none : length was ≡ 16 → t ≡ true → command_outcome 0 was ≡ command_on r io was
         unfolding shown is_shown word
-        command_none e p = rw (← ed, ← et, p) at (on_16 e)
+        command_none e p = rw (← ed, ← in_0, p) at (on_16 e)
 
         pub command_shown : length was ≡ 16 → t ≡ false → {x : ℕ} {l : List ℕ} → command_outcome x l ≡ command_outcome_of was (showing (wrapper_at r)) → command_outcome x l ≡ command_on r io was
         unfolding shown is_shown device_at
-        command_shown e p ex = ex ∙ rw (← ed, ← et, p) at (on_16 e)
+        command_shown e p ex = ex ∙ rw (← ed, ← in_0, p) at (on_16 e)
 
       module _ (extended : Bool) {t : Bool} (et : t ≡ is_offered d) where
         pub step_none : length was ≡ 6 → not t ≡ true → command_outcome 0 was ≡ command_step_by extended r io was

@@ -25,7 +25,7 @@ use calls::is_in;
 use device::whole;
 use fields::byte;
 use recordbytes::{device_at, in_record, known, numbers_at};
-use ring::State;
+use ring::{State, state_number};
 use scsi::PLAIN_IS_EXTENDED;
 use scsi::numbers::{Refusal, put_decoded};
 
@@ -64,7 +64,7 @@ pub fn command(record: &[u8], io: &[u8], block: &mut [u8]) -> u64
     if !unbroken(record, io) {
         return 10;
     }
-    if is_in(device_at(record), State::CommandTransfer) {
+    if is_in(device_at(record), state_number(State::CommandTransfer)) {
         return 0;
     }
     show_block(record, block)

@@ -10,7 +10,7 @@ use Rattle.ring.specs.declared.State.TheVariants.{CommandTransfer, CommandTransf
 use Rattle.wrapper.specs.declared.status.CommandStatus.TheVariants.{Passed}
 use Rattle.device.specs.declared.Told.{Told}
 use Rattle.device.specs.declared.Numbers.{Numbers}
-use Rattle.device.specs.Device.{told, numbers_of}
+use Rattle.device.specs.Device.{told, numbers_of, with_status, with_left}
 use Rattle.device.specs.Create.{fixed, creation_checks, new_device, no_device, create_call}
 use Rattle.device.specs.Broken.{is_whole}
 
@@ -66,4 +66,7 @@ ours =
     ∷ case (sized 64 0 63) false
     ∷ case (sized 24 0 64) false
     ∷ case (sized 64 0 65537) false
+    -- a record with another status, or with another count left, has that one
+    ∷ case (with_status passed (new_device (fixed 8 0 31))).status passed
+    ∷ case (with_left (record { 0 = 5 }) (new_device (fixed 8 0 31))).left (record { 0 = 5 })
     ∷ []

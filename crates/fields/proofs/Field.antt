@@ -1,6 +1,7 @@
 -- These are laws of fields: one for each fact, at every width.
 --     byte_held, byte_read           a field of one byte is what a byte holds of that element; of a byte it is the byte
 --     byte_alone                     the one byte of such a field
+--     one_order                      one byte has no order
 --     get_below                      what a field holds has its place there, in any list
 --     little_doubled, big_doubled    two fields side by side are one of twice the width
 --     le_two, le_four, be_two, be_four, be_eight    what std makes of a field's bytes is the number that it holds, at std's widths
@@ -94,6 +95,10 @@ unfolding get bytes_at
 get_below f m =
     let bs : List ℕ = take f.width (drop f.start m) in
     counted_below f.width (ordered f.order bs) (omega (arith, length_ordered f.order bs, length-take f.width (drop f.start m)))
+
+pub one_order : (m : List ℕ) (at : ℕ) {x : ℕ} → at < length m → x ≡ get (one_byte at) m → x ≡ get (big_endian at 1) m
+unfolding get bytes_at ordered
+one_order m at h e = rw (drop-cons m at 0 h) (rw (drop-cons m at 0 h) at e)
 
 -- The bytes of a field are those of its two halves.
 halves : (m : List ℕ) (at w : ℕ) → take (w + w) (drop at m) ≡ take w (drop at m) ++ take w (drop (at + w) m)

@@ -9,7 +9,7 @@ use lib.Dec.{eqb, ltb, lit<}
 use lib.ListN.{length, take, length-take}
 use lib.Seq.{take-length, take-take}
 use borrow.Author.Tests.{eq-eqb, ne_eqb, ltb-true}
-use Rattle.std.specs.Prelude.{Ok, Err, Option, Some, None, is_some, unwrap_or}
+use Rattle.std.specs.Prelude.{Result, Ok, Err, Option, Some, None, is_some, unwrap_or}
 use Rattle.std.specs.Bool.{then_some}
 use Rattle.fields.specs.Overlay.{overlay}
 use Rattle.fields.proofs.Bools.{of_picked}
@@ -48,11 +48,11 @@ moves_most e n h = rw h (by (serves e))
 
 -- These laws are about what the endpoint hands over.
 module _ (e : Endpoint) (packet : List ℕ) {b : Bool} (h : b ≡ serves e) where
-  pub handed_all : b ≡ true → length packet ≡ length (handed e packet)
+  pub handed_all : b ≡ true → packet ≡ handed e packet
   unfolding handed
   handed_all q = rw (← h, q)
 
-  pub handed_none : b ≡ false → 0 ≡ length (handed e packet)
+  pub handed_none : b ≡ false → take 0 packet ≡ handed e packet
   unfolding handed
   handed_none q = rw (← h, q)
 
@@ -78,32 +78,36 @@ handed_most e packet p h = by (serves e)
 
 -- ---- a read
 
-some_if : (b : Bool) (n : ℕ) → then_some b n ≡ cond b (Some n) None
-some_if true n = refl
-some_if false n = refl
+-- What is brought is counted by the packet, which is all that is handed over where anything is.
+some_handed : (e : Endpoint) (packet : List ℕ) → then_some (serves e) (length packet) ≡ cond (serves e) (Some (length (handed e packet))) None
+unfolding handed
+some_handed e packet = by (serves e)
+  where
+    by : (b : Bool) → then_some b (length packet) ≡ cond b (Some (length (cond b packet []))) None
+    by true = refl
+    by false = refl
 
--- Room is asked for at least `p` bytes, and what is handed over is no more.
-module _ (p : ℕ) (e : Endpoint) (packet : List ℕ) (s : Buffer) (fits : length packet ≤ p) {k : ℕ} (hk : k ≡ length (handed e packet)) where
-  hy : take k packet ≡ handed e packet
-  hy = rw hk (handed_first e packet)
-
-  most : max p (length (take k packet)) ≡ p
+-- Room is asked for at least `p` bytes, and what is handed over (`ys`) is no more.
+module _ (p : ℕ) (e : Endpoint) (packet : List ℕ) (s : Buffer) (fits : length packet ≤ p) {ys : List ℕ} (hy : ys ≡ handed e packet) where
+  most : max p (length ys) ≡ p
   most = rw hy (max-eq_left (handed_most e packet p fits))
 
-  pub reads_room : {m : Marks} {io : List ℕ} → WritesAll p (take k packet) s (Ok m) io → {o : Answer} → answer_of o ≡ answered_by e
-      → {v : Bool} → v ≡ serves e → {n : Option ℕ} → n ≡ then_some v k → Reads p e packet s (record { answer = o; brought = n; marks = m }) io
-  unfolding read_answer takes_one brought received
-  reads_room w ho hv hn =
-      let room : lacks_room p s ≡ false = rw most at w.0 in
-      record { answer = rw room ho; brought = rw (hn, hv, room, hk) (some_if (serves e) _); leaves = rw hy at w.1 }
+  module _ {asked : Result Marks Overflow} {io : List ℕ} (w : WritesAll p ys s asked io) where
+    pub reads_room : {m : Marks} → asked ≡ Ok m → {o : Answer} → answer_of o ≡ answered_by e
+        → {v : Bool} → v ≡ serves e → {n : Option ℕ} → n ≡ then_some v (length packet) → Reads p e packet s (record { answer = o; brought = n; marks = m }) io
+    unfolding read_answer takes_one brought received
+    reads_room q ho hv hn =
+        let done = rw q at w in
+        let room : lacks_room p s ≡ false = rw most at done.0 in
+        record { answer = rw room ho; brought = rw (hn, hv, room) (some_handed e packet); leaves = rw hy at done.1 }
 
-  pub reads_none : {o : Overflow} {io : List ℕ} → WritesAll p (take k packet) s (Err o) io
-      → Reads p e packet s (record { answer = IoBufferOverflow o.missing; brought = None; marks = o.marks }) io
-  unfolding read_answer takes_one brought received
-  reads_none w =
-      let full : lacks_room p s ≡ true = rw most at w.0 in
-      let lacked = rw most at w.1 in
-      record { answer = rw (full, lacked); brought = rw full; leaves = rw hy at w.2 }
+    pub reads_none : {o : Overflow} → asked ≡ Err o → Reads p e packet s (record { answer = IoBufferOverflow o.missing; brought = None; marks = o.marks }) io
+    unfolding read_answer takes_one brought received
+    reads_none q =
+        let refused = rw q at w in
+        let full : lacks_room p s ≡ true = rw most at refused.0 in
+        let lacked = rw most at refused.1 in
+        record { answer = rw (full, lacked); brought = rw full; leaves = rw hy at refused.2 }
 
 -- Whether a packet was taken, and how many bytes it brought.
 module _ (p : ℕ) (e : Endpoint) (packet : List ℕ) (s : Buffer) where
@@ -247,4 +251,4 @@ puts_status tag residue status io {b} {k} eb ek =
     (writes ys k s s sound (record { same = sym (room_in_empty (length ys) io); sound = sound }) (rw sub-zero fits) b
     (eb ∙ ap (overlay io 0) (take_most (length io) ys ∙ ap (λ (n : ℕ). take n ys) (sym fits))))
 
-pub ruleset ways = (handed_all, handed_none, reads_room, reads_none, sends_nothing, sends_something, sends_served, sends_unserved, fills_up, fills_not, puts_status)
+pub ruleset ways = (sends_nothing, sends_something, sends_served, sends_unserved, fills_up, fills_not, puts_status)

@@ -138,26 +138,26 @@ pub fn row_of(a: Act) -> Row
     }
 }
 
-// This is state 0. No status is present in it, so only `found` decides, and for a valid wrapper its direction and length: it is `left`.
+// This is state 0. No status is present in it, so only `found` decides, and for a valid wrapper its direction and its `length`.
 #[cycle(handlers)]
-fn read_cbw(found: Found, left: u32) -> Act
-    ensures { result ≡ read_cbw_act found left }
+fn read_cbw(found: Found, length: u32) -> Act
+    ensures { result ≡ read_cbw_act found length }
 {
     match found {
         Found::Nothing => Act::Stay,
         Found::Invalid => Act::Stall,
-        Found::Valid(direction) => start(direction, left),
+        Found::Valid(direction) => start(direction, length),
     }
 }
 
-// A valid wrapper goes on by its `direction`, with its length `left`.
+// A valid wrapper goes on by its `direction`, with its `length` left.
 #[cycle(handlers)]
-fn start(direction: DataDirection, left: u32) -> Act
-    ensures { result ≡ start_act direction left }
+fn start(direction: DataDirection, length: u32) -> Act
+    ensures { result ≡ start_act direction length }
 {
     match direction {
-        DataDirection::Out => from_host(left, false),
-        DataDirection::In => to_host(left, false),
+        DataDirection::Out => from_host(length, false),
+        DataDirection::In => to_host(length, false),
         DataDirection::NotExpected => no_data(false),
     }
 }
@@ -173,11 +173,11 @@ fn no_data(present: bool) -> Act
 // This is state 3. `empty` says that nothing is unread, and `entered` that this poll has just entered 3 and still has to write the
 // status.
 #[cycle(handlers)]
-fn status_transfer(empty: bool, entered: bool, found: Found, left: u32) -> Act
-    ensures { result ≡ status_transfer_act empty entered found left }
+fn status_transfer(empty: bool, entered: bool, found: Found, length: u32) -> Act
+    ensures { result ≡ status_transfer_act empty entered found length }
 {
     if empty {
-        return read_cbw(found, left);
+        return read_cbw(found, length);
     }
     if entered {
         return Act::Enter;
@@ -185,7 +185,7 @@ fn status_transfer(empty: bool, entered: bool, found: Found, left: u32) -> Act
     Act::Next
 }
 
-// 5, 6 and 8 enter 3 here, in the same poll. The status is unread then, so what was found and what is left do not count.
+// 5, 6 and 8 enter 3 here, in the same poll. The status is unread then, so `found` and `length` do not count.
 #[cycle(handlers)]
 fn enter() -> Act
     ensures { result ≡ Enter }
@@ -255,16 +255,16 @@ fn from_host_ending(left: u32) -> Act
     Act::Drop
 }
 
-// A poll that starts in the state `s` comes to this act. `present` says whether a status is present, and `empty` whether nothing is unread.
-// `found` counts only if the chain reaches the wrapper. `left` is the count left, which a valid wrapper that was found has set.
-pub fn settle(s: State, left: u32, present: bool, empty: bool, found: Found) -> Act
-    ensures { result ≡ settled s left present empty found }
+// A poll that starts in the state `s` comes to this act. `left` is the count left, `present` says whether a status is present, and
+// `empty` whether nothing is unread. `found` and `length` count only if the chain reaches the wrapper.
+pub fn settle(s: State, left: u32, present: bool, empty: bool, found: Found, length: u32) -> Act
+    ensures { result ≡ settled s left present empty found length }
 {
     match s {
-        State::CommandTransfer => read_cbw(found, left),
+        State::CommandTransfer => read_cbw(found, length),
         State::CommandTransferInvalid => Act::Stall,
         State::DataTransferNoData => no_data(present),
-        State::StatusTransfer => status_transfer(empty, false, found, left),
+        State::StatusTransfer => status_transfer(empty, false, found, length),
         State::DataTransferToHost => to_host(left, present),
         State::DataTransferToHostStatusAwait => status_await(present),
         State::DataTransferToHostEnding => to_host_ending(left),

@@ -1,5 +1,6 @@
 -- These are laws of the decoder.
 --     here, past              the table's rule at one row: the row has the opcode and decides, or the rows after it do
+--     missing                 an opcode that is in no row
 --     long_enough             a listed block is as long as the row of its opcode says
 --     listed_known            a block of a listed opcode and length never decodes to Unknown
 --     unlisted_unknown        any other always does, with its opcode
@@ -46,6 +47,22 @@ here rs op n i h e = sym (at_row rs op n i h ∙ simp (eq-eqb _ _ e))
 
 pub past : (rs : List Layout) (op n i : ℕ) → i < length rs → ((row_at rs i).0 ≡ op → ⊥) → lists (drop (i + 1) rs) op n ≡ lists (drop i rs) op n
 past rs op n i h k = sym (at_row rs op n i h ∙ simp (ne_eqb _ _ k))
+
+-- No row has the opcode, in the form in which a `match` states it after its last arm: A, and then one such fact for each row in turn.
+abbrev pub Missing : Type 0 → List Layout → ℕ → Type 0
+Missing A [] op = A
+Missing A (r ∷ rs) op = Missing (A × (op ≡ r.opcode → ⊥)) rs op
+
+before : (A : Type 0) (rs : List Layout) (op : ℕ) → Missing A rs op → A
+before A [] op m = m
+before A (r ∷ rs) op m = (before (A × (op ≡ r.opcode → ⊥)) rs op m).0
+
+pub missing : (A : Type 0) (rs : List Layout) (op : ℕ) (b : List ℕ) → Missing A rs op → Unknown op ≡ fields_by rs op b
+unfolding fields_by
+missing A [] op b m = refl
+missing A (r ∷ rs) op b m =
+    let B = A × (op ≡ r.opcode → ⊥) in
+    rw (ne_eqb r.opcode op (λ e. (before B rs op m).1 (sym e))) (missing B rs op b m)
 
 -- ---- a listed block is long enough for its fields
 

@@ -23,16 +23,6 @@ impl Refusal {
     }
 }
 
-// Gives the answer of the C interface: 0, or the number of the refusal.
-fn outcome_number(outcome: Result<(), Refusal>) -> u32
-    ensures { result ≡ outcome_number outcome }
-{
-    match outcome {
-        Ok(()) => 0,
-        Err(refusal) => refusal.number(),
-    }
-}
-
 // Stores a command's six numbers, `kind` and the fields `a` to `e`, in `lent`. This and the next function take a slice and not an array: std's
 // `as_mut_array` gives back a pointer, which no function may do in the module for 32-bit processors (tools/pointers.awk).
 fn put_six(lent: &mut [u64], kind: u64, a: u64, b: u64, c: u64, d: u64, e: u64)
@@ -124,28 +114,40 @@ pub fn put_command(lent: &mut [u64], command: ScsiCommand)
 }
 
 // Decodes `block`, and stores its command in the six numbers `lent`. Nothing but the command itself stands between the two: each further
-// copy of a command is 24 bytes of stack. It refuses lent numbers that are not six first, and then an empty block.
+// copy of a command is 24 bytes of stack. The answer is 0 if the command stands there, 13 if the block is empty, and 10 if `lent` does
+// not have six numbers. It is C's number and no Result, since an entry for C then goes here by a jump: over a Result each took 1.6 times
+// the time, and more stack.
 #[tactic(auto, unfolding(crate::specs::Decoding::decode_call, crate::specs::Numbers::decode_outcome_of))]
+fn decode_numbers(block: &[u8], extended: bool, lent: &mut [u64]) -> u32
+    ensures { decode_outcome result lent.new ≡ decode_outcome_of lent.old (decode_call extended block.now) }
+{
+    if lent.len() != 6 {
+        return 10;
+    }
+    if block.len() == 0 {
+        return 13;
+    }
+    put_command(lent, command(block, extended));
+    0
+}
+
+// The same for callers in Rattle: it refuses lent numbers that are not six first, and then an empty block.
 pub fn put_decoded(block: &[u8], extended: bool, lent: &mut [u64]) -> Result<(), Refusal>
     ensures { decode_outcome (outcome_number result) lent.new ≡ decode_outcome_of lent.old (decode_call extended block.now) }
 {
-    if lent.len() != 6 {
-        return Err(Refusal::BrokenRecord);
+    match decode_numbers(block, extended, lent) {
+        0 => Ok(()),
+        13 => Err(Refusal::EmptyBlock),
+        _ => Err(Refusal::BrokenRecord),
     }
-    if block.len() == 0 {
-        return Err(Refusal::EmptyBlock);
-    }
-    put_command(lent, command(block, extended));
-    Ok(())
 }
 
-// Decodes `block` with extended addressing on: this is the plain entry. The answer is 0 if the command stands in `lent`, 13 if the block is
-// empty, and 10 if `lent` does not have six numbers.
+// Decodes `block` with extended addressing on: this is the plain entry. It answers as `decode_numbers` does.
 #[tactic(auto, unfolding(crate::specs::Numbers::shown_decode, crate::specs::Decoding::plain_call))]
 pub fn decode_into(block: &[u8], lent: &mut [u64]) -> u32
     ensures { decode_outcome result lent.new ≡ shown_decode block.now lent.old }
 {
-    outcome_number(put_decoded(block, PLAIN_IS_EXTENDED, lent))
+    decode_numbers(block, PLAIN_IS_EXTENDED, lent)
 }
 
 // Decodes `block` with extended addressing off (`extended` is 0) or on (1). For any other `extended` it answers 10;
@@ -155,7 +157,7 @@ pub fn decode_told_into(block: &[u8], extended: u32, lent: &mut [u64]) -> u32
     ensures { decode_outcome result lent.new ≡ shown_told extended block.now lent.old }
 {
     if 1 < extended {
-        return Refusal::BrokenRecord.number();
+        return 10;
     }
-    outcome_number(put_decoded(block, extended == 1, lent))
+    decode_numbers(block, extended == 1, lent)
 }

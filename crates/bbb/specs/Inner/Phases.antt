@@ -304,7 +304,7 @@ ends_with row n o io g = ended_by row.0 o (acted row n o io g) (acted_packet row
 
 -- After opening gave `o`, the handlers decide on the act, and the poll ends with it.
 unfoldable pub gone_on : Numbers → Opening → List ℕ → Given → Ended
-gone_on n o io g = ends_with (row_of (settled n.state o.left.0 (is_present n.status) (eqb (n.marks.write - n.marks.read) 0) o.found)) n o io g
+gone_on n o io g = ends_with (row_of (settled n.state n.left.0 (is_present n.status) (eqb (n.marks.write - n.marks.read) 0) o.found o.left.0)) n o io g
 
 -- This is the record `d` with the changes `c`, the wrapper `w` and the count `putin` of what was put in.
 abbrev pub changed_by : Device → Change → Wrapper → PutIn → Device

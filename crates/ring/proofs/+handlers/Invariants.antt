@@ -1,5 +1,5 @@
--- How many handlers may still be called, at most: it falls with each call, for each handler has more than those that it calls. Assumes
--- nothing.
+-- How many handlers may still be called, at most: it falls with each call, for each handler has more than those that it calls. It is
+-- never above 4 (`Chain.status_enough`, `Chain.present_enough`, `Chain.await_enough`). Assumes nothing.
 use Rattle.std.specs.Prelude.{◌+◌}
 use Rattle.ring.specs.Inner.Ring.{extra, whole_ring}
 use Rattle.ring.proofs.+handlers.Given as goal

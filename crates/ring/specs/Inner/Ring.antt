@@ -40,10 +40,10 @@ from_host_ending_act left = cond (eqb left 0) Enter Drop
 unfoldable pub from_host_act : ℕ → Bool → Act
 from_host_act left present = cond (eqb left 0) (status_await_act present) (cond present (from_host_ending_act left) Take)
 
--- A valid wrapper has this `direction`, and the length that it declares is `left`. "Valid goes on to 7, 4 or, through 2, to 5." In 0 no
--- status is present: a record that has one there is broken.
+-- A valid wrapper has this `direction` and declares `length` bytes, which are then left. "Valid goes on to 7, 4 or, through 2, to 5." In
+-- 0 no status is present: a record that has one there is broken.
 unfoldable pub start_act : DataDirection → ℕ → Act
-start_act direction left = by_direction direction (from_host_act left false) (to_host_act left false) (no_data_act false)
+start_act direction length = by_direction direction (from_host_act length false) (to_host_act length false) (no_data_act false)
 
 -- One of three is picked by what the poll found: `none` for no whole wrapper, `bad` for an invalid one, `good` for a valid one, by its
 -- direction.
@@ -52,26 +52,27 @@ by_found Nothing none bad good = none
 by_found Invalid none bad good = bad
 by_found (Valid direction) none bad good = good direction
 
--- State 0: "0: read one packet; with 31 or more unread parse. Invalid goes to 1, both endpoints stalled." `found` says what came of it.
+-- State 0: "0: read one packet; with 31 or more unread parse. Invalid goes to 1, both endpoints stalled." `found` says what came of it;
+-- `length` is that of a valid wrapper.
 unfoldable pub read_cbw_act : Found → ℕ → Act
-read_cbw_act found left = by_found found Stay Stall (λ direction. start_act direction left)
+read_cbw_act found length = by_found found Stay Stall (λ direction. start_act direction length)
 
 -- State 3: "Later polls in 3 send the next packet; with nothing unread, enter 0 and read." "Entering 0 clears status". `empty` says that
 -- nothing is unread, and `entered` that this poll has just entered 3.
 unfoldable pub status_transfer_act : Bool → Bool → Found → ℕ → Act
-status_transfer_act empty entered found left = cond empty (read_cbw_act found left) (cond entered Enter Next)
+status_transfer_act empty entered found length = cond empty (read_cbw_act found length) (cond entered Enter Next)
 
 -- The state in which a poll starts picks the handler; in 1 the act is to stall. "1: stall both again".
-abbrev pub settled : State → ℕ → Bool → Bool → Found → Act
-settled CommandTransfer left present empty found = read_cbw_act found left
-settled CommandTransferInvalid left present empty found = Stall
-settled DataTransferNoData left present empty found = no_data_act present
-settled StatusTransfer left present empty found = status_transfer_act empty false found left
-settled DataTransferToHost left present empty found = to_host_act left present
-settled DataTransferToHostStatusAwait left present empty found = status_await_act present
-settled DataTransferToHostEnding left present empty found = to_host_ending_act left
-settled DataTransferFromHost left present empty found = from_host_act left present
-settled DataTransferFromHostEnding left present empty found = from_host_ending_act left
+abbrev pub settled : State → ℕ → Bool → Bool → Found → ℕ → Act
+settled CommandTransfer left present empty found length = read_cbw_act found length
+settled CommandTransferInvalid left present empty found length = Stall
+settled DataTransferNoData left present empty found length = no_data_act present
+settled StatusTransfer left present empty found length = status_transfer_act empty false found length
+settled DataTransferToHost left present empty found length = to_host_act left present
+settled DataTransferToHostStatusAwait left present empty found length = status_await_act present
+settled DataTransferToHostEnding left present empty found length = to_host_ending_act left
+settled DataTransferFromHost left present empty found length = from_host_act left present
+settled DataTransferFromHostEnding left present empty found length = from_host_ending_act left
 
 -- If a status is present, the chain needs two more calls: 5, 6 and 8 then call `enter`, and `enter` calls the handler of 3.
 abbrev pub extra : Bool → ℕ
